@@ -1,19 +1,24 @@
 //! What every layer above shares: texts, bytes and lists that contracts see as lists, the trait of
-//! values that can be copied, and the two failures that come from outside, want of memory and a
-//! failed device.
+//! values that can be copied, the two failures that come from outside, want of memory and a failed
+//! device, and what a JSON value means that is entered into a cell.
 #![tactic(auto)]
 
+mod cell;
 mod duplicate;
+mod entered;
 mod failure;
 mod sequence;
 
+pub use cell::{Block, Cell, Kind, Render, SheetProperties, Value};
 pub use duplicate::Duplicate;
+pub use entered::{Bad, Input, LARGEST, LONGEST, Mode, read_entered};
 pub use failure::{Failed, NoMemory};
 pub use sequence::{Bytes, Items, Text};
 
 #[cfg(test)]
 mod tests {
     use super::*;
+    use serde_json::Value as Json;
     use std::test::Fail;
 
     #[test]
@@ -29,5 +34,71 @@ mod tests {
             (true, 7, -7)
         );
         Ok(())
+    }
+
+    #[test]
+    fn enters_raw_values(rt: HostRuntime) -> Result<(), Fail> {
+        let alloc = rt.alloc();
+        let numbers = [
+            ("9007199254740992", Some(9_007_199_254_740_992)),
+            ("-9007199254740992", Some(-9_007_199_254_740_992)),
+            ("9007199254740993", None),
+            ("-9007199254740993", None),
+            ("18446744073709551615", None),
+            ("0", Some(0)),
+            ("-0", None),
+            ("1.5", None),
+            ("1.0", None),
+            ("1e2", None),
+        ];
+        for (json, number) in numbers {
+            let value = Json::from_str(alloc, json)?;
+            let entered = match read_entered(alloc, Mode::Raw, &value) {
+                Ok(Input::Number(whole)) => Some(whole),
+                Err(Bad::NotWhole) => None,
+                _ => Some(-1),
+            };
+            assert_eq!(rt; entered, number, "{json}");
+        }
+        let others = [
+            ("null", "skip"),
+            ("true", "truth"),
+            ("\"\"", "empty"),
+            ("\"=1\"", "text"),
+            ("[1]", "not scalar"),
+            ("{}", "not scalar"),
+        ];
+        for (json, meaning) in others {
+            let value = Json::from_str(alloc, json)?;
+            assert_eq!(rt;
+                meaning_of(read_entered(alloc, Mode::Raw, &value)),
+                meaning,
+                "{json}"
+            );
+        }
+        for (length, meaning) in [(50_000, "text"), (50_001, "too long")] {
+            let mut text = String::new(alloc);
+            for _ in 0..length {
+                text.push('x')?;
+            }
+            let value = Json::String(text);
+            assert_eq!(rt; meaning_of(read_entered(alloc, Mode::Raw, &value)), meaning);
+        }
+        Ok(())
+    }
+
+    fn meaning_of(entered: Result<Input, Bad>) -> &'static str {
+        match entered {
+            Ok(Input::Skip) => "skip",
+            Ok(Input::Empty) => "empty",
+            Ok(Input::Number(_)) => "number",
+            Ok(Input::Text(_)) => "text",
+            Ok(Input::Truth(_)) => "truth",
+            Ok(Input::FormulaText(_)) => "formula",
+            Err(Bad::NotWhole) => "not whole",
+            Err(Bad::TooLong) => "too long",
+            Err(Bad::NotScalar) => "not scalar",
+            Err(Bad::NoMemory) => "no memory",
+        }
     }
 }
