@@ -25,8 +25,10 @@ mod tests {
     fn copies_equal_their_sources(rt: HostRuntime) -> Result<(), Fail> {
         let word = Text::of(String::from_str(rt.alloc(), "Jon's data")?);
         assert_eq!(rt; word.duplicate()?.as_str(), word.as_str());
-        let bytes = Bytes::of(Vec::from_slice(rt.alloc(), &[0, 255])?);
+        let mut bytes = Bytes::of(Vec::from_slice(rt.alloc(), &[0, 255])?);
         assert_eq!(rt; bytes.duplicate()?.as_slice(), bytes.as_slice());
+        bytes.extend_from_slice(&[7])?;
+        assert_eq!(rt; bytes.as_slice(), [0, 255, 7].as_slice());
         let items = Items::of(Vec::from_slice(rt.alloc(), &[3u32, 1, 2])?);
         assert_eq!(rt; items.duplicate()?.as_slice(), items.as_slice());
         assert_eq!(rt;
