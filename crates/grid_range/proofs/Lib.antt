@@ -1,0 +1,5 @@
+pub mod Spans
+pub mod Moves
+pub mod Followed
+pub mod Theorems
+pub mod Exactly

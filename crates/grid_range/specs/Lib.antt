@@ -1,0 +1,5 @@
+pub mod Band
+pub mod Area
+pub mod Change
+pub mod Tracking
+pub mod Laws

@@ -1,0 +1,106 @@
+-- What following promises, in the words of a user of a sheet. In all of them `order` is the order
+-- after a change, and `changed` are the lines that were inserted or moved.
+use Rattle.std.specs.Prelude.{◌≡◌, ◌≢◌, ◌↔◌, ℕ, zero, suc, ◌+◌, ◌≤◌, List, [], ◌++◌, length, Option, None, Some}
+use Rattle.std.specs.List.{Contains}
+use Rattle.std.specs.Option.{option_and_then}
+use Rattle.line_order.specs.Order.{IsOrder, StandTogether, EndTheOrder, stretch, tail}
+use Rattle.line_order.specs.Band.{NameBand, IsBandOf}
+use Rattle.line_order.specs.Band.NameBand.{Whole, Closed, Open}
+use Rattle.line_order.specs.Following.{survivors, settled, follow}
+use Rattle.line_order.specs.Change.{order_after, changed_names}
+use Rattle.line_order.specs.Change.OrderChange.{Inserting, Deleting, Moving}
+
+-- all lines are all lines for good
+abbrev pub WholeStays : Type 0
+WholeStays = (order changed : List ℕ) → follow order changed Whole ≡ Some Whole
+
+-- a band becomes a band of the new order
+abbrev pub GivesBands : Type 0
+GivesBands = (order changed : List ℕ) (band found : NameBand)
+    → follow order changed band ≡ Some found → IsBandOf order found
+
+-- where the lines that are left of a closed band still stand together, it has just these
+abbrev pub ClosedKeepsLines : Type 0
+ClosedKeepsLines = (order changed names : List ℕ)
+    → survivors order names ≢ [] → StandTogether order (survivors order names)
+    → follow order changed (Closed names) ≡ Some (Closed (survivors order names))
+
+-- where those that are left of an open band also end the order, it has just these
+abbrev pub OpenKeepsLines : Type 0
+OpenKeepsLines = (order changed names : List ℕ)
+    → survivors order names ≢ [] → EndTheOrder order (survivors order names)
+    → follow order changed (Open names) ≡ Some (Open (survivors order names))
+
+-- where they don't stand together, it is the range of those that didn't change
+abbrev pub TornClosedIsRange : Type 0
+TornClosedIsRange = (order changed names : List ℕ)
+    → survivors order names ≢ [] → ¬ (StandTogether order (survivors order names))
+    → follow order changed (Closed names)
+    ≡ Some (Closed (stretch order (settled changed (survivors order names))))
+
+abbrev pub TornOpenIsRange : Type 0
+TornOpenIsRange = (order changed names : List ℕ)
+    → survivors order names ≢ [] → ¬ (EndTheOrder order (survivors order names))
+    → follow order changed (Open names)
+    ≡ Some (Open (tail order (settled changed (survivors order names))))
+
+-- none of the band's lines is left
+abbrev pub IsGone : List ℕ → NameBand → Type 0
+IsGone order Whole = ⊥
+IsGone order (Closed names) = (name : ℕ) → Contains names name → ¬ (Contains order name)
+IsGone order (Open names) = (name : ℕ) → Contains names name → ¬ (Contains order name)
+
+-- a band is lost exactly where none of its lines is left
+abbrev pub LostWhereGone : Type 0
+LostWhereGone = (order changed : List ℕ) (band : NameBand)
+    → (follow order changed band ≡ None) ↔ IsGone order band
+
+-- what is still a band of the order stays as it is, whatever lines were inserted or moved: so does
+-- one beside which lines are inserted
+abbrev pub BandsStay : Type 0
+BandsStay = (order changed : List ℕ) (band : NameBand)
+    → IsOrder order → IsBandOf order band → follow order changed band ≡ Some band
+
+-- a move to a place from the stretch's start to its end changes no band
+abbrev pub IdleMoveKeeps : Type 0
+IdleMoveKeeps = (order : List ℕ) (band : NameBand) (start end to : ℕ)
+    → IsOrder order → IsBandOf order band → start ≤ to → to ≤ end
+    → follow (order_after (Moving start end to) order)
+    (changed_names (Moving start end to) order) band
+    ≡ Some band
+
+-- lines that are inserted between two of a closed band belong to it
+abbrev pub InsertLengthens : Type 0
+InsertLengthens = (before front fresh back behind : List ℕ)
+    → IsOrder (before ++ front ++ fresh ++ back ++ behind) → front ≢ [] → back ≢ []
+    → follow (before ++ front ++ fresh ++ back ++ behind) fresh (Closed (front ++ back))
+    ≡ Some (Closed (front ++ fresh ++ back))
+
+-- lines that are inserted before its first line, or behind its last, don't
+abbrev pub InsertBeside : Type 0
+InsertBeside = (before fresh names more behind : List ℕ)
+    → IsOrder (before ++ fresh ++ names ++ more ++ behind) → names ≢ []
+    → follow (before ++ fresh ++ names ++ more ++ behind) (fresh ++ more) (Closed names)
+    ≡ Some (Closed names)
+
+-- deleting lines and inserting others there doesn't bring a band back that was lost
+abbrev pub LostForGood : Type 0
+LostForGood = (order fresh changed : List ℕ) (band : NameBand) (start end at : ℕ)
+    → follow (order_after (Deleting start end) order) changed band ≡ None
+    → IsGone fresh band
+    → follow (order_after (Inserting at fresh) (order_after (Deleting start end) order)) fresh band
+    ≡ None
+
+-- a band after `count` lines from `start` on are deleted one by one, the last one first
+abbrev pub deleted_in_turn : ℕ → ℕ → List ℕ → NameBand → Option NameBand
+deleted_in_turn start zero order band = Some band
+deleted_in_turn start (suc count) order band =
+    let rest = order_after (Deleting (start + count) (start + count + 1)) order in
+    option_and_then (deleted_in_turn start count rest) (follow rest [] band)
+
+-- that is what deleting them at once gives
+abbrev pub DeleteInTurn : Type 0
+DeleteInTurn = (order : List ℕ) (band : NameBand) (start count : ℕ)
+    → IsOrder order → IsBandOf order band → start + count ≤ length order
+    → deleted_in_turn start count order band
+    ≡ follow (order_after (Deleting start (start + count)) order) [] band
