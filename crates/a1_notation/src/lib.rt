@@ -1,0 +1,22 @@
+//! A1 notation, the text form of ranges in the Google Sheets API v4 ("A1 notation"): a cell or an
+//! area (`B2`, `A1:B2`, `A:B`, `1:2`, `A5:B`), behind a sheet's title and `!` or without one, a
+//! sheet's title in quotes, or a word. Rows and columns are counted from 0.
+#![tactic(auto)]
+
+mod a1;
+mod area;
+mod column;
+mod corner;
+mod reading;
+mod row;
+mod title;
+mod writing;
+
+pub use a1::{A1, A1Fault, Part};
+pub use column::{column_text, read_column};
+pub use reading::read_a1;
+pub use title::quote_name;
+pub use writing::write_a1;
+
+#[cfg(test)]
+mod tests;
