@@ -1,0 +1,6 @@
+mod Histories
+mod Views
+mod Kept
+mod Turns
+mod Numbers
+mod Joins
