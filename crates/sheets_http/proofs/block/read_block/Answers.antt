@@ -1,0 +1,17 @@
+use Rattle.std.proofs.Common.{◌≡◌, length, inr, refl, ap}
+use Rattle.std.specs.Prelude.{option_copied}
+use Rattle.sheets_http.proofs.BlockLemmas.{overflow_is_no_head, parsed_block}
+use Rattle.sheets_http.proofs.block.read_block.Goals as goal
+
+pub returns-in-Ok-Complete : goal.returns-in-Ok-Complete
+returns-in-Ok-Complete c =
+    let holds = rw c.in-Ok-Complete.field-0-is at c.in-Ok-Complete.ensures.complete in
+    parsed_block c.args.block.now c.parse.new.self c.in-Ok-Complete.field-0-0 c.unwrap-method.result.now c.unwrap-target.result.now
+    c.unwrap-minor.result c.head_of.result c.requires holds
+    (ap option_copied c.unwrap-method.ensures) (ap option_copied c.unwrap-target.ensures) c.unwrap-minor.ensures
+    c.head_of.ensures
+
+pub returns-in-Err : goal.returns-in-Err
+returns-in-Err c =
+    let room : length c.new-request.result.headers.now ≡ 64 = ap length c.new-request.ensures.room in
+    inr (overflow_is_no_head c.args.block.now _ room c.requires c.in-Err.ensures.no_room, refl)

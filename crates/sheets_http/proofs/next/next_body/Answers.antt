@@ -1,0 +1,9 @@
+use Rattle.sheets_http.proofs.AnswerLemmas.{answer_request}
+use Rattle.sheets_http.proofs.next.next_body.Goals as goal
+
+pub returns-in-Ok-clause-answer : goal.returns-in-Ok-clause-answer
+returns-in-Ok-clause-answer g c =
+    let body = c.in-None.ensures.body in
+    answer_request c.args.most c.args.buffer.now c.wait_for_body.new.buffer c.take_request.new.buffer
+    (g.L.Source.left c.args.link.now) (g.L.Source.left c.wait_for_body.new.link) c.args.end c.args.heading
+    c.in-Ok.wire body.0 body.1 body.2 body.3 body.4 c.in-Ok.ensures.buffer c.in-Ok.ensures.wire

@@ -1,0 +1,75 @@
+use Rattle.std.proofs.Common.{◌≡◌, ◌-◌, List, length, take, refl, ap, ◌∙◌, sym, subst, arith, ℕ, length-take}
+use Rattle.std.specs.Prelude.{Ok}
+use Rattle.sheets_http.specs.declared.request.Next.{Next}
+use Rattle.sheets_http.specs.Heads.{skip_breaks}
+use Rattle.sheets_http.specs.Buffering.{room_of, stream_of, end_answer}
+use Rattle.sheets_http.proofs.AnswerLemmas.{Answers, head_and_body, sight_with_more, body_too_long, body_cut}
+use Rattle.sheets_http.proofs.next.wait_for_body.Goals as goal
+
+pub overflow_add-whole : goal.overflow_add-whole
+overflow_add-whole g c =
+    let small = head_and_body (take (room_of c.args.most c.args.buffer.now) c.args.buffer.now.pending) c.args.end
+    c.args.heading.now c.requires in
+    omega (arith, small)
+
+pub returns-then-room-held-clause-body : goal.returns-then-room-held-clause-body
+returns-then-room-held-clause-body g c =
+    let room : c.saturating_sub-room.result ≡ room_of c.args.most c.args.buffer.now =
+    c.saturating_sub-room.ensures ∙ ap (λ n. c.args.most - n) c.used.ensures in
+    body_too_long c.args.most c.args.buffer.now c.body.buffer (g.L.Source.left c.args.link.now)
+    (g.L.Source.left c.body.link) (stream_of c.body.buffer (g.L.Source.left c.body.link))
+    (room_of c.args.most c.body.buffer) c.args.end c.args.heading.now c.body.invariant.stream
+    c.body.invariant.used c.body.invariant.head
+    (omega (
+      arith,
+      room,
+      length-take (room_of c.args.most c.args.buffer.now) c.body.buffer.pending,
+      c.min.ensures,
+      c.if-whole-min.false,
+      ap length c.pending.ensures,
+    ))
+    (omega (arith, room, c.if-room-held.true, ap length c.pending.ensures))
+
+pub returns-in-Ok-eq0-clause-body : goal.returns-in-Ok-eq0-clause-body
+returns-in-Ok-eq0-clause-body g c =
+    let room : c.saturating_sub-room.result ≡ room_of c.args.most c.args.buffer.now =
+    c.saturating_sub-room.ensures ∙ ap (λ n. c.args.most - n) c.used.ensures in
+    let nothing : c.fill.result ≡ Ok 0 = cc (c.in-Ok-eq0.is, c.in-Ok-eq0.field-0-test) in
+    let same = c.fill.ensures.end nothing in
+    let head = sight_with_more (room_of c.args.most c.args.buffer.now) c.body.buffer.pending
+    c.fill.new.self.pending c.args.end c.args.heading.now c.fill.ensures.kept c.body.invariant.head in
+    let cut = body_cut c.args.most c.args.buffer.now c.fill.new.self c.fill.new.self
+    (g.L.Source.left c.args.link.now) (g.L.Source.left c.fill.new.source)
+    (stream_of c.fill.new.self (g.L.Source.left c.fill.new.source)) (room_of c.args.most c.fill.new.self)
+    c.args.end c.args.heading.now (c.body.invariant.stream ∙ c.fill.ensures.stream)
+    (c.fill.ensures.used ∙ c.body.invariant.used) head
+    (omega (
+      arith,
+      room,
+      length-take (room_of c.args.most c.args.buffer.now) c.fill.new.self.pending,
+      c.min.ensures,
+      c.if-whole-min.false,
+      ap length c.pending.ensures,
+      ap length same,
+    ))
+    (omega (arith, room, c.if-room-held.false, ap length c.pending.ensures, ap length same))
+    refl (c.fill.ensures.no_more nothing) in
+    let told : c.end_of.result ≡ end_answer (skip_breaks c.fill.new.self.pending) =
+    c.end_of.ensures ∙ ap (λ (t : List ℕ). end_answer (skip_breaks t)) c.pending-in-Ok-eq0.ensures in
+    subst (λ (a : Next). Answers c.args.most c.args.buffer.now (g.L.Source.left c.args.link.now)
+    (room_of c.args.most c.fill.new.self) (stream_of c.fill.new.self (g.L.Source.left c.fill.new.source)) a)
+    (sym told) cut
+
+pub body-preserved : goal.body-preserved
+body-preserved g c = record {
+  stream = c.body.invariant.stream ∙ c.fill.ensures.stream;
+  used = c.fill.ensures.used ∙ c.body.invariant.used;
+  head = sight_with_more (room_of c.args.most c.args.buffer.now) c.body.buffer.pending c.fill.new.self.pending
+      c.args.end c.args.heading.now c.fill.ensures.kept c.body.invariant.head;
+  later = omega (arith, c.body.invariant.later, c.fill.ensures.later);
+  steady = λ s.
+      let before = c.body.invariant.steady s in
+      let after = c.fill.ensures.steady before.0 in
+      (after.0, after.1 ∙ before.1);
+  beside = c.fill.ensures.beside ∙ c.body.invariant.beside;
+}

@@ -1,0 +1,137 @@
+ghost use Rattle.std.specs.Prelude.{◌≡◌, ◌≢◌, ℕ, ◌+◌, ◌-◌, ◌^◌, ◌<◌, ◌≤◌, List, [], ◌++◌, length, take, drop, IfOk, OnErr, IfSome};
+ghost use Rattle.sheets_http.specs.Outside.{Rose, StaysSteady};
+ghost use Rattle.sheets_http.specs.Buffering.{stream_of, IsSight};
+
+use crate::Source;
+use crate::head::Look;
+use crate::sight::{Sight, sight_of};
+use cell_value::NoMemory;
+use std::alloc::Global;
+use std::marker::Model;
+
+/// How many bytes are read at once.
+const PIECE: usize = 8_192;
+
+/// The bytes of a stream that were read and not used yet. Contracts see these, and how many bytes
+/// of the stream were used before them.
+#[derive(Debug, Drop)]
+pub struct Buffer {
+    bytes: Vec<u8>,
+    start: usize,
+    used: u64,
+    look: Look,
+}
+
+impl Model for Buffer {
+    ghost use Rattle.std.specs.Prelude.{◌≤◌, drop, vec_len};
+    ghost use Rattle.sheets_http.specs.Buffering.{Held, IsReady};
+
+    ghost Value = { Held };
+
+    ghost view = { λ b. record { pending = drop b.start b.bytes.items; used = b.used } };
+
+    ghost invariant = { λ b. (b.start ≤ vec_len b.bytes) × IsReady b.look (drop b.start b.bytes.items) };
+}
+
+/// Why no more bytes were read.
+#[derive(Clone, Copy, Debug, PartialEq, Eq)]
+pub(crate) enum FillError {
+    Failed,
+    NoMemory,
+}
+
+impl Buffer {
+    /// A buffer at the start of a stream, of which nothing was read yet.
+    ///
+    /// # Errors
+    ///
+    /// [`NoMemory`] where there is no room for what a read gives.
+    pub fn new(alloc: Global) -> Result<Buffer, NoMemory>
+        ensures { IfOk result (λ buffer. buffer ≡ record { pending = []; used = 0 }) }
+    {
+        Ok(Buffer {
+            bytes: Vec::with_capacity(alloc, PIECE)?,
+            start: 0,
+            used: 0,
+            look: Look::START,
+        })
+    }
+
+    /// The bytes that are held.
+    pub(crate) fn pending(&self) -> &[u8]
+        ensures { result.now ≡ self.now.pending }
+    {
+        &self.bytes[self.start..]
+    }
+
+    /// How many bytes of the stream were used.
+    pub(crate) fn used(&self) -> u64
+        ensures { result ≡ self.now.used }
+    {
+        self.used
+    }
+
+    /// Looks for a head in the first `room` bytes that are held.
+    pub(crate) fn sight(&mut self, alloc: Global, room: u64) -> Result<Sight, NoMemory>
+        ensures same { self.new ≡ self.old }
+        ensures sight { IsSight (take room self.old.pending) result }
+    {
+        sight_of(alloc, &mut self.look, &self.bytes[self.start..], room)
+    }
+
+    /// Uses the first bytes that are held.
+    pub(crate) fn advance(&mut self, count: usize)
+        requires held { count ≤ length self.old.pending }
+        requires fits { self.old.used + count < 2 ^ 64 }
+        ensures { self.new ≡ record {
+          pending = drop count self.old.pending;
+          used = self.old.used + count;
+        } }
+    {
+        self.start += count;
+        self.used += count as u64;
+        self.look = Look::START;
+    }
+
+    /// Reads more bytes, and answers how many: 0 at the end of the stream.
+    pub(crate) fn fill<S: Source>(&mut self, source: &mut S) -> Result<usize, FillError>
+        ensures used { self.new.used ≡ self.old.used }
+        ensures stream { stream_of self.old (S.left source.old) ≡ stream_of self.new (S.left source.new) }
+        ensures grown { IfOk result (λ count. length self.new.pending ≡ length self.old.pending + count) }
+        ensures kept { take (length self.old.pending) self.new.pending ≡ self.old.pending }
+        ensures err { OnErr result (self.new.pending ≡ self.old.pending) }
+        ensures end { result ≡ Ok 0 → self.new.pending ≡ self.old.pending }
+        ensures no_more { result ≡ Ok 0 → IfSome (S.left source.new) (λ rest. rest ≡ []) }
+        ensures fault { result ≡ Err FillError.Failed → Rose (S.faults source.old) (S.faults source.new) }
+        ensures later { S.faults source.old ≤ S.faults source.new }
+        ensures steady { StaysSteady (S.steady source.old) (S.steady source.new) (S.faults source.old) (S.faults source.new) }
+        ensures beside { S.beside source.new ≡ S.beside source.old }
+    {
+        self.compact();
+        let Ok(()) = self.bytes.reserve(PIECE) else {
+            return Err(FillError::NoMemory);
+        };
+        let mut piece = [0; PIECE];
+        match source.read(&mut piece) {
+            Ok(count) => {
+                let Ok(()) = self.bytes.extend_from_slice(&piece[..count]) else {
+                    unreachable!();
+                };
+                Ok(count)
+            }
+            Err(_) => Err(FillError::Failed),
+        }
+    }
+
+    /// Moves the bytes that are held to the front.
+    fn compact(&mut self)
+        ensures { self.new ≡ self.old }
+    {
+        if self.start > 0 {
+            let count = self.bytes.len() - self.start;
+            self.bytes.copy_within(self.start.., 0);
+            self.bytes.truncate(count);
+            self.start = 0;
+        }
+    }
+}

@@ -1,0 +1,219 @@
+ghost use Rattle.std.specs.Prelude.{◌≡◌, ◌+◌, ◌^◌, ◌<◌, ◌≤◌, length, take, drop, IfOk, OnOk, OnErr, IfSome};
+ghost use Rattle.sheets_http.specs.Outside.{Rose, StaysSteady};
+ghost use Rattle.sheets_http.specs.Heads.{skip_breaks};
+ghost use Rattle.sheets_http.specs.Buffering.{room_of, stream_of, end_answer, IsRequest, IsSight, IsAnswer, IsTurn, AnswersNoRequest, IsBody};
+
+use crate::block::Heading;
+use crate::buffer::{Buffer, FillError};
+use crate::head::is_break;
+use crate::sight::Sight;
+use crate::{Next, Source, Wire};
+use cell_value::{Bytes, NoMemory};
+use std::alloc::Global;
+
+/// Reads on until it is known what comes next in a conversation of at most `most` bytes, of which
+/// `buffer` holds what was read already.
+///
+/// A failure takes nothing out of the conversation: it may go on after [`Next::ReadFault`] and
+/// [`Next::NoMemory`].
+pub fn next_request<L: Source>(alloc: Global, link: &mut L, buffer: &mut Buffer, most: u64) -> Next
+    requires { 0 < most }
+
+    // What the answer says of the stream, where the source tells it.
+    ensures answer { IfSome (stream_of buffer.old (L.left link.old))
+        (λ bytes. IsAnswer (room_of most buffer.old) bytes (room_of most buffer.new)
+        (stream_of buffer.new (L.left link.new)) result) }
+
+    // Each request takes some of the bound.
+    ensures shrinks { IsRequest result → room_of most buffer.new < room_of most buffer.old }
+
+    // It doesn't give up by itself.
+    ensures fault { result ≡ Next.ReadFault → Rose (L.faults link.old) (L.faults link.new) }
+
+    ensures later { L.faults link.old ≤ L.faults link.new }
+    ensures steady { StaysSteady (L.steady link.old) (L.steady link.new) (L.faults link.old) (L.faults link.new) }
+    ensures beside { L.beside link.new ≡ L.beside link.old }
+{
+    loop {
+        match read_once(alloc, link, buffer, most) {
+            Turn::Answer(next) => return next,
+            Turn::Head(heading, end) => {
+                return next_body(alloc, link, buffer, most, heading, end);
+            }
+            Turn::More => {}
+        }
+    }
+}
+
+/// What one turn of reading gives.
+#[derive(Debug, Drop)]
+pub(crate) enum Turn {
+    /// An answer.
+    Answer(Next),
+    /// A head that was read, which ends there.
+    Head(Heading, usize),
+    /// More bytes are held.
+    More,
+}
+
+/// Answers by what is held, or reads once.
+fn read_once<L: Source>(alloc: Global, link: &mut L, buffer: &mut Buffer, most: u64) -> Turn
+    ensures turn { IsTurn most buffer.old buffer.new (stream_of buffer.old (L.left link.old))
+        (stream_of buffer.new (L.left link.new)) result }
+    ensures no_request { AnswersNoRequest result }
+    ensures fault { result ≡ Turn.Answer Next.ReadFault → Rose (L.faults link.old) (L.faults link.new) }
+    ensures later { L.faults link.old ≤ L.faults link.new }
+    ensures steady { StaysSteady (L.steady link.old) (L.steady link.new) (L.faults link.old) (L.faults link.new) }
+    ensures beside { L.beside link.new ≡ L.beside link.old }
+{
+    let room = most.saturating_sub(buffer.used());
+    match buffer.sight(alloc, room) {
+        Ok(Sight::Head(heading, end)) => Turn::Head(heading, end),
+        Ok(Sight::Refused(fault)) => Turn::Answer(Next::Closed(fault)),
+        Ok(Sight::Growing) => {
+            if room <= buffer.pending().len() as u64 {
+                Turn::Answer(Next::LongTalk)
+            } else {
+                match buffer.fill(link) {
+                    Ok(0) => Turn::Answer(end_of(buffer.pending())),
+                    Ok(_) => Turn::More,
+                    Err(FillError::Failed) => Turn::Answer(Next::ReadFault),
+                    Err(FillError::NoMemory) => Turn::Answer(Next::NoMemory),
+                }
+            }
+        }
+        Err(NoMemory) => Turn::Answer(Next::NoMemory),
+    }
+}
+
+/// Reads on until the body is held of the request whose head was read, and ends there.
+fn next_body<L: Source>(
+    alloc: Global,
+    link: &mut L,
+    buffer: &mut Buffer,
+    most: u64,
+    heading: Heading,
+    end: usize,
+) -> Next
+    requires { IsSight (take (room_of most buffer.old) buffer.old.pending) (Ok (Sight.Head heading end)) }
+    ensures answer { IfSome (stream_of buffer.old (L.left link.old))
+        (λ bytes. IsAnswer (room_of most buffer.old) bytes (room_of most buffer.new)
+        (stream_of buffer.new (L.left link.new)) result) }
+    ensures shrinks { IsRequest result → room_of most buffer.new < room_of most buffer.old }
+    ensures fault { result ≡ Next.ReadFault → Rose (L.faults link.old) (L.faults link.new) }
+    ensures later { L.faults link.old ≤ L.faults link.new }
+    ensures steady { StaysSteady (L.steady link.old) (L.steady link.new) (L.faults link.old) (L.faults link.new) }
+    ensures beside { L.beside link.new ≡ L.beside link.old }
+{
+    match wait_for_body(link, buffer, most, &heading, end) {
+        Some(next) => next,
+        None => match take_request(alloc, buffer, heading, end) {
+            Ok(wire) => Next::Request(wire),
+            Err(_) => Next::NoMemory,
+        },
+    }
+}
+
+/// Reads on until the body is held of the request whose head was read, and ends there: nothing then,
+/// and else the answer.
+fn wait_for_body<L: Source>(
+    link: &mut L,
+    buffer: &mut Buffer,
+    most: u64,
+    heading: &Heading,
+    end: usize,
+) -> Option<Next>
+    requires { IsSight (take (room_of most buffer.old) buffer.old.pending) (Ok (Sight.Head heading.now end)) }
+    ensures body { IsBody most buffer.old buffer.new (stream_of buffer.old (L.left link.old))
+        (stream_of buffer.new (L.left link.new)) heading.now end result }
+    ensures no_request { IfSome result (λ next. ¬ (IsRequest next)) }
+    ensures fault { result ≡ Some Next.ReadFault → Rose (L.faults link.old) (L.faults link.new) }
+    ensures later { L.faults link.old ≤ L.faults link.new }
+    ensures steady { StaysSteady (L.steady link.old) (L.steady link.new) (L.faults link.old) (L.faults link.new) }
+    ensures beside { L.beside link.new ≡ L.beside link.old }
+{
+    let room = most.saturating_sub(buffer.used());
+    let whole = end as u64 + heading.length;
+    'body: loop {
+        let held = buffer.pending().len() as u64;
+        if whole <= held.min(room) {
+            return None;
+        }
+        if room <= held {
+            return Some(Next::LongTalk);
+        }
+        match buffer.fill(link) {
+            Ok(0) => return Some(end_of(buffer.pending())),
+            Ok(_) => {}
+            Err(FillError::Failed) => return Some(Next::ReadFault),
+            Err(FillError::NoMemory) => return Some(Next::NoMemory),
+        }
+    }
+}
+
+/// Takes the request out of the buffer whose head was read, and ends there.
+fn take_request(
+    alloc: Global,
+    buffer: &mut Buffer,
+    heading: Heading,
+    end: usize,
+) -> Result<Wire, NoMemory>
+    requires held { end + heading.length ≤ length buffer.old.pending }
+    requires fits { buffer.old.used + (end + heading.length) < 2 ^ 64 }
+    ensures wire { IfOk result (λ wire. wire ≡ record {
+      method = heading.method;
+      target = heading.target;
+      coded = heading.coded;
+      close = heading.close;
+      body = take heading.length (drop end buffer.old.pending);
+    }) }
+    ensures buffer { OnOk result (buffer.new ≡ record {
+      pending = drop (end + heading.length) buffer.old.pending;
+      used = buffer.old.used + (end + heading.length);
+    }) }
+    ensures err { OnErr result (buffer.new ≡ buffer.old) }
+{
+    let Heading {
+        method,
+        target,
+        coded,
+        close,
+        length,
+    } = heading;
+    let whole = end + length as usize;
+    let body = Vec::from_slice(alloc, &buffer.pending()[end..whole])?;
+    buffer.advance(whole);
+    Ok(Wire {
+        method,
+        target,
+        coded,
+        close,
+        body: Bytes::of(body),
+    })
+}
+
+/// The answer at the end of a stream that ends with these bytes and holds no whole request in them.
+fn end_of(bytes: &[u8]) -> Next
+    ensures { result ≡ end_answer (skip_breaks bytes.now) }
+{
+    let rest = without_breaks(bytes);
+    if rest.is_empty() {
+        Next::End
+    } else {
+        Next::Truncated(rest.len() as u64)
+    }
+}
+
+/// The bytes from the first that is no CR or LF.
+fn without_breaks(bytes: &[u8]) -> &[u8]
+    ensures { result.now ≡ skip_breaks bytes.now }
+{
+    let mut rest = bytes;
+    while let [first, after @ ..] = rest {
+        if !is_break(*first) {
+            return rest;
+        }
+        rest = after;
+    }
+    rest
+}

@@ -1,0 +1,49 @@
+use cell_value::{Bytes, Text};
+
+/// A request as it came: its request line, what its head says that matters, and its body.
+#[derive(Debug, Drop)]
+pub struct Wire {
+    /// The method, as it stands (RFC 9110, section 9).
+    pub method: Text,
+    /// The request target, as it stands (RFC 9112, section 3.2).
+    pub target: Text,
+    /// Whether its body has a coding, as gzip (RFC 9110, section 8.4).
+    pub coded: bool,
+    /// Whether the connection is closed after it.
+    pub close: bool,
+    /// The body.
+    pub body: Bytes,
+}
+
+/// Why a head is refused. The connection is closed after it, since what follows can't be told apart.
+#[derive(Clone, Copy, Debug, PartialEq, Eq)]
+pub enum HeadFault {
+    /// It has no end within 16,384 bytes and 66 lines.
+    HeadLong,
+    /// It breaks the grammar, tells its length in no form or twice, or asks for the connection to be
+    /// closed.
+    BadHead,
+    /// It is a POST or PUT without a length, or its body has a transfer coding.
+    NoLength,
+    /// Its body has more than 8,388,608 bytes.
+    BodyLong,
+}
+
+/// What comes next in a conversation.
+#[derive(Debug, Drop)]
+pub enum Next {
+    /// A whole request.
+    Request(Wire),
+    /// The stream ended where no request has begun.
+    End,
+    /// A head was refused, and what follows isn't read.
+    Closed(HeadFault),
+    /// The stream ended inside a request, of which it has so many bytes.
+    Truncated(u64),
+    /// The conversation reached its bound in bytes.
+    LongTalk,
+    /// The source failed; its count of faults rose in this call.
+    ReadFault,
+    /// Memory ran out.
+    NoMemory,
+}

@@ -1,0 +1,242 @@
+ghost use Rattle.std.specs.Prelude.{◌<◌};
+
+use crate::*;
+use cell_value::Bytes;
+use std::alloc::Global;
+use std::test::Fail;
+
+/// The requests of a stream, read in pieces of that size, and its end.
+fn talk(alloc: Global, stream: &[u8], piece: u64, most: u64) -> Result<String, Fail>
+    requires piece { 0 < piece }
+    requires most { 0 < most }
+{
+    let mut source = SteadySource::new(Bytes::of(Vec::from_slice(alloc, stream)?), piece);
+    let mut buffer = Buffer::new(alloc)?;
+    let mut told = String::new(alloc);
+    for _ in 0..9 {
+        match next_request(alloc, &mut source, &mut buffer, most) {
+            Next::Request(wire) => {
+                told.push_str(wire.method.as_str())?;
+                told.push_str(wire.target.as_str())?;
+                let size = wire.body.as_slice().len();
+                told.push_str(format!(in alloc; ":{size} ")?.as_str())?;
+            }
+            Next::End => {
+                told.push_str("end")?;
+                return Ok(told);
+            }
+            Next::Truncated(count) => return Ok(format!(in alloc; "{told}truncated {count}")?),
+            Next::Closed(fault) => return Ok(format!(in alloc; "{told}{fault:?}")?),
+            Next::LongTalk => {
+                told.push_str("long")?;
+                return Ok(told);
+            }
+            Next::ReadFault | Next::NoMemory => {
+                told.push_str("fault")?;
+                return Ok(told);
+            }
+        }
+    }
+    Ok(told)
+}
+
+/// Whether that is told in pieces of one byte, of a few and of many.
+fn tells(alloc: Global, stream: &[u8], most: u64, want: &str) -> Result<bool, Fail>
+    requires { 0 < most }
+{
+    let bytewise = talk(alloc, stream, 1, most)?;
+    let piecewise = talk(alloc, stream, 16, most)?;
+    let whole = talk(alloc, stream, 100_000, most)?;
+    Ok(bytewise.as_str() == want && piecewise.as_str() == want && whole.as_str() == want)
+}
+
+const MOST: u64 = 1_000_000;
+
+/// Streams, and what is told of each.
+const STREAMS: [(&str, &str); 26] = [
+    ("", "end"),
+    ("\r\n\n\r\n", "end"),
+    ("GET /a HTTP/1.1\r\nHost: x\r\n\r\n", "GET/a:0 end"),
+    ("GET /a HTTP/1.1\n\n", "GET/a:0 end"),
+    (
+        "\r\nGET /a HTTP/1.1\r\n\r\n\r\nGET /b HTTP/1.1\n\r\n",
+        "GET/a:0 GET/b:0 end",
+    ),
+    ("GET /a HTTP/1.1\r\n\r\nGET /b", "GET/a:0 truncated 6"),
+    ("\r\n\r\nGET /a HTTP/1.1\r\n", "truncated 17"),
+    ("GET /a\r\n\r\n", "BadHead"),
+    ("GET /\u{7f} HTTP/1.1\r\n\r\n", "BadHead"),
+    ("GET /a HTTP/1.0\r\n\r\n", "BadHead"),
+    ("GET /a HTTP/1.1\r\nCONNECTION: Close\r\n\r\n", "BadHead"),
+    (
+        "GET /a HTTP/1.1\r\nConnection: keep-alive\r\n\r\n",
+        "GET/a:0 end",
+    ),
+    (
+        "GET /a HTTP/1.1\r\nContent-Length: 0\r\n\r\n",
+        "GET/a:0 end",
+    ),
+    (
+        "PUT /a HTTP/1.1\r\ncontent-length: 2\r\n\r\n{}GET /b HTTP/1.1\r\n\r\n",
+        "PUT/a:2 GET/b:0 end",
+    ),
+    (
+        "PUT /a HTTP/1.1\r\nContent-Length: 0000000002\r\n\r\n\r\n",
+        "PUT/a:2 end",
+    ),
+    (
+        "PUT /a HTTP/1.1\r\nContent-Length: 2\r\n\r\n{",
+        "truncated 39",
+    ),
+    (
+        "PUT /a HTTP/1.1\r\nContent-Length: 1\r\nContent-Length: 1\r\n\r\nx",
+        "BadHead",
+    ),
+    ("PUT /a HTTP/1.1\r\nContent-Length: +1\r\n\r\nx", "BadHead"),
+    ("PUT /a HTTP/1.1\r\nContent-Length:\r\n\r\n", "BadHead"),
+    (
+        "PUT /a HTTP/1.1\r\nContent-Length: 00000000001\r\n\r\nx",
+        "BadHead",
+    ),
+    (
+        "PUT /a HTTP/1.1\r\nContent-Length: 8388609\r\n\r\n",
+        "BodyLong",
+    ),
+    ("PUT /a HTTP/1.1\r\n\r\n", "NoLength"),
+    ("POST /a HTTP/1.1\r\n\r\n", "NoLength"),
+    (
+        "GET /a HTTP/1.1\r\nTransfer-Encoding: chunked\r\n\r\n",
+        "NoLength",
+    ),
+    (
+        "PUT /a HTTP/1.1\r\nTransfer-Encoding: x\r\nContent-Length: 1\r\n\r\nx",
+        "NoLength",
+    ),
+    ("DELETE /a HTTP/1.1\r\n\r\n", "DELETE/a:0 end"),
+];
+
+#[test]
+fn streams_are_cut_into_requests(rt: HostRuntime) -> Result<(), Fail> {
+    let alloc = rt.alloc();
+    for (stream, want) in STREAMS {
+        assert!(rt; tells(alloc, stream.as_bytes(), MOST, want)?, "{stream:?}");
+    }
+    Ok(())
+}
+
+/// A head of so many bytes.
+fn long_head(alloc: Global, size: usize) -> Result<Vec<u8>, Fail> {
+    let mut head = Vec::from_slice(alloc, b"GET /a HTTP/1.1\r\nX: ")?;
+    head.resize(size.saturating_sub(4), b'x')?;
+    head.extend_from_slice(b"\r\n\r\n")?;
+    Ok(head)
+}
+
+/// A head of two lines and so many fields.
+fn many_lines(alloc: Global, fields: usize) -> Result<Vec<u8>, Fail> {
+    let mut head = Vec::from_slice(alloc, b"GET /a HTTP/1.1\n")?;
+    for _ in 0..fields {
+        head.extend_from_slice(b"X: y\n")?;
+    }
+    head.push(b'\n')?;
+    Ok(head)
+}
+
+#[test]
+fn heads_have_bounds(rt: HostRuntime) -> Result<(), Fail> {
+    let alloc = rt.alloc();
+    let longest = long_head(alloc, 16_384)?;
+    assert!(rt; tells(alloc, &longest, MOST, "GET/a:0 end")?);
+    let too_long = long_head(alloc, 16_385)?;
+    assert!(rt; tells(alloc, &too_long, MOST, "HeadLong")?);
+    let breaks = vec![in alloc; b'\n'; 16_384]?;
+    assert!(rt; tells(alloc, &breaks, MOST, "HeadLong")?);
+    assert!(rt; tells(alloc, breaks.get(1..).unwrap_or(b""), MOST, "end")?);
+    let most_lines = many_lines(alloc, 64)?;
+    assert!(rt; tells(alloc, &most_lines, MOST, "GET/a:0 end")?);
+    let too_many = many_lines(alloc, 65)?;
+    assert!(rt; tells(alloc, &too_many, MOST, "HeadLong")?);
+    Ok(())
+}
+
+#[test]
+fn conversations_have_bounds(rt: HostRuntime) -> Result<(), Fail> {
+    let alloc = rt.alloc();
+    let two = b"GET /a HTTP/1.1\n\nGET /b HTTP/1.1\n\n";
+    assert!(rt; tells(alloc, two, 35, "GET/a:0 GET/b:0 end")?);
+    assert!(rt; tells(alloc, two, 34, "GET/a:0 GET/b:0 long")?);
+    assert!(rt; tells(alloc, two, 17, "GET/a:0 long")?);
+    assert!(rt; tells(alloc, two, 16, "long")?);
+    Ok(())
+}
+
+#[test]
+fn bodies_have_bounds(rt: HostRuntime) -> Result<(), Fail> {
+    let alloc = rt.alloc();
+    let mut stream = Vec::from_slice(alloc, b"PUT /a HTTP/1.1\r\nContent-Length: 8388608\r\n\r\n")?;
+    let size = stream.len();
+    stream.resize(size.saturating_add(8_388_608), b'x')?;
+    let told = talk(alloc, &stream, 100_000, 100_000_000)?;
+    assert_eq!(rt; told.as_str(), "PUT/a:8388608 end");
+    let bounded = talk(alloc, &stream, 100_000, 8_000_000)?;
+    assert_eq!(rt; bounded.as_str(), "long");
+    Ok(())
+}
+
+#[test]
+fn wires_have_what_came(rt: HostRuntime) -> Result<(), Fail> {
+    let alloc = rt.alloc();
+    let stream = b"PUT /a?b HTTP/1.1\r\nContent-Encoding: gzip\r\nContent-Length: 3\r\n\r\n\n\n{";
+    let mut source = SteadySource::new(Bytes::of(Vec::from_slice(alloc, stream)?), 1);
+    let mut buffer = Buffer::new(alloc)?;
+    let next = next_request(alloc, &mut source, &mut buffer, MOST);
+    let Next::Request(wire) = next else {
+        assert!(rt; false);
+        return Ok(());
+    };
+    assert_eq!(rt; wire.method.as_str(), "PUT");
+    assert_eq!(rt; wire.target.as_str(), "/a?b");
+    assert_eq!(rt; (wire.coded, wire.close), (true, false));
+    assert_eq!(rt; wire.body.as_slice(), b"\n\n{".as_slice());
+    Ok(())
+}
+
+const NO_ROUTE: &str = r#"{"error":{"code":404,"message":"NoRoute","status":"NOT_FOUND"}}"#;
+
+const NO_ROUTE_TEXT: &str =
+    "HTTP/1.1 404 Not Found\r\nContent-Type: application/json; charset=UTF-8\r\nContent-Length: 63\r\nConnection: close\r\n\r\n{\"error\":{\"code\":404,\"message\":\"NoRoute\",\"status\":\"NOT_FOUND\"}}";
+
+const EMPTY_TEXT: &str =
+    "HTTP/1.1 200 OK\r\nContent-Type: application/json; charset=UTF-8\r\nContent-Length: 2\r\n\r\n{}";
+
+#[test]
+fn responses_are_written(rt: HostRuntime) -> Result<(), Fail> {
+    let alloc = rt.alloc();
+    let mut source = SteadySource::new(Bytes::of(Vec::from_slice(alloc, b"abc")?), 2);
+    let mut sink = SteadySink::new(alloc, 7);
+    {
+        let mut link = Link {
+            input: &mut source,
+            output: &mut sink,
+        };
+        let mut piece = [0; 8];
+        assert_eq!(rt; link.read(&mut piece), Ok(2));
+        let served = response_text(alloc, 200, false, b"{}")?;
+        assert!(rt; send_all(&mut link, served.as_slice()).is_ok());
+        let refused = response_text(alloc, 404, true, NO_ROUTE.as_bytes())?;
+        assert!(rt; send_all(&mut link, refused.as_slice()).is_ok());
+        assert_eq!(rt; link.read(&mut piece), Ok(1));
+        assert_eq!(rt; link.read(&mut piece), Ok(0));
+    }
+    let want = format!(in alloc; "{EMPTY_TEXT}{NO_ROUTE_TEXT}")?;
+    assert_eq!(rt; sink.written().as_slice(), want.as_bytes());
+
+    let body = br#"{"error":{"code":507,"message":"NoMemory","status":"OUT_OF_MEMORY"}}"#;
+    assert_eq!(rt; body.len(), 68);
+    for close in [false, true] {
+        let text = response_text(alloc, 507, close, body)?;
+        assert_eq!(rt; no_memory_response(close), text.as_slice());
+    }
+    conversation_laws();
+    Ok(())
+}
