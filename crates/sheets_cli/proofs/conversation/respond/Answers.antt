@@ -1,0 +1,22 @@
+use Rattle.std.proofs.Common.{ℕ, List, inl, inr, refl, subst}
+use Rattle.sheets_cli.specs.Reply.{no_memory_text}
+use Rattle.sheets_cli.specs.Turns.{Sends}
+use Rattle.sheets_cli.proofs.conversation.respond.Goals as goal
+
+-- where memory ran out, the constant response is sent
+pub returns-in-Err-clause-response : goal.returns-in-Err-clause-response
+returns-in-Err-clause-response g c = record {
+  response = no_memory_text c.args.request.now.close;
+  is_response = inr refl;
+  sends = subst (λ (bytes : List ℕ). Sends (g.S.Sink.written c.args.sink.now) (g.S.Sink.written c.send_all-in-Err.new.sink) bytes c.send_all-in-Err.result)
+      c.no_memory_reply.ensures c.send_all-in-Err.ensures.sent;
+}
+
+-- else the reply is sent
+pub returns-in-Ok-clause-response : goal.returns-in-Ok-clause-response
+returns-in-Ok-clause-response g c = record {
+  response = c.in-Ok.response;
+  is_response = inl c.in-Ok.ensures;
+  sends = subst (λ (bytes : List ℕ). Sends (g.S.Sink.written c.args.sink.now) (g.S.Sink.written c.send_all.new.sink) bytes c.send_all.result)
+      c.as_slice.ensures c.send_all.ensures.sent;
+}

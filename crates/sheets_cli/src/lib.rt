@@ -1,0 +1,20 @@
+//! The commands of the program.
+#![tactic(auto)]
+
+mod body;
+mod conversation;
+mod ended;
+mod program;
+mod range;
+mod reply;
+mod report;
+mod standard;
+
+pub use conversation::converse;
+pub use ended::Ended;
+pub use program::{MOST, sheets_main};
+pub use range::{COLUMNS, ROWS, Rectangle};
+pub use standard::{Input, Output};
+
+#[cfg(test)]
+mod tests;

@@ -1,0 +1,55 @@
+ghost use Rattle.std.specs.Prelude.{◌++◌, codes};
+ghost use Rattle.std.specs.Fmt.{decimal};
+ghost use Rattle.sheets_cli.specs.Turns.{Sends};
+ghost use Rattle.sheets_cli.specs.Program.{truncated_line, line_of, Says};
+
+use crate::ended::Ended;
+use sheets_http::{Sink, SinkFault, send_all};
+
+/// Writes a line; where that fails, it is cut.
+pub(crate) fn say<S: Sink>(faults: &mut S, line: &[u8])
+    ensures { Says (S.written faults.old) (S.written faults.new) line.now }
+{
+    let _ = send_all(faults, line);
+}
+
+/// Writes the line on the faults of a conversation that ended so; where that fails, it is cut.
+pub(crate) fn report<S: Sink>(faults: &mut S, ended: Ended)
+    ensures { Says (S.written faults.old) (S.written faults.new) (line_of ended) }
+{
+    match ended {
+        Ended::End | Ended::Asked | Ended::Closed(_) => {}
+        Ended::ReadFault => say(faults, b"read fault\n"),
+        Ended::NoMemory => say(faults, b"no memory\n"),
+        Ended::WriteFault => say(faults, b"write fault\n"),
+        Ended::Truncated(count) => say_truncated(faults, count),
+        Ended::LongTalk => say(faults, b"long talk\n"),
+    }
+}
+
+/// Writes the line for a stream that ended inside a request; where that fails, it is cut.
+fn say_truncated<S: Sink>(faults: &mut S, count: u64)
+    ensures { Says (S.written faults.old) (S.written faults.new) (truncated_line count) }
+{
+    let _ = send_truncated(faults, count);
+}
+
+fn send_truncated<S: Sink>(faults: &mut S, count: u64) -> Result<(), SinkFault>
+    ensures { Sends (S.written faults.old) (S.written faults.new) (truncated_line count) result }
+{
+    match send_all(faults, b"truncated ") {
+        Ok(()) => send_count(faults, count),
+        Err(fault) => Err(fault),
+    }
+}
+
+/// Sends a number in decimal, and a line feed.
+fn send_count<S: Sink>(faults: &mut S, count: u64) -> Result<(), SinkFault>
+    ensures { Sends (S.written faults.old) (S.written faults.new) (decimal count ++ codes "\n") result }
+{
+    let mut digits = itoa::Buffer::new();
+    match send_all(faults, digits.format(count).as_bytes()) {
+        Ok(()) => send_all(faults, b"\n"),
+        Err(fault) => Err(fault),
+    }
+}
