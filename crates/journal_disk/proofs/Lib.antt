@@ -1,0 +1,7 @@
+mod Contents
+mod Ending
+mod Images
+mod Kept
+mod Moments
+mod Pieces
+mod Scanning

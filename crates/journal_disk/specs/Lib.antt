@@ -1,0 +1,4 @@
+pub mod Disk
+pub mod Log
+pub mod Past
+pub mod Records
