@@ -6,11 +6,10 @@ use Rattle.cell_value.specs.declared.entered.Input.{Input}
 use Rattle.cell_value.specs.declared.entered.Input.TheVariants.{Skip, Empty, Number, Text, Truth}
 use Rattle.cell_value.specs.declared.entered.Bad.{Bad}
 use Rattle.cell_value.specs.declared.entered.Bad.TheVariants.{NotWhole, TooLong, NotScalar}
-use Rattle.cell_value.specs.declared.entered.TheConstants.{LARGEST, LONGEST}
 
 -- a whole number within 2^53 either way; a number with a fraction or an exponent is none, and one past 64 bits neither
 abbrev pub whole_input : Option ℤ → Result Input Bad
-whole_input (Some whole) = if nat_le (unsigned_abs whole) LARGEST then Ok (Number whole) else Err NotWhole
+whole_input (Some whole) = if nat_le (unsigned_abs whole) 9007199254740992 then Ok (Number whole) else Err NotWhole
 whole_input None = Err NotWhole
 
 abbrev pub number_input_of : Num → Result Input Bad
@@ -19,7 +18,7 @@ number_input_of n = whole_input (as_i64 n)
 -- a text of at most 50,000 bytes; the empty one empties the cell
 abbrev pub text_input_of : List ℕ → Result Input Bad
 text_input_of [] = Ok Empty
-text_input_of (byte ∷ bytes) = if nat_le (length (byte ∷ bytes)) LONGEST then Ok (Text (byte ∷ bytes)) else Err TooLong
+text_input_of (byte ∷ bytes) = if nat_le (length (byte ∷ bytes)) 50000 then Ok (Text (byte ∷ bytes)) else Err TooLong
 
 -- what a value means: null leaves the cell alone
 abbrev pub raw_input : Data → Result Input Bad

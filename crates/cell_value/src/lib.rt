@@ -29,8 +29,11 @@ mod tests {
         assert_eq!(rt; bytes.duplicate()?.as_slice(), bytes.as_slice());
         bytes.extend_from_slice(&[7])?;
         assert_eq!(rt; bytes.as_slice(), [0, 255, 7].as_slice());
+        bytes.clear();
+        assert_eq!(rt; bytes.as_slice(), [].as_slice());
         let items = Items::of(Vec::from_slice(rt.alloc(), &[3u32, 1, 2])?);
         assert_eq!(rt; items.duplicate()?.as_slice(), items.as_slice());
+        assert_eq!(rt; items.into_vec().as_slice(), [3, 1, 2].as_slice());
         assert_eq!(rt;
             (true.duplicate()?, 7u64.duplicate()?, (-7i64).duplicate()?),
             (true, 7, -7)

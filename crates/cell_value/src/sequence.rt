@@ -1,4 +1,4 @@
-ghost use Rattle.std.specs.Prelude.{◌≡◌, ◌++◌, string_bytes, OnOk, OnErr};
+ghost use Rattle.std.specs.Prelude.{◌≡◌, ◌++◌, [], string_bytes, OnOk, OnErr};
 
 use crate::{Duplicate, NoMemory};
 use std::marker::Model;
@@ -81,6 +81,13 @@ impl Bytes {
         self.bytes.extend_from_slice(more)?;
         Ok(())
     }
+
+    /// Takes all bytes out; the memory stays, for bytes that come.
+    pub fn clear(&mut self)
+        ensures { self.new ≡ [] }
+    {
+        self.bytes.clear();
+    }
 }
 
 impl Duplicate for Bytes {
@@ -117,6 +124,13 @@ impl<T> Items<T> {
         ensures { result.now ≡ self.now }
     {
         self.items.as_slice()
+    }
+
+    /// The items as a vector, in the memory that they have, for a change in place.
+    pub fn into_vec(self) -> Vec<T>
+        ensures { result.items ≡ self }
+    {
+        self.items
     }
 }
 
