@@ -1,26 +1,24 @@
 -- The contracts on names have one answer each: there are names, and places show in them.
-use Rattle.std.proofs.Common.{◌≡◌, ℕ, zero, suc, ◌+◌, ◌-◌, ◌<◌, ◌&&◌, add-zero, zero-add, List, [], ◌∷◌, ◌++◌, length, get_or, drop, Option, None, Some, arith, refl, sym, ap, subst, ◌∙◌, inl, inr, length-append, length-drop}
-use Rattle.std.specs.Prelude.{slice_range, slice_get, nat_le, MatchOption}
+use Rattle.std.proofs.Common.{◌≡◌, ℕ, zero, suc, ◌+◌, ◌-◌, ◌<◌, add-zero, zero-add, List, [], ◌∷◌, ◌++◌, length, get_or, drop, Option, None, Some, arith, refl, sym, ap, subst, ◌∙◌, length-append, length-drop}
+use Rattle.std.specs.Prelude.{slice_range, slice_get, MatchOption, IfSome}
 use Rattle.std.specs.List.{Contains}
-use Rattle.std.proofs.lemmas.Bool.{cases_Bool}
 use Rattle.std.proofs.lemmas.Option.{slice_get-get_or, get_or_from_slice_get, slice_get_within}
 use Rattle.line_order.specs.Order.{IsOrder}
 use Rattle.line_order.specs.Band.{NameBand}
 use Rattle.line_order.specs.Band.NameBand.{Whole, Closed, Open}
 use Rattle.line_order.specs.Following.{follow}
-use Rattle.line_order.specs.Change.{order_after, changed_names}
+use Rattle.line_order.specs.Change.{CanBeMade, order_after, changed_names}
 use Rattle.line_order.proofs.Orders.{IsOrder-from_places, place_unique, get_or-slice_range, length-slice_range}
-use Rattle.line_order.proofs.Changes.{exchanged_order, without_order, inserted_exchanged}
+use Rattle.line_order.proofs.Changes.{orders_stay, exchanged_order, inserted_exchanged}
 use Rattle.grid_range.specs.declared.band.Band.{Band}
 use Rattle.grid_range.specs.declared.band.Band.TheVariants as bands
 use Rattle.grid_range.specs.declared.change.Change.{Change}
 use Rattle.grid_range.specs.declared.change.Change.TheVariants.{Insert, Delete, Move}
 use Rattle.grid_range.specs.Band.{Within}
-use Rattle.grid_range.specs.Change.{Fits, Changes, order_change, inserted_lines}
-use Rattle.grid_range.specs.Tracking.{StandsFor, StandsForOption, track_of, place_of, closed_up}
+use Rattle.grid_range.specs.Change.{Fits, Changes, order_change, inserted_lines, count_after}
+use Rattle.grid_range.specs.Tracking.{StaysWithin, StandsFor, StandsForOption, track_of, place_of}
 use Rattle.grid_range.specs.Laws.{TracksAll, TracksExactly, PlacesAll, PlacesExactly}
-use Rattle.grid_range.proofs.Followed.{moved_order}
-use Rattle.grid_range.proofs.Theorems.{track_of_tracks, place_of_places}
+use Rattle.grid_range.proofs.Theorems.{track_of_tracks, place_of_places, count_after_lines}
 
 -- an order of so many names from a first one on
 numbers : ℕ → ℕ → List ℕ
@@ -62,33 +60,29 @@ numbers_change change count fits = record {
   distinct = numbers_order 0 count;
   long = length-numbers 0 count;
   inserts = length-numbers count (inserted_lines change);
+  made = made change fits;
   result = refl;
-  distinct_after = after change fits;
 }
   where
     size : length (numbers 0 count) ≡ count
     size = length-numbers 0 count
 
-    after : (change : Change) → Fits change count
-        → IsOrder (order_after (order_change change (numbers count (inserted_lines change))) (numbers 0 count))
-    after (Insert at number) f =
+    made : (change : Change) → Fits change count
+        → CanBeMade (order_change change (numbers count (inserted_lines change))) (numbers 0 count)
+    made (Insert at number) f =
         let fresh = length-numbers count number in
-        let both = length-append (numbers 0 count) (numbers count number) in
-        subst IsOrder (inserted_exchanged (numbers 0 count) (numbers count number) at)
-        (exchanged_order (numbers 0 count ++ numbers count number) (length (numbers 0 count))
-        (length (numbers 0 count) + length (numbers count number)) at (omega arith) (omega arith)
-        (omega (arith, size, f.0))
-        (subst IsOrder (sym (rw (zero-add count) at (numbers-append 0 count number)))
-        (numbers_order 0 (count + number))))
-    after (Delete a b) f = without_order (numbers 0 count) a b (omega arith) (omega (arith, size)) (numbers_order 0 count)
-    after (Move a b to) f = elim (cases_Bool (nat_le a to && nat_le to b)) [
-      | inl idle ↦ rw idle (numbers_order 0 count)
-      | inr goes ↦
-          let moved = moved_order (numbers 0 count) a b to (numbers_order 0 count) f.0 (omega (arith, size))
-          (omega (arith, size)) goes in
-          rw moved.0 (exchanged_order (numbers 0 count) a b (closed_up a b to) (omega arith) (omega (arith, size))
-          (omega (arith, moved.1)) (numbers_order 0 count))
-    ]
+        let both = length-append (numbers 0 count) (numbers count number) in (
+          omega (arith, size, f.0),
+          (λ none. let empty = ap length none in omega (arith, f.1)),
+          subst IsOrder (inserted_exchanged (numbers 0 count) (numbers count number) 0)
+              (exchanged_order (numbers 0 count ++ numbers count number) (length (numbers 0 count))
+              (length (numbers 0 count) + length (numbers count number)) 0 (omega arith) (omega arith)
+              (omega arith)
+              (subst IsOrder (sym (rw (zero-add count) at (numbers-append 0 count number)))
+              (numbers_order 0 (count + number)))),
+        )
+    made (Delete a b) f = (f.0, omega (arith, size))
+    made (Move a b to) f = (f.0, omega (arith, size), omega (arith, size))
 
 -- some lines stand at a band's places
 stands_for_some : (order : List ℕ) (band : Band) → Within band (length order)
@@ -109,6 +103,37 @@ open_closed xs ys h = cc
 
 some_none : (band : NameBand) → Some band ≡ None → ⊥
 some_none band h = cc
+
+-- a band that stands for lines is within the order
+within_order : (order : List ℕ) (band : Band) (names : NameBand) → StandsFor order band names
+    → Within band (length order)
+within_order order bands.Whole names stands = tt
+within_order order (bands.From start) names stands = stands.0
+within_order order (bands.Span start end) names stands = (stands.0, stands.1)
+
+found_within : (order : List ℕ) (found : Option NameBand) (result : Option Band) → StandsForOption order result found
+    → IfSome result (λ band. Within band (length order))
+found_within order found None stands = tt
+found_within order None (Some band) stands = absurd stands
+found_within order (Some names) (Some band) stands = within_order order band names stands
+
+-- what `track` gives is within the lines that there are then
+pub track_stays_within : (band : Band) (count : ℕ) (change : Change) (result : Option Band)
+    → result ≡ track_of band count change → Fits change count → StaysWithin band count change result
+track_stays_within band count change result is fits = record {
+  found = λ within.
+      let order : List ℕ = numbers 0 count in
+      let fresh : List ℕ = numbers count (inserted_lines change) in
+      let after : List ℕ = order_after (order_change change fresh) order in
+      let changes = numbers_change change count fits in
+      let names = stands_for_some order band (rw (length-numbers 0 count) within) in
+      let tracks = track_of_tracks band count change result is fits in
+      let lines : length after ≡ count_after change count =
+      (count_after_lines change count (count_after change count) refl fits).has order fresh after changes in
+      subst (λ n. IfSome result (λ found. Within found n)) lines
+      (found_within after (follow after (changed_names (order_change change fresh) order) names.0) result
+      (tracks.followed order fresh after names.0 changes names.1));
+}
 
 -- no other band stands for the same lines
 same_places : (order : List ℕ) (names : NameBand) (one other : Band) → IsOrder order
@@ -166,7 +191,7 @@ tracks_exactly band count change one other fits within tracks also =
     let changes = numbers_change change count fits in
     let names = stands_for_some order band (rw (length-numbers 0 count) within) in
     let found = follow after (changed_names (order_change change fresh) order) names.0 in
-    same_option after found one other changes.distinct_after
+    same_option after found one other (orders_stay order (order_change change fresh) changes.distinct changes.made)
     (tracks.followed order fresh after names.0 changes names.1)
     (also.followed order fresh after names.0 changes names.1)
 
@@ -196,6 +221,30 @@ places_exactly change count index one other fits there places also =
     let changes = numbers_change change count fits in
     let size = length-numbers 0 count in
     let at : slice_get order index ≡ Some (get_or order index 0) = slice_get-get_or order index 0 (omega arith) in
-    same_place after (get_or order index 0) one other changes.distinct_after
+    same_place after (get_or order index 0) one other (orders_stay order (order_change change fresh) changes.distinct changes.made)
     (places.stands order fresh after (get_or order index 0) changes at)
     (also.stands order fresh after (get_or order index 0) changes at)
+
+place_within_order : (order : List ℕ) (name : ℕ) (result : Option ℕ)
+    → MatchOption result (¬ (Contains order name)) (λ place. slice_get order place ≡ Some name)
+    → IfSome result (λ place. place < length order)
+place_within_order order name None at = tt
+place_within_order order name (Some place) at = slice_get_within order place name at
+
+-- what `place` gives is one of the lines that there are then
+pub place_within : (change : Change) (count index : ℕ) (result : Option ℕ)
+    → result ≡ place_of change index → Fits change count → index < count
+    → IfSome result (λ place. place < count_after change count)
+place_within change count index result is fits there =
+    let order : List ℕ = numbers 0 count in
+    let fresh : List ℕ = numbers count (inserted_lines change) in
+    let after : List ℕ = order_after (order_change change fresh) order in
+    let changes = numbers_change change count fits in
+    let size = length-numbers 0 count in
+    let at : slice_get order index ≡ Some (get_or order index 0) = slice_get-get_or order index 0 (omega arith) in
+    let places = place_of_places change count index result is fits there in
+    let lines : length after ≡ count_after change count =
+    (count_after_lines change count (count_after change count) refl fits).has order fresh after changes in
+    subst (λ n. IfSome result (λ place. place < n)) lines
+    (place_within_order after (get_or order index 0) result
+    (places.stands order fresh after (get_or order index 0) changes at))

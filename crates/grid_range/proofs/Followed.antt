@@ -8,7 +8,7 @@ use Rattle.line_order.specs.Following.{followed_names}
 use Rattle.line_order.specs.Change.{order_after}
 use Rattle.line_order.specs.Change.OrderChange.{Moving}
 use Rattle.line_order.proofs.Ranges.{range_of}
-use Rattle.line_order.proofs.Changes.{before_move, before_move_is, exchanged, length-exchanged, get_or-exchanged, put_before_to, order_exchanged, inserted_exchanged, without, skip}
+use Rattle.line_order.proofs.Changes.{landing_place, before_move, before_move_is, exchanged, length-exchanged, get_or-exchanged, put_before_to, order_exchanged, inserted_exchanged, without, skip}
 use Rattle.line_order.proofs.Arrivals.{EndOf, Came, Follows, Settles, Tears, follow_hull, follow_together, follow_carried, follow_torn, follow_lost}
 use Rattle.grid_range.specs.Tracking.{closed_up, start_opened, end_opened, span_moved}
 use Rattle.line_order.proofs.Changing.{closed_stays, open_stays}
@@ -194,9 +194,9 @@ landing a b to (inl front) = inl (front, omega (arith, closed_up_is a b to))
 landing a b to (inr back) = inr (back, omega (arith, closed_up_is a b to))
 
 way_of : (a b to : ℕ) → (nat_le a to && nat_le to b) ≡ false → (to < a) ⊎ (b < to)
-way_of a b to goes = elim (and_cases (nat_le a to) (nat_le to b) goes) [
-  | inl h ↦ inl (leb-false a to h)
-  | inr h ↦ inr (leb-false to b h)
+way_of a b to goes = elim (landing_place a b to goes).1 [
+  | inl (front, _) ↦ inl front
+  | inr (back, _) ↦ inr back
 ]
 
 -- a move that moves something

@@ -6,13 +6,14 @@ use Rattle.std.specs.List.{Contains}
 use Rattle.std.proofs.lemmas.Option.{slice_get-get_or, get_or_from_slice_get}
 use Rattle.std.proofs.lemmas.Bool.{cases_Bool, both_ways, or_left, or_cases, eq-eqb, eqb-true, false≢true, ltb-true, ltb-false}
 use Rattle.std.proofs.lemmas.List.{take_rest, get_or_default, drop_more, length-take-le, length-drop}
-use Rattle.line_order.specs.Order.{IsOrder, is_among, stretch, tail}
+use Rattle.line_order.specs.Order.{is_among, lines_between, lines_from}
 use Rattle.line_order.specs.Band.{NameBand}
 use Rattle.line_order.specs.Band.NameBand.{Closed, Open}
 use Rattle.line_order.specs.Following.{follow, followed_names}
 use Rattle.line_order.specs.Change.{changed_names}
 use Rattle.line_order.proofs.Orders.{get_or-slice_range, length-slice_range}
-use Rattle.line_order.proofs.Changes.{length-without, length-exchanged}
+use Rattle.line_order.specs.Change.OrderChange.{Inserting}
+use Rattle.line_order.proofs.Changes.{orders_stay, length-without, length-exchanged}
 use Rattle.line_order.proofs.Arrivals.{EndOf}
 use Rattle.line_order.proofs.Ranges.{range_of, lost_names, followed_first}
 use Rattle.grid_range.specs.declared.band.Band.{Band}
@@ -36,7 +37,7 @@ span_after_follows : (closed : Bool) (change : Change) (order fresh after : List
     (span_after change s e)
 span_after_follows closed (Insert at number) order fresh after s e fits c line there end =
     rw (c.result, ← c.inserts)
-    (inserted_follows closed order fresh at s e (subst IsOrder c.result c.distinct_after) fits.0
+    (inserted_follows closed order fresh at s e (orders_stay order (Inserting at fresh) c.distinct c.made) fits.0
     (rw c.inserts fits.1) line there)
 span_after_follows closed (Delete a b) order fresh after s e fits c line there end =
     rw c.result (elim (cases_Bool (nat_lt (closed_up a b s) (closed_up a b e))) [
@@ -54,14 +55,14 @@ span_after_follows closed (Move a b to) order fresh after s e fits c line there 
 closed_stands : (after changed names : List ℕ) (span : Option (ℕ × ℕ))
     → SpanResult true after changed names span
     → StandsForOption after (option_map (λ x. bands.Span x.0 x.1) span)
-    (option_map Closed (followed_names stretch after changed names))
+    (option_map Closed (followed_names lines_between after changed names))
 closed_stands after changed names None h = rw h refl
 closed_stands after changed names (Some span) h = rw h.is (h.some, h.there, refl)
 
 open_stands : (after changed names : List ℕ) (span : Option (ℕ × ℕ))
     → SpanResult false after changed names span
     → StandsForOption after (option_map (λ x. bands.From x.0) span)
-    (option_map Open (followed_names tail after changed names))
+    (option_map Open (followed_names lines_from after changed names))
 open_stands after changed names None h = rw h refl
 open_stands after changed names (Some span) h = rw h.is (h.some, ap Open (take_rest after span.0))
 

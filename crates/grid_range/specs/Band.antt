@@ -1,5 +1,6 @@
 -- Bands of lines: one dimension of the `GridRange` of the Google Sheets API v4, whose indexes count
--- from 0, whose start is inclusive and whose end is exclusive; an index that is missing is unbounded.
+-- from 0, whose start is inclusive and whose end is exclusive; an index that is missing is
+-- unbounded. That a range whose start is its end is refused is this project's profile.
 use Rattle.std.specs.Prelude.{ℕ, ◌<◌, ◌≤◌, ⊤, min}
 use Rattle.grid_range.specs.declared.band.Band.{Band}
 use Rattle.grid_range.specs.declared.band.Band.TheVariants.{Whole, From, Span}
@@ -10,17 +11,17 @@ HasLine Whole line = ⊤
 HasLine (From start) line = start ≤ line
 HasLine (Span start end) line = (start ≤ line) × (line < end)
 
--- the band's first line is among `count` lines, and so is its last
+-- among `count` lines: all lines; a first line that is there; a first and a last that are there
 abbrev pub Within : Band → ℕ → Type 0
 Within Whole count = ⊤
 Within (From start) count = start < count
 Within (Span start end) count = (start < end) × (end ≤ count)
 
 -- a band with both ends has a line
-abbrev pub IsInOrder : Band → Type 0
-IsInOrder Whole = ⊤
-IsInOrder (From start) = ⊤
-IsInOrder (Span start end) = start < end
+abbrev pub IsNonEmpty : Band → Type 0
+IsNonEmpty Whole = ⊤
+IsNonEmpty (From start) = ⊤
+IsNonEmpty (Span start end) = start < end
 
 -- the first line
 abbrev pub first_line : Band → ℕ

@@ -2,7 +2,7 @@
 -- moveDimension of the Google Sheets API v4.
 use Rattle.std.specs.Prelude.{◌≡◌, ℕ, ◌+◌, ◌-◌, ◌^◌, ◌<◌, ◌≤◌, List, length, ⊤}
 use Rattle.line_order.specs.Order.{IsOrder}
-use Rattle.line_order.specs.Change.{OrderChange, order_after}
+use Rattle.line_order.specs.Change.{OrderChange, CanBeMade, order_after}
 use Rattle.line_order.specs.Change.OrderChange.{Inserting, Deleting, Moving}
 use Rattle.grid_range.specs.declared.change.Change.{Change}
 use Rattle.grid_range.specs.declared.change.Change.TheVariants.{Insert, Delete, Move}
@@ -37,14 +37,13 @@ order_change (Insert at inserted) fresh = Inserting at fresh
 order_change (Delete start end) fresh = Deleting start end
 order_change (Move start end to) fresh = Moving start end to
 
--- `order` has `count` lines, and `after` is the order after the change, where as many lines as it
--- inserts are `fresh`, with names that no other line has
+-- `after` is the order of `count` lines after the change, where `fresh` are as many as it inserts
 pub record Changes (change : Change) (count : ℕ) (order fresh after : List ℕ) : Type 0 where
   pub distinct : IsOrder order
   pub long : length order ≡ count
   pub inserts : length fresh ≡ inserted_lines change
+  pub made : CanBeMade (order_change change fresh) order
   pub result : after ≡ order_after (order_change change fresh) order
-  pub distinct_after : IsOrder after
 
 -- each order with `count` lines has `lines` after the change
 pub record HasLinesAfter (change : Change) (count lines : ℕ) : Type 0 where

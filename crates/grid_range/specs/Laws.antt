@@ -12,7 +12,7 @@ abbrev pub TracksAll : Type 0
 TracksAll = (band : Band) (count : ℕ) (change : Change) → Fits change count → Within band count
     → Tracks band count change (track_of band count change)
 
--- by one answer
+-- and its lines determine the answer
 abbrev pub TracksExactly : Type 0
 TracksExactly = (band : Band) (count : ℕ) (change : Change) (one other : Option Band)
     → Fits change count → Within band count
@@ -23,7 +23,7 @@ abbrev pub PlacesAll : Type 0
 PlacesAll = (change : Change) (count index : ℕ) → Fits change count → index < count
     → Places change count index (place_of change index)
 
--- by one answer
+-- and its name determines the answer
 abbrev pub PlacesExactly : Type 0
 PlacesExactly = (change : Change) (count index : ℕ) (one other : Option ℕ)
     → Fits change count → index < count

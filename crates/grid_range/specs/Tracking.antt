@@ -1,6 +1,6 @@
 -- What a band becomes after a change: by names, which is what it means, and by places, which is
 -- what a program computes.
-use Rattle.std.specs.Prelude.{◌≡◌, ℕ, ◌+◌, ◌-◌, List, Option, None, Some, MatchOption, IsSomeAnd, Contains, slice_get, nat_le, nat_lt, ◌&&◌, if◌then◌else◌}
+use Rattle.std.specs.Prelude.{◌≡◌, ℕ, ◌+◌, ◌-◌, List, Option, None, Some, MatchOption, IsSomeAnd, IfSome, Contains, slice_get, nat_le, nat_lt, ◌&&◌, if◌then◌else◌}
 use Rattle.std.specs.Option.{option_map}
 use Rattle.line_order.specs.Band.{NameBand}
 use Rattle.line_order.specs.Following.{follow}
@@ -10,7 +10,8 @@ use Rattle.grid_range.specs.declared.band.Band.{Band}
 use Rattle.grid_range.specs.declared.band.Band.TheVariants.{Whole, From, Span}
 use Rattle.grid_range.specs.declared.change.Change.{Change}
 use Rattle.grid_range.specs.declared.change.Change.TheVariants.{Insert, Delete, Move}
-use Rattle.grid_range.specs.Change.{Changes, order_change}
+use Rattle.grid_range.specs.Band.{Within}
+use Rattle.grid_range.specs.Change.{Changes, order_change, count_after}
 
 -- the band stands at the order for the lines at its places
 abbrev pub StandsFor : List ℕ → Band → NameBand → Type 0
@@ -29,6 +30,11 @@ pub record Tracks (band : Band) (count : ℕ) (change : Change) (result : Option
       → Changes change count order fresh after → StandsFor order band names
       → StandsForOption after result
       (follow after (changed_names (order_change change fresh) order) names)
+
+-- what a band within `count` lines becomes is within the lines that there are then
+pub record StaysWithin (band : Band) (count : ℕ) (change : Change) (result : Option Band)
+    : Type 0 where
+  pub found : Within band count → IfSome result (λ found. Within found (count_after change count))
 
 -- the line at the index is at the resulting one afterwards, or is gone, whatever the names are
 pub record Places (change : Change) (count index : ℕ) (result : Option ℕ) : Type 0 where

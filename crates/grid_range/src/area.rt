@@ -13,15 +13,15 @@ pub struct Area {
 }
 
 impl Area {
-    ghost use Rattle.grid_range.specs.Band.{IsInOrder};
+    ghost use Rattle.grid_range.specs.Band.{IsNonEmpty};
     ghost use Rattle.grid_range.specs.Area.{Holds, IsInside, AreaWithin, HoldSameCells, Meet};
     ghost use Rattle.grid_range.specs.Area.{cut_area};
 
     /// The area on a sheet of `rows` rows and `cols` columns, with an end past the grid cut at the
     /// grid; None exactly where the first line of one of its bands isn't there.
     pub fn clip(&self, rows: u32, cols: u32) -> Option<Area>
-        requires rows { IsInOrder self.now.rows }
-        requires cols { IsInOrder self.now.cols }
+        requires rows { IsNonEmpty self.now.rows }
+        requires cols { IsNonEmpty self.now.cols }
         ensures inside { IsSome result ↔ IsInside self.now rows cols }
         ensures cut { IfSome result (λ clipped. clipped ≡ cut_area self.now rows cols) }
         ensures within { IfSome result (λ clipped. AreaWithin clipped rows cols) }

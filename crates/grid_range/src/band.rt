@@ -1,5 +1,5 @@
 ghost use Rattle.std.specs.Prelude.{◌≡◌, ◌↔◌, ℕ, ◌<◌, ◌≤◌, IsTrue, IsSome, IfSome, min};
-ghost use Rattle.grid_range.specs.Band.{Within, HasLine, first_line, end_line, cut_band, IsInOrder, ShareLine};
+ghost use Rattle.grid_range.specs.Band.{Within, HasLine, first_line, end_line, cut_band, IsNonEmpty, ShareLine};
 
 /// A set of lines on one axis of a sheet: one dimension of a `GridRange` of the Google Sheets API
 /// v4, where an index that isn't given is unbounded.
@@ -38,7 +38,7 @@ impl Band {
 
     /// The band cut at a grid of `count` lines, or None where its first line isn't there.
     pub(crate) fn clip(self, count: u32) -> Option<Band>
-        requires { IsInOrder self }
+        requires { IsNonEmpty self }
         ensures inside { IsSome result ↔ (first_line self < count) }
         ensures cut { IfSome result (λ clipped. clipped ≡ cut_band self count) }
     {

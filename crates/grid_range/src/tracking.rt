@@ -1,21 +1,22 @@
-ghost use Rattle.std.specs.Prelude.{◌≡◌, ◌+◌, ◌-◌, ◌^◌, ◌<◌, ◌≤◌};
+ghost use Rattle.std.specs.Prelude.{◌≡◌, ◌+◌, ◌-◌, ◌^◌, ◌<◌, ◌≤◌, IfSome};
 ghost use Rattle.grid_range.specs.Band.{Within};
-ghost use Rattle.grid_range.specs.Change.{Fits, HasStretch, inserted_lines};
-ghost use Rattle.grid_range.specs.Tracking.{Tracks, Places, track_of, place_of, span_after, span_moved, closed_up, start_opened, end_opened};
+ghost use Rattle.grid_range.specs.Change.{Fits, HasStretch, inserted_lines, count_after};
+ghost use Rattle.grid_range.specs.Tracking.{Tracks, StaysWithin, Places, track_of, place_of, span_after, span_moved, closed_up, start_opened, end_opened};
 
 use crate::band::Band;
 use crate::change::Change;
 
-/// What a band becomes where the change is made among `count` lines: it has the lines that are left
-/// of it where they still stand side by side, and, where it is open, end the sheet. Else it goes from
-/// the first to the last, or to the end, of those that weren't inserted or moved, or of all where
-/// that is none. None exactly where all of its lines are deleted; `Whole` is never lost.
-#[tactic(auto, using(crate::proofs::Theorems::track_of_tracks))]
+/// What a band becomes where the change is made among `count` lines. It has the lines that are left
+/// of it where they still stand side by side and, if it is open, end the sheet. Else it goes from
+/// the first of them to the last, or to the end, where those that were moved don't count unless all
+/// were. None exactly where all of its lines are deleted; `Whole` is never lost.
+#[tactic(auto, using(crate::proofs::Theorems::track_of_tracks, crate::proofs::Exactly::track_stays_within))]
 pub fn track(band: Band, count: u32, change: &Change) -> Option<Band>
     requires fits { Fits change.now count }
     requires within { Within band count }
     ensures value { result ≡ track_of band count change.now }
     ensures names { Tracks band count change.now result }
+    ensures within { StaysWithin band count change.now result }
 {
     match band {
         Band::Whole => Some(Band::Whole),
@@ -30,12 +31,13 @@ pub fn track(band: Band, count: u32, change: &Change) -> Option<Band>
 
 /// Where the line at `index` of `count` lines is after the change; None exactly where it is
 /// deleted.
-#[tactic(auto, using(crate::proofs::Theorems::place_of_places))]
+#[tactic(auto, using(crate::proofs::Theorems::place_of_places, crate::proofs::Exactly::place_within))]
 pub fn place(change: &Change, count: u32, index: u32) -> Option<u32>
     requires fits { Fits change.now count }
     requires there { index < count }
     ensures value { result ≡ place_of change.now index }
     ensures names { Places change.now count index result }
+    ensures within { IfSome result (λ place. place < count_after change.now count) }
 {
     span_after(change, index, index + 1).map(|(place, _)| place)
 }

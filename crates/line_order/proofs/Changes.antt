@@ -1,13 +1,16 @@
 -- Where the line at a place of the order after a change stood before.
-use Rattle.std.proofs.Common.{true, false, ◌≡◌, ℕ, ◌+◌, ◌-◌, ◌<◌, ◌≤◌, List, [], ◌++◌, length, get_or, take, drop, Some, eqb, arith, refl, sym, ap, ◌∙◌, inl, inr, ◌⊎◌, length-append, slice_get, append-nil}
-use Rattle.std.specs.Prelude.{slice_range, nat_lt, if◌then◌else◌}
-use Rattle.std.proofs.lemmas.Bool.{cases_lt, ne_eqb, eq-eqb}
+use Rattle.std.proofs.Common.{subst, false, ◌&&◌, true, false, ◌≡◌, ℕ, ◌+◌, ◌-◌, ◌<◌, ◌≤◌, List, [], ◌++◌, length, get_or, take, drop, Some, eqb, arith, refl, sym, ap, ◌∙◌, inl, inr, ◌⊎◌, length-append, slice_get, append-nil}
+use Rattle.std.specs.Prelude.{slice_range, ◌↔◌, nat_le, nat_lt, if◌then◌else◌}
+use Rattle.std.proofs.lemmas.Bool.{cases_Bool, and_cases, leb-false, cases_lt, ne_eqb, eq-eqb}
 use Rattle.std.proofs.lemmas.Bool.Decides.{nat_tests}
-use Rattle.std.proofs.lemmas.List.{take-append-le, take-take, take_all, drop_all, take_at, drop_at, length-take-le, length-drop, get_or_append_left, get_or-append_right, get_or-take, get_or-drop}
+use Rattle.std.proofs.lemmas.List.{get_or_default, take-append-le, take-take, take_all, drop_all, take_at, drop_at, length-take-le, length-drop, get_or_append_left, get_or-append_right, get_or-take, get_or-drop}
 use Rattle.std.proofs.lemmas.Option.{slice_get-get_or, slice_get_past}
 use Rattle.std.proofs.lemmas.List.Sums.{position_or_len_is}
 use Rattle.line_order.specs.Order.{IsOrder}
+use Rattle.std.specs.List.{Contains}
 use Rattle.line_order.specs.Change.{put_before}
+use Rattle.line_order.specs.Change.OrderChange.{Inserting, Deleting, Moving}
+use Rattle.line_order.specs.Laws.{OrdersStay, MoveKeepsLines}
 use Rattle.line_order.proofs.Lists.{from_first_at}
 use Rattle.line_order.proofs.Orders.{IsOrder-from_places, cases_inside, place_unique, get_or-slice_range, length-slice_range}
 
@@ -275,3 +278,73 @@ inserted_exchanged order fresh at =
 
     stretch : take (length order + length fresh - length order) fresh ≡ fresh
     stretch = take_all (length order + length fresh - length order) fresh (omega arith)
+
+-- a place among the other lines for a destination outside the stretch
+pub landing_place : (a b to : ℕ) → (nat_le a to && nat_le to b) ≡ false
+    → (d : ℕ) × (((to < a) × (d ≡ to)) ⊎ ((b < to) × (d ≡ to - (b - a))))
+landing_place a b to goes = elim (and_cases (nat_le a to) (nat_le to b) goes) [
+  | inl h ↦ (to, inl (leb-false a to h, refl))
+  | inr h ↦ (to - (b - a), inr (leb-false to b h, refl))
+]
+
+-- inserting is putting the new lines there from the front, too
+inserted_front : (order names : List ℕ) (at : ℕ)
+    → exchanged (names ++ order) 0 (length names) at ≡ take at order ++ names ++ drop at order
+inserted_front order names at =
+    let rest : without (names ++ order) 0 (length names) ≡ order = drop_at names order (length names) refl in
+    let part : slice_range (names ++ order) 0 (length names) ≡ names =
+    let size : length names - 0 ≡ length names = omega arith in
+    rw size (take_at names order (length names) refl) in
+    rw (rest, part) refl
+
+-- a change leaves each line a name of its own
+pub orders_stay : OrdersStay
+orders_stay order (Inserting at names) distinct (place, some, fresh) =
+    let size = length-append names order in
+    subst IsOrder (inserted_front order names at)
+    (exchanged_order (names ++ order) 0 (length names) at (omega arith) (omega arith) (omega arith) fresh)
+orders_stay order (Deleting start end) distinct (line, there) =
+    without_order order start end (omega arith) there distinct
+orders_stay order (Moving start end to) distinct (line, there, target) =
+    elim (cases_Bool (nat_le start to && nat_le to end)) [
+      | inl idle ↦ rw idle distinct
+      | inr goes ↦
+          let d = landing_place start end to goes in
+          rw (goes, put_before_to order start end to d.0 distinct (omega arith) there target d.1)
+          (exchanged_order order start end d.0 (omega arith) there (omega (arith, d.1)) distinct)
+    ]
+
+exchanged_lines : (order : List ℕ) (a b d name : ℕ) → a ≤ b → b ≤ length order → d ≤ length order - (b - a)
+    → Contains order name ↔ Contains (exchanged order a b d) name
+exchanged_lines order a b d name ab long near =
+    let size = length-exchanged order a b d ab long near in (
+      (λ (k, l, at). there k l at (moved_to a b d (length order) k ab long near l)),
+      (λ (k, l, at). (
+        before_move a b d k,
+        omega (arith, size, before_move_is a b d k ab),
+        get_or_default order (before_move a b d k) name 0 (omega (arith, size, before_move_is a b d k ab))
+            ∙ sym (get_or-exchanged order a b d k ab long near (omega (arith, size)))
+            ∙ get_or_default (exchanged order a b d) k 0 name l ∙ at,
+      )),
+    )
+  where
+    there : (k : ℕ) → k < length order → get_or order k name ≡ name
+        → (p : ℕ) × (p < length order) × (before_move a b d p ≡ k) → Contains (exchanged order a b d) name
+    there k l at (p, in_, is) =
+        let size = length-exchanged order a b d ab long near in (
+          p,
+          omega arith,
+          get_or_default (exchanged order a b d) p name 0 (omega arith)
+              ∙ get_or-exchanged order a b d p ab long near in_
+              ∙ ap (λ i. get_or order i 0) is ∙ get_or_default order k 0 name l ∙ at,
+        )
+
+pub move_keeps_lines : MoveKeepsLines
+move_keeps_lines order start end to name distinct (line, there, target) =
+    elim (cases_Bool (nat_le start to && nat_le to end)) [
+      | inl idle ↦ rw idle ((λ h. h), (λ h. h))
+      | inr goes ↦
+          let d = landing_place start end to goes in
+          rw (goes, put_before_to order start end to d.0 distinct (omega arith) there target d.1)
+          (exchanged_lines order start end d.0 name (omega arith) there (omega (arith, d.1)))
+    ]

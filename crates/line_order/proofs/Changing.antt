@@ -7,7 +7,7 @@ use Rattle.std.proofs.lemmas.Bool.{cases_lt, both_ways, and_from, and_parts, or_
 use Rattle.std.proofs.lemmas.List.{get_or_default, take-append-drop, take_rest, drop_at}
 use Rattle.std.proofs.lemmas.List.Elements.{Contains-append_cases, Contains-append_left, Contains-append_right}
 use Rattle.std.proofs.lemmas.List.Folds.{list_any-append}
-use Rattle.line_order.specs.Order.{IsOrder, is_among, stretch, tail}
+use Rattle.line_order.specs.Order.{IsOrder, is_among, lines_between, lines_from}
 use Rattle.line_order.specs.Band.{NameBand, IsBandOf}
 use Rattle.line_order.specs.Band.NameBand.{Whole, Closed, Open}
 use Rattle.line_order.specs.Following.{survivors, settled, followed_names, follow}
@@ -31,7 +31,7 @@ stay : (order : List ℕ) → Came order order (λ j. j)
 stay order = record { within = λ j l. l; same = λ j l. refl }
 
 pub closed_stays : (order changed : List ℕ) (s e : ℕ) → IsOrder order → s < e → e ≤ length order
-    → followed_names stretch order changed (slice_range order s e) ≡ Some (slice_range order s e)
+    → followed_names lines_between order changed (slice_range order s e) ≡ Some (slice_range order s e)
 closed_stays order changed s e distinct line there =
     together true order changed (slice_range order s e) s e
     (covers order order (λ j. j) (stay order) distinct true s e s e there record {
@@ -44,7 +44,7 @@ closed_stays order changed s e distinct line there =
     (λ j x y. has_of order order (λ j. j) (stay order) distinct s e j there (omega arith) (x, y))
 
 pub open_stays : (order changed : List ℕ) (s : ℕ) → IsOrder order → s < length order
-    → followed_names tail order changed (slice_range order s (length order)) ≡ Some (slice_range order s (length order))
+    → followed_names lines_from order changed (slice_range order s (length order)) ≡ Some (slice_range order s (length order))
 open_stays order changed s distinct line =
     together false order changed (slice_range order s (length order)) s (length order)
     (covers order order (λ j. j) (stay order) distinct false s (length order) s (length order) (omega arith) record {
@@ -377,10 +377,10 @@ follow_again : (order later : List ℕ) (band : NameBand) (a b : ℕ) → IsOrde
 unfolding follow
 follow_again order later Whole a b distinct is_band some within lines = refl
 follow_again order later (Closed names) a b distinct is_band some within lines =
-    map_then Closed (follow later []) (followed_names stretch (without order a b) [] names)
+    map_then Closed (follow later []) (followed_names lines_between (without order a b) [] names)
     ∙ names_again true Closed order later names a b distinct some within is_band.0 is_band.1 lines
 follow_again order later (Open names) a b distinct is_band some within lines =
-    map_then Open (follow later []) (followed_names tail (without order a b) [] names)
+    map_then Open (follow later []) (followed_names lines_from (without order a b) [] names)
     ∙ names_again false Open order later names a b distinct some within is_band.0 is_band.1 lines
 
 then_same : (f g : NameBand → Option NameBand) (found : Option NameBand)

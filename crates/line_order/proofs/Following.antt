@@ -7,7 +7,7 @@ use Rattle.std.proofs.lemmas.Bool.{cases_Bool, false_from_ne_true, both_ways, an
 use Rattle.std.proofs.lemmas.List.{get_or_default}
 use Rattle.std.proofs.lemmas.List.Elements.{Contains-get_or, filter-append}
 use Rattle.std.proofs.lemmas.List.Folds.{list_any_at, Any-from_list_any}
-use Rattle.line_order.specs.Order.{StandTogether, EndTheOrder, is_among, from_first, to_last, stretch, tail}
+use Rattle.line_order.specs.Order.{StandTogether, EndTheOrder, is_among, from_first, to_last, lines_between, lines_from}
 use Rattle.line_order.specs.Band.{NameBand, IsBandOf}
 use Rattle.line_order.specs.Band.NameBand.{Whole, Closed, Open}
 use Rattle.line_order.specs.Following.{survivors, settled, followed_names, follow}
@@ -48,7 +48,7 @@ range_is_part true order names =
       front.0,
       back.0,
       front.1 ∙ ap (λ ys. front.0 ++ ys) back.1
-          ∙ sym (append_assoc front.0 (stretch order names) back.0),
+          ∙ sym (append_assoc front.0 (lines_between order names) back.0),
     )
 range_is_part false order names = from_first_end (is_among names) order
 
@@ -210,10 +210,10 @@ gives_bands order changed Whole found is = subst (IsBandOf order) (same found is
     same : (found : NameBand) → Some Whole ≡ Some found → Whole ≡ found
     same found h = cc
 gives_bands order changed (Closed names) found is =
-    made_gives Closed (followed_names stretch order changed names) found (IsBandOf order)
+    made_gives Closed (followed_names lines_between order changed names) found (IsBandOf order)
     (λ left h. followed_part true order changed names left h) is
 gives_bands order changed (Open names) found is =
-    made_gives Open (followed_names tail order changed names) found (IsBandOf order)
+    made_gives Open (followed_names lines_from order changed names) found (IsBandOf order)
     (λ left h. followed_part false order changed names left h) is
 
 -- names are lost exactly where none of them is in the order
@@ -240,7 +240,7 @@ lost_where_gone order changed Whole = ((λ h. whole h), (λ h. absurd h))
     whole h = cc
 lost_where_gone order changed (Closed names) =
     let both = names_lost true order changed names in
-    ((λ h. both.0 (made_none Closed (followed_names stretch order changed names) h)), (λ h. ap (option_map Closed) (both.1 h)))
+    ((λ h. both.0 (made_none Closed (followed_names lines_between order changed names) h)), (λ h. ap (option_map Closed) (both.1 h)))
 lost_where_gone order changed (Open names) =
     let both = names_lost false order changed names in
-    ((λ h. both.0 (made_none Open (followed_names tail order changed names) h)), (λ h. ap (option_map Open) (both.1 h)))
+    ((λ h. both.0 (made_none Open (followed_names lines_from order changed names) h)), (λ h. ap (option_map Open) (both.1 h)))

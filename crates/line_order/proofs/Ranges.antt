@@ -5,7 +5,7 @@ use Rattle.std.specs.List.{filter, list_all}
 use Rattle.std.proofs.lemmas.Bool.{cases_Bool, and_parts, false≢true, both_ways, ne_eqb, eq-eqb}
 use Rattle.std.proofs.lemmas.List.{get_or-drop, take_rest, length-drop}
 use Rattle.std.proofs.lemmas.List.Folds.{list_any_at}
-use Rattle.line_order.specs.Order.{is_among, from_first, to_last, stretch, tail}
+use Rattle.line_order.specs.Order.{is_among, from_first, to_last, lines_between, lines_from}
 use Rattle.line_order.specs.Following.{survivors, settled, followed_names}
 use Rattle.line_order.proofs.Lists.{from_first_at, to_last_at, list_all_places, filter_none, filter_filter_none, filter_same, filter_stretch, filter_tail, filled_stretch, filled_tail, is_among-filter, first_passes, to_last_first}
 use Rattle.line_order.proofs.Orders.{get_or-slice_range, length-slice_range}
@@ -20,8 +20,8 @@ has_settled order changed names place = has order names place && not (has order 
 
 -- the two ranges by one word: up to the last of the names, or to the end
 abbrev pub range_of : Bool → List ℕ → List ℕ → List ℕ
-range_of true = stretch
-range_of false = tail
+range_of true = lines_between
+range_of false = lines_from
 
 -- what a range ends with: a place that passes, or the end of the order
 abbrev pub EndsAt : Bool → List ℕ → (ℕ → Bool) → ℕ → Type 0
@@ -310,8 +310,8 @@ lost_names closed order changed names gone j l = elim (followed_cases closed ord
 ]
 
 -- the first line of a stretch of names is one of them
-stretch_first : (order names : List ℕ) → 0 < length (stretch order names)
-    → is_among names (get_or (stretch order names) 0 0) ≡ true
+stretch_first : (order names : List ℕ) → 0 < length (lines_between order names)
+    → is_among names (get_or (lines_between order names) 0 0) ≡ true
 stretch_first order names some =
     let begins = to_last_first (is_among names) (from_first (is_among names) order) some in
     rw begins.1 (first_passes (is_among names) order begins.0)
@@ -335,7 +335,7 @@ settled_among changed names name h =
 
 -- the first line of what names are followed to is one of them
 pub followed_first : (order changed names found : List ℕ)
-    → followed_names stretch order changed names ≡ Some found → 0 < length found
+    → followed_names lines_between order changed names ≡ Some found → 0 < length found
     → is_among names (get_or found 0 0) ≡ true
 followed_first order changed names found is some = elim (followed_cases true order changed names) [
   | inl (_, gone) ↦ absurd (some_none found (sym is ∙ gone))
@@ -345,7 +345,7 @@ followed_first order changed names found is some = elim (followed_cases true ord
         survivors_among order names (get_or found 0 0) (rw same (first_name found some))
     | inr (_, _, torn_) ↦
         let calm = settled changed (survivors order names) in
-        let same : stretch order calm ≡ found = some_same (stretch order calm) found (sym torn_ ∙ is) in
+        let same : lines_between order calm ≡ found = some_same (lines_between order calm) found (sym torn_ ∙ is) in
         survivors_among order names (get_or found 0 0)
         (settled_among changed (survivors order names) (get_or found 0 0)
         (rw (← same) (stretch_first order calm (rw (← same) at some))))

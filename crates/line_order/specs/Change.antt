@@ -1,8 +1,10 @@
--- Changes of an order: insertDimension, deleteDimension and moveDimension of the Google Sheets API
--- v4, on names. Numbers say only where a change is made: its place, its stretch, its destination.
-use Rattle.std.specs.Prelude.{ℕ, List, [], ◌++◌, Option, None, Some, take, drop, ◌&&◌, ◌==◌, nat_le, slice_get, slice_range, if◌then◌else◌}
+-- Changes of an order: the requests InsertDimension, DeleteDimension and MoveDimension of the
+-- Google Sheets API v4, on names. Numbers say only where a change is made: a place, a stretch as in
+-- a `DimensionRange`, and the `destinationIndex` of a move, which is counted before the stretch is
+-- taken out.
+use Rattle.std.specs.Prelude.{◌≢◌, ℕ, ◌<◌, ◌≤◌, length, List, [], ◌++◌, Option, None, Some, take, drop, ◌&&◌, ◌==◌, nat_le, slice_get, slice_range, if◌then◌else◌}
 use Rattle.std.specs.List.{before_first}
-use Rattle.line_order.specs.Order.{from_first}
+use Rattle.line_order.specs.Order.{IsOrder, from_first}
 
 -- inserting the names before the line at a place, or last; deleting the lines from a start to the
 -- one before an end; moving these before the line at a destination, or last
@@ -10,6 +12,13 @@ pub data OrderChange : Type 0 where
   Inserting : ℕ → List ℕ → OrderChange
   Deleting : ℕ → ℕ → OrderChange
   Moving : ℕ → ℕ → ℕ → OrderChange
+
+-- the change can be made: its places are there, and it has a line; lines that are inserted have
+-- names of their own
+abbrev pub CanBeMade : OrderChange → List ℕ → Type 0
+CanBeMade (Inserting at names) order = (at ≤ length order) × (names ≢ []) × IsOrder (names ++ order)
+CanBeMade (Deleting start end) order = (start < end) × (end ≤ length order)
+CanBeMade (Moving start end to) order = (start < end) × (end ≤ length order) × (to ≤ length order)
 
 -- the names put before the one that is named, or last
 abbrev pub put_before : Option ℕ → List ℕ → List ℕ → List ℕ

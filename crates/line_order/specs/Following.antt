@@ -1,10 +1,10 @@
--- What a band of names becomes when lines of its axis are inserted, deleted or moved, by the requests
--- InsertDimension, DeleteDimension and MoveDimension of the Google Sheets API v4. A range keeps the
--- lines that it has; what it becomes where a move tears it apart is this project's profile.
+-- What a band of names becomes when lines of its axis are inserted, deleted or moved. The reference
+-- of the Google Sheets API v4 names these changes; what a range becomes after a move is this
+-- project's profile.
 use Rattle.std.specs.Prelude.{ℕ, List, length, not, ◌==◌, Option, None, Some, if◌then◌else◌}
 use Rattle.std.specs.List.{filter, list_all}
 use Rattle.std.specs.Option.{option_map}
-use Rattle.line_order.specs.Order.{is_among, stretch, tail}
+use Rattle.line_order.specs.Order.{is_among, lines_between, lines_from}
 use Rattle.line_order.specs.Band.{NameBand}
 use Rattle.line_order.specs.Band.NameBand.{Whole, Closed, Open}
 
@@ -20,17 +20,19 @@ settled changed names =
 
 -- which lines some names become: none where no name is left; the names that are left where no other
 -- line is in their range; else the range of those that weren't inserted or moved. A range goes from
--- the first of its names to the last, as `stretch`, or to the end, as `tail`
+-- the first of its names to the last, as `lines_between`, or to the end, as `lines_from`
 abbrev pub followed_names : (List ℕ → List ℕ → List ℕ) → List ℕ → List ℕ → List ℕ → Option (List ℕ)
 followed_names range order changed names =
-    let left = survivors order names in
-    if length left == 0 then None
-    else if list_all (is_among left) (range order left) then Some left
-    else Some (range order (settled changed left))
+    let surviving = survivors order names in
+    if length surviving == 0 then None
+    else if list_all (is_among surviving) (range order surviving) then Some surviving
+    else Some (range order (settled changed surviving))
 
 -- the band at the new order, where `changed` are the lines that were inserted or moved; none where
 -- it is lost
 unfoldable pub follow : List ℕ → List ℕ → NameBand → Option NameBand
 follow order changed Whole = Some Whole
-follow order changed (Closed names) = option_map Closed (followed_names stretch order changed names)
-follow order changed (Open names) = option_map Open (followed_names tail order changed names)
+follow order changed (Closed names) =
+    option_map Closed (followed_names lines_between order changed names)
+follow order changed (Open names) =
+    option_map Open (followed_names lines_from order changed names)

@@ -1,18 +1,29 @@
--- What following promises, in the words of a user of a sheet. In all of them `order` is the order
--- after a change, and `changed` are the lines that were inserted or moved.
+-- What following promises, in the words of a user of a sheet. Where no change is named, `order` is
+-- the order after one, and `changed` are the lines that it inserted or moved.
 use Rattle.std.specs.Prelude.{◌≡◌, ◌≢◌, ◌↔◌, ℕ, zero, suc, ◌+◌, ◌≤◌, List, [], ◌++◌, length, Option, None, Some}
 use Rattle.std.specs.List.{Contains}
 use Rattle.std.specs.Option.{option_and_then}
-use Rattle.line_order.specs.Order.{IsOrder, StandTogether, EndTheOrder, stretch, tail}
+use Rattle.line_order.specs.Order.{IsOrder, StandTogether, EndTheOrder, lines_between, lines_from}
 use Rattle.line_order.specs.Band.{NameBand, IsBandOf}
 use Rattle.line_order.specs.Band.NameBand.{Whole, Closed, Open}
 use Rattle.line_order.specs.Following.{survivors, settled, follow}
-use Rattle.line_order.specs.Change.{order_after, changed_names}
+use Rattle.line_order.specs.Change.{OrderChange, CanBeMade, order_after, changed_names}
 use Rattle.line_order.specs.Change.OrderChange.{Inserting, Deleting, Moving}
 
 -- all lines are all lines for good
 abbrev pub WholeStays : Type 0
 WholeStays = (order changed : List ℕ) → follow order changed Whole ≡ Some Whole
+
+-- an order stays one
+abbrev pub OrdersStay : Type 0
+OrdersStay = (order : List ℕ) (change : OrderChange)
+    → IsOrder order → CanBeMade change order → IsOrder (order_after change order)
+
+-- a move keeps the lines that there are
+abbrev pub MoveKeepsLines : Type 0
+MoveKeepsLines = (order : List ℕ) (start end to name : ℕ)
+    → IsOrder order → CanBeMade (Moving start end to) order
+    → Contains order name ↔ Contains (order_after (Moving start end to) order) name
 
 -- a band becomes a band of the new order
 abbrev pub GivesBands : Type 0
@@ -36,13 +47,13 @@ abbrev pub TornClosedIsRange : Type 0
 TornClosedIsRange = (order changed names : List ℕ)
     → survivors order names ≢ [] → ¬ (StandTogether order (survivors order names))
     → follow order changed (Closed names)
-    ≡ Some (Closed (stretch order (settled changed (survivors order names))))
+    ≡ Some (Closed (lines_between order (settled changed (survivors order names))))
 
 abbrev pub TornOpenIsRange : Type 0
 TornOpenIsRange = (order changed names : List ℕ)
     → survivors order names ≢ [] → ¬ (EndTheOrder order (survivors order names))
     → follow order changed (Open names)
-    ≡ Some (Open (tail order (settled changed (survivors order names))))
+    ≡ Some (Open (lines_from order (settled changed (survivors order names))))
 
 -- none of the band's lines is left
 abbrev pub IsGone : List ℕ → NameBand → Type 0

@@ -1,5 +1,6 @@
--- Orders of lines: the rows, or the columns, of a sheet from the first on, each by a name that it
--- keeps wherever it goes. Names are numbers, and only definitions see them: a program has places.
+-- Orders of lines, which are this project's own model: the rows, or the columns, of a sheet from
+-- the first on, each by a name that it keeps wherever it goes. Names are numbers, and only
+-- definitions see them: a program has places.
 use Rattle.std.specs.Prelude.{◌≡◌, ◌≢◌, ℕ, Bool, List, [], ◌∷◌, ◌++◌, cond, ◌==◌}
 use Rattle.std.specs.List.{AllPairs, list_any}
 
@@ -31,9 +32,9 @@ to_last test [] = []
 to_last test (x ∷ xs) = cond (list_any test (x ∷ xs)) (x ∷ to_last test xs) []
 
 -- all lines from the first of the names to the last of them
-abbrev pub stretch : List ℕ → List ℕ → List ℕ
-stretch order names = to_last (is_among names) (from_first (is_among names) order)
+abbrev pub lines_between : List ℕ → List ℕ → List ℕ
+lines_between order names = to_last (is_among names) (from_first (is_among names) order)
 
 -- all lines from the first of the names to the end
-abbrev pub tail : List ℕ → List ℕ → List ℕ
-tail order names = from_first (is_among names) order
+abbrev pub lines_from : List ℕ → List ℕ → List ℕ
+lines_from order names = from_first (is_among names) order

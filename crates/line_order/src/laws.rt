@@ -1,11 +1,22 @@
 //! Laws of following: each function does nothing, and its contract is the law.
 
-ghost use Rattle.line_order.specs.Laws.{WholeStays, GivesBands, ClosedKeepsLines, OpenKeepsLines, TornClosedIsRange, TornOpenIsRange, LostWhereGone, BandsStay, IdleMoveKeeps, InsertLengthens, InsertBeside, LostForGood, DeleteInTurn};
+ghost use Rattle.line_order.specs.Laws.{WholeStays, OrdersStay, MoveKeepsLines, GivesBands, ClosedKeepsLines, OpenKeepsLines, TornClosedIsRange, TornOpenIsRange, LostWhereGone, BandsStay, IdleMoveKeeps, InsertLengthens, InsertBeside, LostForGood, DeleteInTurn};
 
 /// All lines are all lines for good.
 #[tactic(auto, using(crate::proofs::Following::whole_stays))]
 pub fn whole_stays()
     ensures { WholeStays }
+{}
+
+/// After a change each line has a name of its own.
+#[tactic(auto, using(crate::proofs::Changes::orders_stay))]
+pub fn orders_stay()
+    ensures { OrdersStay }
+{}
+
+/// A move keeps the lines that there are.
+pub fn move_keeps_lines()
+    ensures { MoveKeepsLines }
 {}
 
 /// A band becomes a band of the new order: lines side by side, or its last ones.

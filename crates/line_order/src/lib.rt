@@ -11,8 +11,8 @@ mod model;
 
 pub use laws::{
     bands_stay, closed_keeps_lines, delete_in_turn, gives_bands, idle_move_keeps, insert_beside,
-    insert_lengthens, lost_for_good, lost_where_gone, open_keeps_lines, torn_closed_is_range,
-    torn_open_is_range, whole_stays,
+    insert_lengthens, lost_for_good, lost_where_gone, move_keeps_lines, open_keeps_lines,
+    orders_stay, torn_closed_is_range, torn_open_is_range, whole_stays,
 };
 pub use model::{Ending, deleted, follow_names, inserted, moved};
 

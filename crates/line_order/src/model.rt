@@ -3,7 +3,7 @@
 ghost use Rattle.std.specs.Prelude.{◌≡◌, ◌≤◌, ◌==◌, ◌&&◌, nat_le, length, IfOk, not};
 ghost use Rattle.std.specs.Option.{option_map};
 ghost use Rattle.std.specs.List.{filter, list_all, position_or_len};
-ghost use Rattle.line_order.specs.Order.{is_among, stretch, tail};
+ghost use Rattle.line_order.specs.Order.{is_among, lines_between, lines_from};
 ghost use Rattle.line_order.specs.Change.{order_after, put_before};
 ghost use Rattle.line_order.specs.Change.OrderChange.{Inserting, Deleting, Moving};
 ghost use Rattle.line_order.specs.Following.{survivors, settled};
@@ -56,8 +56,8 @@ fn range<'a>(ending: Ending, order: &'a [u32], names: &[u32]) -> &'a [u32]
     ensures { result.now ≡ range_of ending order.now names.now }
 {
     match ending {
-        Ending::Closed => stretch(order, names),
-        Ending::Open => tail(order, names),
+        Ending::Closed => lines_between(order, names),
+        Ending::Open => lines_from(order, names),
     }
 }
 
@@ -98,8 +98,8 @@ fn unmoved(alloc: Global, changed: &[u32], names: &[u32]) -> Result<Vec<u32>, Al
 
 /// The lines of the order from the first of the names on.
 #[tactic(auto, using(crate::proofs::Lists::from_first_here, crate::proofs::Lists::from_first_later, crate::proofs::Lists::from_first_past))]
-fn tail<'a>(order: &'a [u32], names: &[u32]) -> &'a [u32]
-    ensures { result.now ≡ tail order.now names.now }
+fn lines_from<'a>(order: &'a [u32], names: &[u32]) -> &'a [u32]
+    ensures { result.now ≡ lines_from order.now names.now }
 {
     for (i, name) in order.iter().enumerate() {
         if names.contains(name) {
@@ -111,10 +111,10 @@ fn tail<'a>(order: &'a [u32], names: &[u32]) -> &'a [u32]
 
 /// The lines of the order from the first of the names to the last of them.
 #[tactic(auto, using(crate::proofs::Lists::to_last_here, crate::proofs::Lists::to_last_earlier))]
-fn stretch<'a>(order: &'a [u32], names: &[u32]) -> &'a [u32]
-    ensures { result.now ≡ stretch order.now names.now }
+fn lines_between<'a>(order: &'a [u32], names: &[u32]) -> &'a [u32]
+    ensures { result.now ≡ lines_between order.now names.now }
 {
-    let rest = tail(order, names);
+    let rest = lines_from(order, names);
     let mut end = rest.len();
     while end > 0 && !names.contains(&rest[end - 1]) {
         end -= 1;

@@ -1,7 +1,7 @@
 -- No name stood from `end` on.
 use Rattle.std.proofs.Common.{◌≡◌, ◌≤◌, length, take}
 use Rattle.line_order.specs.Order.{is_among, to_last}
-use Rattle.line_order.proofs.model.stretch.Given as goal
+use Rattle.line_order.proofs.model.lines_between.Given as goal
 
 abbrev pub invariant-loop-end : goal.invariant-loop-end
 invariant-loop-end l =
