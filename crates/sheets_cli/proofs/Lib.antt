@@ -5,3 +5,8 @@ pub mod SendLemmas
 pub mod Ranges
 pub mod Sides
 pub mod Words
+pub mod CellLemmas
+pub mod ValueLemmas
+pub mod ShownLemmas
+pub mod BodyLemmas
+pub mod FitLemmas

@@ -1,5 +1,10 @@
+pub mod Cells
+pub mod Values
+pub mod Shown
+pub mod Update
 pub mod Body
 pub mod Range
+pub mod Route
 pub mod Reply
 pub mod Output
 pub mod Turns

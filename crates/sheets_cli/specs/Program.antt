@@ -1,10 +1,14 @@
 -- The program's commands: which words are one, and with which status and line it ends.
-use Rattle.std.specs.Prelude.{◌≡◌, ℕ, List, [], ◌∷◌, ◌++◌, map, codes, String, string_bytes, Option, Some, IfSome}
+use Rattle.std.specs.Prelude.{◌≡◌, ℕ, List, [], ◌∷◌, ◌++◌, ◌⊎◌, map, codes, String, string_bytes, Option, Some, IfSome}
+use Rattle.std.specs.Option.{option_map}
 use Rattle.std.specs.Fmt.{decimal}
 use Rattle.std.specs.declared.alloc.Global.{Global}
 use Rattle.sheets_cli.specs.declared.ended.Ended.{Ended}
 use Rattle.sheets_cli.specs.declared.ended.Ended.TheVariants.{End, Asked, Closed, Truncated, LongTalk, ReadFault, WriteFault, NoMemory}
-use Rattle.sheets_cli.specs.Output.{IsFrontOf, IsAnswered}
+use Rattle.sheets_http.specs.Framing.{End as TalkEnd, ended, asked, closed, truncated, long_talk}
+use Rattle.sheets_http.specs.Outside.{Rose}
+use Rattle.sheets_cli.specs.Cells.{no_cells}
+use Rattle.sheets_cli.specs.Output.{IsPrefix, IsServed, EndsAs}
 
 -- the words are the command `run`
 abbrev pub IsRun : List (String Global) → Type 0
@@ -36,15 +40,24 @@ line_of WriteFault = codes "write fault\n"
 line_of (Truncated count) = truncated_line count
 line_of LongTalk = codes "long talk\n"
 
--- where the faults tell what was written to them, it grew by a front of the line
-abbrev pub Says : Option (List ℕ) → Option (List ℕ) → List ℕ → Type 0
-Says before after line =
-    IfSome before (λ said. (front : List ℕ) × IsFrontOf front line × (after ≡ Some (said ++ front)))
+-- the line is written whole, where the device tells what is written to it, unless its count of faults
+-- or of shortages rose: then its first bytes are, or none
+pub record Says (before after : Option (List ℕ)) (faults faults' shortages shortages' : ℕ) (line : List ℕ) : Type 0 where
+  pub first : IfSome before (λ said. (first : List ℕ) × IsPrefix first line × (after ≡ Some (said ++ first)))
+  pub whole : (Rose faults faults' ⊎ Rose shortages shortages') ⊎ (after ≡ option_map (λ said. said ++ line) before)
 
--- the command `run` served the input to an end, which gives its status and its line. Where input and
--- output tell what they hold, the output is that of the talk of what was to be read
-pub record Runs (left written written_after said said_after : Option (List ℕ)) (status : ℕ) : Type 0 where
-  pub end : Ended
+-- the status of the talk's end
+abbrev pub status_at : TalkEnd → ℕ
+status_at ended = 0
+status_at asked = 0
+status_at (closed fault) = 0
+status_at (truncated count) = 5
+status_at long_talk = 8
+
+-- the command `run` served the input to an end, which gives its status and its line. Where the input
+-- tells what it holds, the end is that of its talk; where the output tells it, too, what was written
+-- are the responses
+pub record Runs (left written written_after : Option (List ℕ)) (end : Ended) (status : ℕ) : Type 0 where
   pub status_is : status ≡ status_of end
-  pub answered : IfSome left (λ bytes. IfSome written (λ before. IsAnswered 1099511627776 bytes before written_after end))
-  pub line : Says said said_after (line_of end)
+  pub ends : IfSome left (λ bytes. EndsAs 1099511627776 bytes end)
+  pub served : IfSome left (λ bytes. IfSome written (λ before. IsServed no_cells 1099511627776 bytes before written_after end))

@@ -35,10 +35,10 @@ pub record NamesRange (target : List ℕ) (range : Rectangle) : Type 0 where
   pub one_segment : IsTrue (list_all is_segment_byte segment)
   pub text : Spells (percent_decode segment) range
 
--- what is found is a range of that kind; nothing is found where there is none
-abbrev pub Finds : (Rectangle → Type 0) → Option Rectangle → Type 0
-Finds Is None = (range : Rectangle) → ¬ (Is range)
-Finds Is (Some range) = Is range
+-- what is found is of that kind; nothing is found where there is none
+abbrev pub Finds : {A : Type 0} → (A → Type 0) → Option A → Type 0
+Finds Is None = (thing : _) → ¬ (Is thing)
+Finds Is (Some found) = Is found
 
 -- what is found is that range, which is of that kind; nothing is found where it isn't
 abbrev pub FindsOnly : (Rectangle → Type 0) → Rectangle → Option Rectangle → Type 0

@@ -1,18 +1,20 @@
--- What one request is answered (Google Sheets API v4 reference, spreadsheets.values.get).
-use Rattle.std.specs.Prelude.{◌≡◌, ◌≢◌, ℕ, Bool, true, List, [], codes, ◌⊎◌}
+-- What one request is answered, and what it leaves of the cells (Google Sheets API v4 reference,
+-- spreadsheets.values.get and spreadsheets.values.update).
+use Rattle.std.specs.Prelude.{◌≡◌, ◌≢◌, ℕ, Bool, false, true, List, [], length, codes, ◌⊎◌, IsTrue}
 use Rattle.serde_json.specs.Data.{Data}
 use Rattle.serde_json.specs.Written.{compact_text}
 use Rattle.a1_notation.specs.Canonical.{canonical}
+use Rattle.cell_value.specs.declared.entered.Input.{Input}
 use Rattle.sheets_http.specs.declared.request.Wire.{Wire}
 use Rattle.sheets_http.specs.Responses.{text_of_response, no_memory_body}
 use Rattle.sheets_cli.specs.declared.range.Rectangle.{Rectangle}
-use Rattle.sheets_cli.specs.Range.{NamesRange}
-use Rattle.sheets_cli.specs.Body.{empty_range, refusal}
-
--- the request reads the range
-pub record Reads (request : Wire) (range : Rectangle) : Type 0 where
-  pub method : request.method ≡ codes "GET"
-  pub target : NamesRange request.target range
+use Rattle.sheets_cli.specs.declared.route.Call.{Call}
+use Rattle.sheets_cli.specs.Body.{value_range, update, refusal}
+use Rattle.sheets_cli.specs.Cells.{Cells, written}
+use Rattle.sheets_cli.specs.Route.{Reads, Writes, IsCall}
+use Rattle.sheets_cli.specs.Shown.{shown_rows}
+use Rattle.sheets_cli.specs.Update.{width, fits, written_cells, written_columns, written_rows, lines_from}
+use Rattle.sheets_cli.specs.Values.{Has}
 
 -- the response with that status that carries the JSON value as its body, in compact text; `close`
 -- says that it is the last
@@ -23,28 +25,61 @@ json_response status close body = text_of_response status close (compact_text bo
 unfoldable pub no_memory_text : Bool → List ℕ
 no_memory_text close = text_of_response 507 close no_memory_body
 
--- a read without a body is answered by its range, of which no cell is filled
-pub record IsShown (request : Wire) (response : List ℕ) : Type 0 where
+-- the canonical text of a range of the sheet
+abbrev pub range_of : ℕ × ℕ → ℕ × ℕ → List ℕ
+range_of rows columns = canonical (codes "Sheet1") rows columns
+
+-- a read without a body is answered by its range and what stands in it
+pub record IsShown (cells : Cells) (request : Wire) (response : List ℕ) : Type 0 where
   pub range : Rectangle
   pub reads : Reads request range
   pub no_body : request.body ≡ []
-  pub shown : response ≡ json_response 200 request.close (empty_range (canonical (codes "Sheet1") range.rows range.columns))
+  pub shown : response ≡ json_response 200 request.close (value_range (range_of range.rows range.columns) (shown_rows cells range))
 
--- a read with a body is refused
+-- the values that a write to the range takes: its body has no content coding, says them, and they need
+-- no line behind the end
+pub record Takes (request : Wire) (range : Rectangle) (values : List (List Input)) : Type 0 where
+  pub plain : request.coded ≡ false
+  pub has : Has request.body values
+  pub fit : IsTrue (fits range values)
+
+-- what a write of these values to the range is answered
+abbrev pub update_of : Rectangle → List (List Input) → Data
+update_of range values =
+    update (range_of (lines_from range.rows.0 (length values)) (lines_from range.columns.0 (width values)))
+    (written_cells values) (written_columns values) (written_rows values)
+
+-- a write of values that it takes is done, and answered by what it did
+pub record IsWritten (cells : Cells) (request : Wire) (cells' : Cells) (response : List ℕ) : Type 0 where
+  pub range : Rectangle
+  pub values : List (List Input)
+  pub writes : Writes request range
+  pub takes : Takes request range values
+  pub cells_are : cells' ≡ written values range.rows.0 range.columns.0 cells
+  pub answered : response ≡ json_response 200 request.close (update_of range values)
+
+-- a read has a body, or a write none that it takes
+abbrev pub HasBadBody : Wire → Rectangle → Type 0
+HasBadBody request range =
+    (Reads request range × (request.body ≢ []))
+    ⊎ (Writes request range × ((values : List (List Input)) → ¬ (Takes request range values)))
+
+-- a request with such a body is refused
 pub record IsBadBody (request : Wire) (response : List ℕ) : Type 0 where
   pub range : Rectangle
-  pub reads : Reads request range
-  pub some_body : request.body ≢ []
+  pub bad : HasBadBody request range
   pub refused : response ≡ json_response 400 request.close (refusal 400 (codes "BadBody") (codes "INVALID_ARGUMENT"))
 
--- a request that reads no range is refused
+-- a request that is no call is refused
 pub record IsNoRoute (request : Wire) (response : List ℕ) : Type 0 where
-  pub reads_none : (range : Rectangle) → ¬ (Reads request range)
+  pub no_call : (call : Call) → ¬ (IsCall request call)
   pub refused : response ≡ json_response 404 request.close (refusal 404 (codes "NoRoute") (codes "NOT_FOUND"))
 
--- what a request is answered
-abbrev pub IsReply : Wire → List ℕ → Type 0
-IsReply request response = IsShown request response ⊎ (IsBadBody request response ⊎ IsNoRoute request response)
+-- what a request is answered, and what it leaves of the cells: a refusal and a read leave them all
+abbrev pub IsReply : Cells → Wire → Cells → List ℕ → Type 0
+IsReply cells request cells' response =
+    IsWritten cells request cells' response
+    ⊎ ((cells' ≡ cells) × (IsShown cells request response ⊎ (IsBadBody request response ⊎ IsNoRoute request response)))
 
 -- the response that closes a conversation at a refused head
 abbrev pub closing_text : List ℕ

@@ -1,42 +1,69 @@
-ghost use Rattle.std.specs.Prelude.{◌≡◌, ◌≢◌, ℕ, ◌<◌, ◌≤◌, None, IfSome};
+ghost use Rattle.std.specs.Prelude.{◌≡◌, ◌≢◌, ℕ, ◌<◌, ◌≤◌, None, IfSome, IsTrue};
 ghost use Rattle.sheets_http.specs.Outside.{Rose};
-ghost use Rattle.sheets_http.specs.Buffering.{room_of, stream_of};
-ghost use Rattle.sheets_cli.specs.Output.{IsAnswered};
-ghost use Rattle.sheets_cli.specs.Turns.{Responds, Closes, Answers, Refuses, ended_by, IsTurn};
+ghost use Rattle.sheets_http.specs.Buffering.{room_of, stream_of, IsRequest};
+ghost use Rattle.sheets_cli.specs.Cells.{no_cells, cells_of};
+ghost use Rattle.sheets_cli.specs.Output.{IsServed, EndsAs};
+ghost use Rattle.sheets_cli.specs.Turns.{Responds, SendsClosing, Answers, Refuses, Acts, Counts, ended_by, IsTurn, LeadsTo};
 
+use crate::cells::Sheet;
 use crate::ended::Ended;
 use crate::reply::{closing_reply, no_memory_reply, reply_to};
 use cell_value::NoMemory;
 use sheets_http::{Buffer, Duplex, HeadFault, Next, Sink, SinkFault, Wire, next_request, send_all};
 use std::alloc::Global;
 
-/// Serves a link from its requests' first byte to the conversation's end: each request is answered,
-/// in order, and a head that is refused by the closing response. At most `most` bytes are served.
+/// Serves a link from its requests' first byte to the conversation's end, on a sheet in which nothing
+/// stands at first: each request is answered, in order, and a head that is refused by the closing
+/// response. At most `most` bytes are served.
 pub fn converse<L: Duplex>(alloc: Global, link: &mut L, most: u64) -> Ended
     requires { 0 < most }
-    ensures answered { IfSome (L.left link.old) (λ bytes. IfSome (L.written link.old)
-        (λ before. IsAnswered most bytes before (L.written link.new) result)) }
+
+    // What was written, where both sides tell what they hold.
+    ensures served { IfSome (L.left link.old) (λ bytes. IfSome (L.written link.old)
+        (λ before. IsServed no_cells most bytes before (L.written link.new) result)) }
+
+    // The end is that of the stream's talk, where the source tells it.
+    ensures ends { IfSome (L.left link.old) (λ bytes. EndsAs most bytes result) }
+
+    // It doesn't give up by itself.
     ensures read { result ≡ Ended.ReadFault → Rose (L.faults link.old) (L.faults link.new) }
     ensures write { result ≡ Ended.WriteFault → Rose (L.sink_faults link.old) (L.sink_faults link.new) }
+    ensures steady_read { IsTrue (L.steady link.old) → result ≢ Ended.ReadFault }
+    ensures steady_write { IsTrue (L.sink_steady link.old) → result ≢ Ended.WriteFault }
+
+    ensures input { Counts (L.faults link.old) (L.faults link.new) (L.steady link.old) (L.steady link.new) }
+    ensures output { Counts (L.sink_faults link.old) (L.sink_faults link.new) (L.sink_steady link.old) (L.sink_steady link.new) }
     ensures references { L.references link.new ≡ L.references link.old }
 {
     match Buffer::new(alloc) {
-        Ok(mut buffer) => serve(alloc, link, &mut buffer, most),
+        Ok(mut buffer) => match Sheet::new(alloc) {
+            Ok(mut sheet) => serve(alloc, link, &mut buffer, &mut sheet, most),
+            Err(NoMemory) => Ended::NoMemory,
+        },
         Err(NoMemory) => Ended::NoMemory,
     }
 }
 
 /// Takes turns until the conversation ends.
-fn serve<L: Duplex>(alloc: Global, link: &mut L, buffer: &mut Buffer, most: u64) -> Ended
+fn serve<L: Duplex>(
+    alloc: Global,
+    link: &mut L,
+    buffer: &mut Buffer,
+    sheet: &mut Sheet,
+    most: u64,
+) -> Ended
     requires { 0 < most }
-    ensures answered { IfSome (stream_of buffer.old (L.left link.old)) (λ bytes. IfSome (L.written link.old)
-        (λ before. IsAnswered (room_of most buffer.old) bytes before (L.written link.new) result)) }
+    ensures served { IfSome (stream_of buffer.old (L.left link.old)) (λ bytes. IfSome (L.written link.old)
+        (λ before. IsServed (cells_of sheet.old) (room_of most buffer.old) bytes before (L.written link.new) result)) }
+    ensures ends { IfSome (stream_of buffer.old (L.left link.old)) (λ bytes. EndsAs (room_of most buffer.old) bytes result) }
     ensures read { result ≡ Ended.ReadFault → Rose (L.faults link.old) (L.faults link.new) }
     ensures write { result ≡ Ended.WriteFault → Rose (L.sink_faults link.old) (L.sink_faults link.new) }
+    ensures input { Counts (L.faults link.old) (L.faults link.new) (L.steady link.old) (L.steady link.new) }
+    ensures output { Counts (L.sink_faults link.old) (L.sink_faults link.new) (L.sink_steady link.old) (L.sink_steady link.new) }
     ensures references { L.references link.new ≡ L.references link.old }
 {
     loop {
-        match turn(alloc, link, buffer, most) {
+        match turn(alloc, link, buffer, sheet, most) {
             Some(ended) => return ended,
             None => {}
         }
@@ -44,22 +71,44 @@ fn serve<L: Duplex>(alloc: Global, link: &mut L, buffer: &mut Buffer, most: u64)
 }
 
 /// Answers the next request, or tells how the conversation ends.
-fn turn<L: Duplex>(alloc: Global, link: &mut L, buffer: &mut Buffer, most: u64) -> Option<Ended>
+fn turn<L: Duplex>(
+    alloc: Global,
+    link: &mut L,
+    buffer: &mut Buffer,
+    sheet: &mut Sheet,
+    most: u64,
+) -> Option<Ended>
     requires { 0 < most }
     ensures turn { IfSome (stream_of buffer.old (L.left link.old)) (λ bytes. IfSome (L.written link.old)
-        (λ before. IsTurn (room_of most buffer.old) bytes before (room_of most buffer.new)
-        (stream_of buffer.new (L.left link.new)) (L.written link.new) result)) }
+        (λ before. IsTurn (cells_of sheet.old) (room_of most buffer.old) bytes before (cells_of sheet.new)
+        (room_of most buffer.new) (stream_of buffer.new (L.left link.new)) (L.written link.new) result)) }
+    ensures leads { IfSome (stream_of buffer.old (L.left link.old)) (λ bytes. LeadsTo (room_of most buffer.old) bytes
+        (room_of most buffer.new) (stream_of buffer.new (L.left link.new)) result) }
     ensures shrinks { result ≡ None → room_of most buffer.new < room_of most buffer.old }
     ensures read { result ≡ Some Ended.ReadFault → Rose (L.faults link.old) (L.faults link.new) }
     ensures write { result ≡ Some Ended.WriteFault → Rose (L.sink_faults link.old) (L.sink_faults link.new) }
-    ensures later { L.faults link.old ≤ L.faults link.new }
-    ensures sink_later { L.sink_faults link.old ≤ L.sink_faults link.new }
+    ensures input { Counts (L.faults link.old) (L.faults link.new) (L.steady link.old) (L.steady link.new) }
+    ensures output { Counts (L.sink_faults link.old) (L.sink_faults link.new) (L.sink_steady link.old) (L.sink_steady link.new) }
     ensures references { L.references link.new ≡ L.references link.old }
 {
-    match next_request(alloc, link, buffer, most) {
-        Next::Request(request) => answer(alloc, link, &request),
+    let next = next_request(alloc, link, buffer, most);
+    act(alloc, link, sheet, next)
+}
+
+/// Does what is to be done with what comes next in the stream, and tells whether the conversation
+/// ends there.
+fn act<S: Sink>(alloc: Global, sink: &mut S, sheet: &mut Sheet, next: Next) -> Option<Ended>
+    ensures acts { Acts (cells_of sheet.old) next (cells_of sheet.new) (S.written sink.old) (S.written sink.new) result }
+    ensures goes_on { result ≡ None → IsRequest next }
+    ensures read { result ≡ Some Ended.ReadFault → next ≡ Next.ReadFault }
+    ensures write { result ≡ Some Ended.WriteFault → Rose (S.sink_faults sink.old) (S.sink_faults sink.new) }
+    ensures output { Counts (S.sink_faults sink.old) (S.sink_faults sink.new) (S.sink_steady sink.old) (S.sink_steady sink.new) }
+    ensures beside { S.sink_beside sink.new ≡ S.sink_beside sink.old }
+{
+    match next {
+        Next::Request(request) => answer(alloc, sink, sheet, &request),
         Next::End => Some(Ended::End),
-        Next::Closed(fault) => Some(close(alloc, link, fault)),
+        Next::Closed(fault) => Some(close(alloc, sink, fault)),
         Next::Truncated(count) => Some(Ended::Truncated(count)),
         Next::LongTalk => Some(Ended::LongTalk),
         Next::ReadFault => Some(Ended::ReadFault),
@@ -68,14 +117,14 @@ fn turn<L: Duplex>(alloc: Global, link: &mut L, buffer: &mut Buffer, most: u64) 
 }
 
 /// Answers a request, and tells whether the conversation ends there.
-fn answer<S: Sink>(alloc: Global, sink: &mut S, request: &Wire) -> Option<Ended>
-    ensures answers { Answers request.now (S.written sink.old) (S.written sink.new) result }
+fn answer<S: Sink>(alloc: Global, sink: &mut S, sheet: &mut Sheet, request: &Wire) -> Option<Ended>
+    ensures answers { Answers (cells_of sheet.old) request.now (cells_of sheet.new) (S.written sink.old) (S.written sink.new) result }
     ensures cause { result ≡ Some Ended.WriteFault → Rose (S.sink_faults sink.old) (S.sink_faults sink.new) }
     ensures read { result ≢ Some Ended.ReadFault }
-    ensures later { S.sink_faults sink.old ≤ S.sink_faults sink.new }
+    ensures output { Counts (S.sink_faults sink.old) (S.sink_faults sink.new) (S.sink_steady sink.old) (S.sink_steady sink.new) }
     ensures beside { S.sink_beside sink.new ≡ S.sink_beside sink.old }
 {
-    match respond(alloc, sink, request) {
+    match respond(alloc, sink, sheet, request) {
         Ok(()) if request.close => Some(Ended::Asked),
         Ok(()) => None,
         Err(fault) => Some(fault_end(fault)),
@@ -87,7 +136,7 @@ fn close<S: Sink>(alloc: Global, sink: &mut S, refused: HeadFault) -> Ended
     ensures refuses { Refuses refused (S.written sink.old) (S.written sink.new) result }
     ensures cause { result ≡ Ended.WriteFault → Rose (S.sink_faults sink.old) (S.sink_faults sink.new) }
     ensures read { result ≢ Ended.ReadFault }
-    ensures later { S.sink_faults sink.old ≤ S.sink_faults sink.new }
+    ensures output { Counts (S.sink_faults sink.old) (S.sink_faults sink.new) (S.sink_steady sink.old) (S.sink_steady sink.new) }
     ensures beside { S.sink_beside sink.new ≡ S.sink_beside sink.old }
 {
     match send_closing(alloc, sink) {
@@ -107,13 +156,18 @@ fn fault_end(fault: SinkFault) -> Ended
 }
 
 /// Sends the response to a request; where memory runs out, the constant one.
-fn respond<S: Sink>(alloc: Global, sink: &mut S, request: &Wire) -> Result<(), SinkFault>
-    ensures response { Responds request.now (S.written sink.old) (S.written sink.new) result }
+fn respond<S: Sink>(
+    alloc: Global,
+    sink: &mut S,
+    sheet: &mut Sheet,
+    request: &Wire,
+) -> Result<(), SinkFault>
+    ensures response { Responds (cells_of sheet.old) request.now (cells_of sheet.new) (S.written sink.old) (S.written sink.new) result }
     ensures cause { result ≡ Err SinkFault.Failed → Rose (S.sink_faults sink.old) (S.sink_faults sink.new) }
-    ensures later { S.sink_faults sink.old ≤ S.sink_faults sink.new }
+    ensures output { Counts (S.sink_faults sink.old) (S.sink_faults sink.new) (S.sink_steady sink.old) (S.sink_steady sink.new) }
     ensures beside { S.sink_beside sink.new ≡ S.sink_beside sink.old }
 {
-    match reply_to(alloc, request) {
+    match reply_to(alloc, sheet, request) {
         Ok(response) => send_all(sink, response.as_slice()),
         Err(NoMemory) => send_all(sink, no_memory_reply(request.close)),
     }
@@ -121,9 +175,9 @@ fn respond<S: Sink>(alloc: Global, sink: &mut S, request: &Wire) -> Result<(), S
 
 /// Sends the closing response; where memory runs out, the constant one.
 fn send_closing<S: Sink>(alloc: Global, sink: &mut S) -> Result<(), SinkFault>
-    ensures response { Closes (S.written sink.old) (S.written sink.new) result }
+    ensures response { SendsClosing (S.written sink.old) (S.written sink.new) result }
     ensures cause { result ≡ Err SinkFault.Failed → Rose (S.sink_faults sink.old) (S.sink_faults sink.new) }
-    ensures later { S.sink_faults sink.old ≤ S.sink_faults sink.new }
+    ensures output { Counts (S.sink_faults sink.old) (S.sink_faults sink.new) (S.sink_steady sink.old) (S.sink_steady sink.new) }
     ensures beside { S.sink_beside sink.new ≡ S.sink_beside sink.old }
 {
     match closing_reply(alloc) {

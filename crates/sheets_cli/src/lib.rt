@@ -2,14 +2,20 @@
 #![tactic(auto)]
 
 mod body;
+mod cells;
 mod conversation;
 mod ended;
 mod program;
 mod range;
 mod reply;
 mod report;
+mod route;
+mod shown;
 mod standard;
+mod update;
+mod values;
 
+pub use cells::Content;
 pub use conversation::converse;
 pub use ended::Ended;
 pub use program::{MOST, sheets_main};

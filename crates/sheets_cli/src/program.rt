@@ -1,7 +1,10 @@
-ghost use Rattle.std.specs.Prelude.{◌≡◌, ◌↔◌, codes, IsTrue, IfSome, string_bytes};
+ghost use Rattle.std.specs.Prelude.{◌≡◌, ◌≢◌, ◌↔◌, ◌⊎◌, ℕ, List, codes, IsTrue, IfSome, string_bytes};
+ghost use Rattle.sheets_http.specs.declared.request.Wire.{Wire};
+ghost use Rattle.sheets_http.specs.Framing.{End, truncated, long_talk, Talk};
 ghost use Rattle.sheets_http.specs.Outside.{Rose};
-ghost use Rattle.sheets_cli.specs.Output.{IsAnswered};
-ghost use Rattle.sheets_cli.specs.Program.{IsRun, status_of, Runs, Says};
+ghost use Rattle.sheets_cli.specs.Cells.{no_cells};
+ghost use Rattle.sheets_cli.specs.Output.{HasEnd, IsServed, EndsAs};
+ghost use Rattle.sheets_cli.specs.Program.{IsRun, status_of, status_at, line_of, Runs, Says};
 
 use crate::conversation::converse;
 use crate::ended::Ended;
@@ -15,7 +18,8 @@ pub const MOST: u64 = 1_099_511_627_776;
 /// The program: the words behind its name, its input, its output and the output for its faults. It
 /// answers its status.
 ///
-/// The only command is `run`: it serves one conversation over input and output.
+/// The only command is `run`: it serves one conversation over input and output, on a sheet in which
+/// nothing stands at first.
 pub fn sheets_main<R: AllocGlobal, I: Source, O: Sink>(
     rt: &R,
     words: &[String],
@@ -23,14 +27,32 @@ pub fn sheets_main<R: AllocGlobal, I: Source, O: Sink>(
     output: &mut O,
     faults: &mut O,
 ) -> u8
+    // Words that are no command.
     ensures usage { (result ≡ 2) ↔ ¬ (IsRun words.now) }
-    ensures usage_line { ¬ (IsRun words.now) → Says (O.written faults.old) (O.written faults.new) (codes "usage\n") }
+    ensures usage_line { ¬ (IsRun words.now) → Says (O.written faults.old) (O.written faults.new)
+        (O.sink_faults faults.old) (O.sink_faults faults.new)
+        (O.sink_shortages faults.old) (O.sink_shortages faults.new) (codes "usage\n") }
     ensures refused { ¬ (IsRun words.now) → O.written output.new ≡ O.written output.old }
     ensures untouched { ¬ (IsRun words.now) → I.left input.new ≡ I.left input.old }
-    ensures run { IsRun words.now → Runs (I.left input.old) (O.written output.old) (O.written output.new)
-        (O.written faults.old) (O.written faults.new) result }
+
+    // The command `run`: how it ends, what was written, and the line on the faults.
+    ensures run { IsRun words.now → (end : Ended) × Runs (I.left input.old) (O.written output.old) (O.written output.new) end result
+        × Says (O.written faults.old) (O.written faults.new) (O.sink_faults faults.old) (O.sink_faults faults.new)
+        (O.sink_shortages faults.old) (O.sink_shortages faults.new) (line_of end) }
+
+    // Where the talk of the input ends so, that is the status, unless memory ran out or a device failed.
+    ensures exactly { IsRun words.now → IfSome (I.left input.old) (λ bytes. (requests : List Wire) → (end : End)
+        → Talk 1099511627776 bytes requests end
+        → (result ≡ status_at end) ⊎ ((result ≡ 3) ⊎ (Rose (I.faults input.old) (I.faults input.new)
+        ⊎ Rose (O.sink_faults output.old) (O.sink_faults output.new)))) }
+
+    // Each status has its cause.
     ensures read { result ≡ 1 → Rose (I.faults input.old) (I.faults input.new) }
     ensures write { result ≡ 4 → Rose (O.sink_faults output.old) (O.sink_faults output.new) }
+    ensures cut { result ≡ 5 → IfSome (I.left input.old) (λ bytes. (count : ℕ) × HasEnd 1099511627776 bytes (truncated count)) }
+    ensures long { result ≡ 8 → IfSome (I.left input.old) (λ bytes. HasEnd 1099511627776 bytes long_talk) }
+    ensures steady_read { IsTrue (I.steady input.old) → result ≢ 1 }
+    ensures steady_write { IsTrue (O.sink_steady output.old) → result ≢ 4 }
 {
     if is_run(words) {
         run(rt, input, output, faults)
@@ -64,10 +86,13 @@ fn run<R: AllocGlobal, I: Source, O: Sink>(
     output: &mut O,
     faults: &mut O,
 ) -> u8
-    ensures run { Runs (I.left input.old) (O.written output.old) (O.written output.new)
-        (O.written faults.old) (O.written faults.new) result }
+    ensures run { (end : Ended) × Runs (I.left input.old) (O.written output.old) (O.written output.new) end result
+        × Says (O.written faults.old) (O.written faults.new) (O.sink_faults faults.old) (O.sink_faults faults.new)
+        (O.sink_shortages faults.old) (O.sink_shortages faults.new) (line_of end) }
     ensures read { result ≡ 1 → Rose (I.faults input.old) (I.faults input.new) }
     ensures write { result ≡ 4 → Rose (O.sink_faults output.old) (O.sink_faults output.new) }
+    ensures steady_read { IsTrue (I.steady input.old) → result ≢ 1 }
+    ensures steady_write { IsTrue (O.sink_steady output.old) → result ≢ 4 }
 {
     let ended = converse_over(rt.alloc(), input, output);
     report(faults, ended);
@@ -76,10 +101,13 @@ fn run<R: AllocGlobal, I: Source, O: Sink>(
 
 /// Serves one conversation over input and output.
 fn converse_over<I: Source, O: Sink>(alloc: Global, input: &mut I, output: &mut O) -> Ended
-    ensures answered { IfSome (I.left input.old) (λ bytes. IfSome (O.written output.old)
-        (λ before. IsAnswered MOST bytes before (O.written output.new) result)) }
+    ensures served { IfSome (I.left input.old) (λ bytes. IfSome (O.written output.old)
+        (λ before. IsServed no_cells 1099511627776 bytes before (O.written output.new) result)) }
+    ensures ends { IfSome (I.left input.old) (λ bytes. EndsAs 1099511627776 bytes result) }
     ensures read { result ≡ Ended.ReadFault → Rose (I.faults input.old) (I.faults input.new) }
     ensures write { result ≡ Ended.WriteFault → Rose (O.sink_faults output.old) (O.sink_faults output.new) }
+    ensures steady_read { IsTrue (I.steady input.old) → result ≢ Ended.ReadFault }
+    ensures steady_write { IsTrue (O.sink_steady output.old) → result ≢ Ended.WriteFault }
 {
     converse(alloc, &mut Link { input, output }, MOST)
 }

@@ -1,5 +1,6 @@
-ghost use Rattle.std.specs.Prelude.{◌++◌, codes};
+ghost use Rattle.std.specs.Prelude.{◌≡◌, ◌≤◌, ◌++◌, codes};
 ghost use Rattle.std.specs.Fmt.{decimal};
+ghost use Rattle.sheets_http.specs.Outside.{Rose};
 ghost use Rattle.sheets_cli.specs.Turns.{Sends};
 ghost use Rattle.sheets_cli.specs.Program.{truncated_line, line_of, Says};
 
@@ -8,14 +9,16 @@ use sheets_http::{Sink, SinkFault, send_all};
 
 /// Writes a line; where that fails, it is cut.
 pub(crate) fn say<S: Sink>(faults: &mut S, line: &[u8])
-    ensures { Says (S.written faults.old) (S.written faults.new) line.now }
+    ensures { Says (S.written faults.old) (S.written faults.new) (S.sink_faults faults.old) (S.sink_faults faults.new)
+        (S.sink_shortages faults.old) (S.sink_shortages faults.new) line.now }
 {
     let _ = send_all(faults, line);
 }
 
 /// Writes the line on the faults of a conversation that ended so; where that fails, it is cut.
 pub(crate) fn report<S: Sink>(faults: &mut S, ended: Ended)
-    ensures { Says (S.written faults.old) (S.written faults.new) (line_of ended) }
+    ensures { Says (S.written faults.old) (S.written faults.new) (S.sink_faults faults.old) (S.sink_faults faults.new)
+        (S.sink_shortages faults.old) (S.sink_shortages faults.new) (line_of ended) }
 {
     match ended {
         Ended::End | Ended::Asked | Ended::Closed(_) => {}
@@ -29,13 +32,16 @@ pub(crate) fn report<S: Sink>(faults: &mut S, ended: Ended)
 
 /// Writes the line for a stream that ended inside a request; where that fails, it is cut.
 fn say_truncated<S: Sink>(faults: &mut S, count: u64)
-    ensures { Says (S.written faults.old) (S.written faults.new) (truncated_line count) }
+    ensures { Says (S.written faults.old) (S.written faults.new) (S.sink_faults faults.old) (S.sink_faults faults.new)
+        (S.sink_shortages faults.old) (S.sink_shortages faults.new) (truncated_line count) }
 {
     let _ = send_truncated(faults, count);
 }
 
 fn send_truncated<S: Sink>(faults: &mut S, count: u64) -> Result<(), SinkFault>
-    ensures { Sends (S.written faults.old) (S.written faults.new) (truncated_line count) result }
+    ensures sends { Sends (S.written faults.old) (S.written faults.new) (truncated_line count) result }
+    ensures cause { result ≡ Err SinkFault.Failed → Rose (S.sink_faults faults.old) (S.sink_faults faults.new) }
+    ensures short { result ≡ Err SinkFault.NoMemory → Rose (S.sink_shortages faults.old) (S.sink_shortages faults.new) }
 {
     match send_all(faults, b"truncated ") {
         Ok(()) => send_count(faults, count),
@@ -45,7 +51,9 @@ fn send_truncated<S: Sink>(faults: &mut S, count: u64) -> Result<(), SinkFault>
 
 /// Sends a number in decimal, and a line feed.
 fn send_count<S: Sink>(faults: &mut S, count: u64) -> Result<(), SinkFault>
-    ensures { Sends (S.written faults.old) (S.written faults.new) (decimal count ++ codes "\n") result }
+    ensures sends { Sends (S.written faults.old) (S.written faults.new) (decimal count ++ codes "\n") result }
+    ensures cause { result ≡ Err SinkFault.Failed → Rose (S.sink_faults faults.old) (S.sink_faults faults.new) }
+    ensures short { result ≡ Err SinkFault.NoMemory → Rose (S.sink_shortages faults.old) (S.sink_shortages faults.new) }
 {
     let mut digits = itoa::Buffer::new();
     match send_all(faults, digits.format(count).as_bytes()) {

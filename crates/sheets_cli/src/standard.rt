@@ -85,6 +85,8 @@ impl<A: Write, B: Write> Sink for Output<A, B> {
 
     ghost sink_faults = { λ output. output.faults };
 
+    ghost sink_shortages = { λ _. 0 };
+
     ghost sink_steady = { λ _. false };
 
     ghost sink_beside = { λ _. no_side };

@@ -1,5 +1,5 @@
 -- What a turn of reading answers is what comes next in the stream.
-use Rattle.std.proofs.Common.{◌≡◌, ℕ, ◌+◌, ◌-◌, ◌<◌, ◌≤◌, Bool, true, false, List, [], ◌∷◌, ◌++◌, length, take, drop, refl, sym, ap, ◌∙◌, subst, arith, append-nil}
+use Rattle.std.proofs.Common.{◌≡◌, ℕ, ◌+◌, ◌-◌, ◌<◌, ◌≤◌, inl, inr, Bool, true, false, List, [], ◌∷◌, ◌++◌, length, take, drop, refl, sym, ap, ◌∙◌, subst, arith, append-nil}
 use Rattle.std.specs.Prelude.{Option, Some, None, Result, Ok, Err, IfSome, map, is_none, unwrap_or, nat_lt, ◌||◌, ◌&&◌, if◌then◌else◌, codes}
 use Rattle.std.proofs.lemmas.Bool.{ltb-false}
 use Rattle.std.proofs.lemmas.List.{length-append, length-drop, length-take, take-take, drop-take}
@@ -11,18 +11,24 @@ use Rattle.sheets_http.specs.declared.request.HeadFault.TheVariants.{BadHead, No
 use Rattle.sheets_http.specs.declared.request.Next.TheVariants as next
 use Rattle.sheets_http.specs.declared.block.Heading.{Heading}
 use Rattle.sheets_http.specs.declared.sight.Sight.TheVariants as sight
-use Rattle.sheets_http.specs.Heads.{Fields, skip_breaks, closes, has_field, sends_body, content_length, body_limit, framed, body_length}
+use Rattle.sheets_http.specs.Outside.{Rose}
+use Rattle.sheets_http.specs.Heads.{Fields, skip_breaks, asks_to_close, has_field, sends_body, content_length, body_limit, framed, body_length}
 use Rattle.sheets_http.specs.declared.request.Next.{Next}
 use Rattle.sheets_http.specs.declared.head.Standing.TheVariants.{Whole}
-use Rattle.sheets_http.specs.Framing.{refused_head, unfinished, IsFront, wire_of, end_of, IsNext, told_request, told_end}
-use Rattle.sheets_http.specs.Buffering.{Held, room_of, stream_of, IsSight, IsAnswer, end_answer}
+use Rattle.sheets_http.specs.Framing.{refused_head, unfinished, IsFront, wire_of, end_of, ended, closed, truncated, long_talk, IsNext, Told, told_request, told_end}
+use Rattle.sheets_http.specs.Buffering.{Held, room_of, stream_of, IsSight, IsAnswer, IsTold, IsExact, end_answer}
 use Rattle.sheets_http.proofs.HeadLemmas.{settled_early}
+use Rattle.sheets_http.proofs.LawLemmas.{one_next}
 use Rattle.sheets_http.proofs.TalkLemmas.{next_refused, next_whole, unfinished_body, next_long, next_end, stands_with_more}
 
 -- what is answered, where the source tells
 abbrev pub Answers : ℕ → Held → Option (List ℕ) → ℕ → Option (List ℕ) → Next → Type 0
 Answers most held left room_after stream_after answer =
     IfSome (stream_of held left) (λ bytes. IsAnswer (room_of most held) bytes room_after stream_after answer)
+
+-- the bound as the code counts what is left of it
+pub room_is : (most room used : ℕ) (held : Held) → room ≡ most - used → used ≡ held.used → room ≡ room_of most held
+room_is most room used held counted same = counted ∙ ap (λ u. most - u) same
 
 pub answer_refused : (most : ℕ) (held : Held) (left stream_after : Option (List ℕ)) (room room_after : ℕ)
     (fault : HeadFault) → room ≡ room_of most held → IsFront (take room held.pending) (refused_head fault)
@@ -38,7 +44,7 @@ answer_refused most held (Some rest) stream_after room room_after fault e is =
 body_is_short : (method : List ℕ) (minor : ℕ) (fields : Fields) (size : ℕ)
     → body_length method minor fields ≡ Ok size → size ≤ body_limit
 body_is_short method minor fields size e =
-    outer (closes minor fields) (content_length fields) e
+    outer (asks_to_close minor fields) (content_length fields) e
   where
     inner : (x y : Bool) (length : ℕ) → nat_lt body_limit length ≡ y
         → (if x then Err NoLength else (if y then Err BodyLong else Ok length)) ≡ Ok size → size ≤ body_limit
@@ -222,3 +228,51 @@ body_cut most old mid after left left_mid stream_after room_after n heading stre
     (body_is_open (take (room_of most old) mid.pending) n heading is short))
     (omega (arith, rooms, inside)) no_more) in
     subst (λ (t : List ℕ). Answers most old left room_after stream_after (end_answer (skip_breaks t))) (sym same) ends
+
+-- ---- exactly what comes next
+
+-- what is answered is what comes next, since there is one such thing
+exact_there : (room : ℕ) (bytes : List ℕ) (room_after : ℕ) (stream_after : Option (List ℕ)) (faults faults_after : ℕ)
+    (answer : Next) → IsAnswer room bytes room_after stream_after answer
+    → (answer ≡ next.ReadFault → Rose faults faults_after) → IsExact room bytes faults faults_after answer
+exact_there room bytes room_after stream_after faults faults_after (next.Request wire) (rest, is, after, room_is) fault told tells =
+    inl (subst (λ (t : Told). IsTold t (next.Request wire))
+    (one_next room bytes (told_request wire rest) told is tells) refl)
+exact_there room bytes room_after stream_after faults faults_after next.End is fault told tells =
+    inl (subst (λ (t : Told). IsTold t next.End) (one_next room bytes (told_end ended) told is tells) refl)
+exact_there room bytes room_after stream_after faults faults_after (next.Closed why) is fault told tells =
+    inl (subst (λ (t : Told). IsTold t (next.Closed why))
+    (one_next room bytes (told_end (closed why)) told is tells) refl)
+exact_there room bytes room_after stream_after faults faults_after (next.Truncated count) is fault told tells =
+    inl (subst (λ (t : Told). IsTold t (next.Truncated count))
+    (one_next room bytes (told_end (truncated count)) told is tells) refl)
+exact_there room bytes room_after stream_after faults faults_after next.LongTalk is fault told tells =
+    inl (subst (λ (t : Told). IsTold t next.LongTalk) (one_next room bytes (told_end long_talk) told is tells) refl)
+exact_there room bytes room_after stream_after faults faults_after next.ReadFault is fault told tells =
+    inr (inr (fault refl))
+exact_there room bytes room_after stream_after faults faults_after next.NoMemory is fault told tells = inr (inl refl)
+
+-- the same where the source tells
+pub exact_answer : (most : ℕ) (held : Held) (left : Option (List ℕ)) (room_after : ℕ) (stream_after : Option (List ℕ))
+    (faults faults_after : ℕ) (answer : Next) → Answers most held left room_after stream_after answer
+    → (answer ≡ next.ReadFault → Rose faults faults_after)
+    → IfSome (stream_of held left) (λ bytes. IsExact (room_of most held) bytes faults faults_after answer)
+exact_answer most held None room_after stream_after faults faults_after answer is fault = tt
+exact_answer most held (Some rest) room_after stream_after faults faults_after answer is fault =
+    exact_there (room_of most held) (held.pending ++ rest) room_after stream_after faults faults_after answer is fault
+
+-- and after it was read on
+pub exact_on_stream : (most : ℕ) (old mid : Held) (left left_mid : Option (List ℕ)) (room_after : ℕ)
+    (stream_after : Option (List ℕ)) (faults faults_mid faults_after : ℕ) (answer : Next)
+    → stream_of old left ≡ stream_of mid left_mid → mid.used ≡ old.used → faults ≤ faults_mid
+    → Answers most mid left_mid room_after stream_after answer
+    → (answer ≡ next.ReadFault → Rose faults_mid faults_after)
+    → IfSome (stream_of old left) (λ bytes. IsExact (room_of most old) bytes faults faults_after answer)
+exact_on_stream most old mid left left_mid room_after stream_after faults faults_mid faults_after answer stream used later is fault =
+    exact_answer most old left room_after stream_after faults faults_after answer
+    (on_stream most old mid left left_mid room_after stream_after answer stream used is)
+    (λ e. rose_before (fault e))
+  where
+    rose_before : Rose faults_mid faults_after → Rose faults faults_after
+    rose_before (inl more) = inl (omega (arith, later, more))
+    rose_before (inr last) = inr last

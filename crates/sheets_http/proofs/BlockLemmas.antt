@@ -18,7 +18,7 @@ use Rattle.sheets_http.proofs.HeadLemmas.{line_feeds-append}
 
 -- the last byte is an LF
 abbrev EndsInFeed : List ℕ → Type 0
-EndsInFeed bytes = (front : List ℕ) × (bytes ≡ front ++ 10 ∷ [])
+EndsInFeed bytes = (line : List ℕ) × (bytes ≡ line ++ 10 ∷ [])
 
 end_feed : (e : LineEnd) → EndsInFeed (print_end e)
 end_feed crlf = (13 ∷ [], refl)
@@ -120,11 +120,11 @@ head_is_block block h rest b reads =
           | inl some ↦
               let shorter : length (print_request h) < length block =
               omega (arith, ap length reads.1, length-append (print_request h) rest) in
-              let front : take (length (print_request h)) block ≡ print_request h =
+              let printed : take (length (print_request h)) block ≡ print_request h =
               ap (take (length (print_request h))) reads.1
               ∙ take_at (print_request h) rest (length (print_request h)) refl in
               let open_end : ends_with_empty_line (print_request h) ≡ false =
-              ap ends_with_empty_line (sym front) ∙ b.no_end (length (print_request h)) shorter in
+              ap ends_with_empty_line (sym printed) ∙ b.no_end (length (print_request h)) shorter in
               let wrong : true ≡ false = sym (printed_ends h) ∙ open_end in
               cc
           | inr few ↦ nil_from_length rest (omega arith)

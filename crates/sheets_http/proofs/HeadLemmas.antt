@@ -205,19 +205,19 @@ look_after_is look bytes l growing more =
         let after : drop (look.skipped + 1) (take (look.seen + 1) bytes) ≡ [] =
         drop_all (look.skipped + 1) (take (look.seen + 1) bytes)
         (omega (arith, length-take-le (look.seen + 1) bytes (omega arith))) in
-        let front : skip_breaks (take (look.seen + 1) bytes) ≡ [] =
+        let passed : skip_breaks (take (look.seen + 1) bytes) ≡ [] =
         ap skip_breaks step ∙ skip_breaks-append_nil s (b ∷ []) (l.block ∙ rest) ∙ skip_breaks_break b parts.1 in
         record {
           within = omega arith;
           ordered = omega arith;
-          block = front ∙ sym after;
+          block = passed ∙ sym after;
           feeds = l.feeds ∙ ap line_feeds rest ∙ sym (ap line_feeds after);
           few = l.few;
           no_end = λ m below. absurd (omega arith);
           before = before;
         }
     go false stands =
-        let front : skip_breaks (take (look.seen + 1) bytes) ≡ drop look.skipped (take (look.seen + 1) bytes) =
+        let passed : skip_breaks (take (look.seen + 1) bytes) ≡ drop look.skipped (take (look.seen + 1) bytes) =
         rw step (skip_breaks-more s b look.skipped (omega (arith, long)) l.block
         (rw long stands)) in
         let lines : line_feeds (drop look.skipped (take (look.seen + 1) bytes)) ≡ look.feeds + line_feeds (b ∷ []) =
@@ -231,7 +231,7 @@ look_after_is look bytes l growing more =
         record {
           within = omega arith;
           ordered = omega arith;
-          block = front;
+          block = passed;
           feeds = sym lines;
           few = omega arith;
           no_end = no_end;

@@ -1,18 +1,16 @@
 -- The laws of a conversation.
-use Rattle.std.proofs.Common.{◌≡◌, ◌≢◌, ℕ, zero, suc, ◌+◌, ◌-◌, ◌<◌, ◌≤◌, inl, inr, Bool, true, false, List, [], ◌∷◌, ◌++◌, length, take, drop, refl, sym, ap, ◌∙◌, subst, arith, append-nil, append_assoc}
-use Rattle.std.specs.Prelude.{Result, Ok, Err, nat_le, if◌then◌else◌, MatchBool}
+use Rattle.std.proofs.Common.{◌≡◌, ◌≢◌, ℕ, ◌-◌, inl, inr, Bool, true, false, List, [], ◌∷◌, ◌++◌, length, take, drop, refl, sym, ap, ◌∙◌, subst, arith, append-nil, append_assoc}
+use Rattle.std.specs.Prelude.{MatchBool}
 use Rattle.std.proofs.lemmas.Bool.{cases_lt}
-use Rattle.std.proofs.lemmas.List.{length-append, length-take, take-append-drop, drop-drop, drop_all}
+use Rattle.std.proofs.lemmas.List.{length-append, take-append-drop, drop_all}
 use Rattle.httparse.specs.Grammar.{RequestHead}
 use Rattle.httparse.proofs.GrammarLemmas.{request_unique}
 use Rattle.sheets_http.specs.declared.request.Wire.{Wire}
-use Rattle.sheets_http.specs.declared.request.HeadFault.{HeadFault}
-use Rattle.sheets_http.specs.declared.request.HeadFault.TheVariants.{HeadLong, BadHead}
 use Rattle.sheets_http.specs.declared.head.Standing.{Standing}
 use Rattle.sheets_http.specs.declared.head.Standing.TheVariants.{Growing, Whole, TooLong}
-use Rattle.sheets_http.specs.Heads.{skip_breaks, is_too_long, standing, StandsAt, IsUnsettled, body_length_of}
-use Rattle.sheets_http.specs.Framing.{Front, whole_request, refused_head, unfinished, wire_of, behind, IsBehindBlock, IsFront, growing, too_long, block, End, asked, closed, long_talk, end_of, Told, told_request, told_end, told_of, IsNext, Talk}
-use Rattle.sheets_http.specs.Laws.{HasOneTalk, KeepsRequests, TakesBytes}
+use Rattle.sheets_http.specs.Heads.{skip_breaks, standing, StandsAt, IsUnsettled, body_length_of}
+use Rattle.sheets_http.specs.Framing.{Front, whole_request, refused_head, unfinished, behind, IsBehindBlock, IsFront, growing, too_long, block, End, asked, Told, told_request, told_end, told_of, IsNext, Talk}
+use Rattle.sheets_http.specs.Laws.{HasOneTalk, KeepsRequests}
 use Rattle.sheets_http.proofs.ListLemmas.{drop-append}
 use Rattle.sheets_http.proofs.TalkLemmas.{settled_next}
 use Rattle.sheets_http.proofs.FrontLemmas.{whole_settles, too_long_settles}
@@ -36,6 +34,9 @@ one_place bytes n m how who settles settles' s t =
       ]
     ]
 
+too_long_is_not_whole : TooLong ≢ Whole
+too_long_is_not_whole e = cc
+
 one_behind : (read after : List ℕ) (f g : Front) → IsBehindBlock read after f → IsBehindBlock read after g → f ≡ g
 one_behind read after f g (inl (h, reads, is)) (inl (k, reads', is')) =
     let same = (request_unique read h k [] [] reads reads').0 in
@@ -55,14 +56,12 @@ one_front bytes f g (too_long n s is) (growing none is') =
 one_front bytes f g (too_long n s is) (too_long m t is') = is ∙ sym is'
 one_front bytes f g (too_long n s is) (block m t behind_it) =
     let same = one_place bytes n m TooLong Whole too_long_settles whole_settles s t in
-    let wrong : TooLong ≡ Whole = sym s.here ∙ ap (λ k. standing (take k bytes)) same ∙ t.here in
-    cc
+    absurd (too_long_is_not_whole (sym s.here ∙ ap (λ k. standing (take k bytes)) same ∙ t.here))
 one_front bytes f g (block n s behind_it) (growing none is') =
     absurd (settled_somewhere bytes n Whole whole_settles s none)
 one_front bytes f g (block n s behind_it) (too_long m t is') =
     let same = one_place bytes m n TooLong Whole too_long_settles whole_settles t s in
-    let wrong : TooLong ≡ Whole = sym t.here ∙ ap (λ k. standing (take k bytes)) same ∙ s.here in
-    cc
+    absurd (too_long_is_not_whole (sym t.here ∙ ap (λ k. standing (take k bytes)) same ∙ s.here))
 one_front bytes f g (block n s behind_it) (block m t behind_it') =
     let same = one_place bytes n m Whole Whole whole_settles whole_settles s t in
     one_behind (skip_breaks (take m bytes)) (drop m bytes) f g
@@ -71,6 +70,10 @@ one_front bytes f g (block n s behind_it) (block m t behind_it') =
 pub one_next : (room : ℕ) (bytes : List ℕ) (t u : Told) → IsNext room bytes t → IsNext room bytes u → t ≡ u
 one_next room bytes t u (f, is, told) (g, is', told') =
     told ∙ ap (told_of room bytes) (one_front (take room bytes) f g is is') ∙ sym told'
+
+-- a request is no end
+pub request_is_no_end : {wire : Wire} {rest : List ℕ} {end : End} → told_request wire rest ≡ told_end end → ⊥
+request_is_no_end e = cc
 
 -- ---- one talk
 
@@ -88,11 +91,9 @@ one_talk room bytes [] [] end other t u =
     let same : told_end end ≡ told_end other = one_next room bytes (told_end end) (told_end other) t u in
     (refl, cc)
 one_talk room bytes [] (w ∷ others) end other t (rest, is, u) =
-    let wrong : told_end end ≡ told_request w rest = one_next room bytes (told_end end) (told_request w rest) t is in
-    cc
+    absurd (request_is_no_end (one_next room bytes (told_request w rest) (told_end end) is t))
 one_talk room bytes (w ∷ wires) [] end other (rest, is, t) u =
-    let wrong : told_request w rest ≡ told_end other = one_next room bytes (told_request w rest) (told_end other) is u in
-    cc
+    absurd (request_is_no_end (one_next room bytes (told_request w rest) (told_end other) is u))
 one_talk room bytes (w ∷ wires) (v ∷ others) end other (rest, is, t) (rest', is', u) =
     let same : told_request v rest' ≡ told_request w rest =
     one_next room bytes (told_request v rest') (told_request w rest) is' is in
@@ -111,9 +112,9 @@ one_talk room bytes (w ∷ wires) (v ∷ others) end other (rest, is, t) (rest',
 -- ---- a longer stream
 
 -- the rest behind a request goes on in a longer stream
-rest_goes_on : (room : ℕ) (bytes more front : List ℕ)
-    → (front ++ take (room - length bytes) more) ++ drop room (bytes ++ more) ≡ (front ++ drop room bytes) ++ more
-rest_goes_on room bytes more front =
+rest_goes_on : (room : ℕ) (bytes more near : List ℕ)
+    → (near ++ take (room - length bytes) more) ++ drop room (bytes ++ more) ≡ (near ++ drop room bytes) ++ more
+rest_goes_on room bytes more near =
     rw (drop-append room bytes more) (
     elim (cases_lt room (length bytes)) [
       | inl inside ↦
@@ -121,7 +122,7 @@ rest_goes_on room bytes more front =
           rw none (simp (append_assoc, append-nil))
       | inr past ↦
           rw (drop_all room bytes past) (simp (append_assoc, append-nil)
-          (ap (λ (t : List ℕ). front ++ t) (take-append-drop (room - length bytes) more)))
+          (ap (λ (t : List ℕ). near ++ t) (take-append-drop (room - length bytes) more)))
     ]
     )
 
@@ -134,12 +135,8 @@ request_stays room bytes more rest wire (whole_request w r, is, told) =
     subst (λ (t : List ℕ). IsNext room (bytes ++ more) (told_request w t)) (rest_goes_on room bytes more r)
     (settled_next room bytes more (whole_request w r) tt is)
     )
-request_stays room bytes more rest wire (refused_head fault, is, told) =
-    let wrong : told_request wire rest ≡ told_end (closed fault) = told in cc
-request_stays room bytes more rest wire (unfinished, is, told) =
-    let wrong : told_request wire rest
-    ≡ told_end (if nat_le room (length bytes) then long_talk else end_of (skip_breaks bytes)) = told in
-    cc
+request_stays room bytes more rest wire (refused_head fault, is, told) = absurd (request_is_no_end told)
+request_stays room bytes more rest wire (unfinished, is, told) = absurd (request_is_no_end told)
 
 keeps_on : (close : Bool) (room : ℕ) (rest more : List ℕ) (wires others : List Wire) (end other : End)
     → MatchBool close ((wires ≡ []) × (end ≡ asked)) (Talk room rest wires end)
@@ -155,9 +152,7 @@ pub longer : KeepsRequests
 longer room bytes more [] others end other t u = (others, refl)
 longer room bytes more (w ∷ wires) [] end other (rest, is, t) u =
     let stays = request_stays room bytes more rest w is in
-    let wrong : told_request w (rest ++ more) ≡ told_end other =
-    one_next room (bytes ++ more) (told_request w (rest ++ more)) (told_end other) stays u in
-    cc
+    absurd (request_is_no_end (one_next room (bytes ++ more) (told_request w (rest ++ more)) (told_end other) stays u))
 longer room bytes more (w ∷ wires) (v ∷ others) end other (rest, is, t) (rest', is', u) =
     let stays = request_stays room bytes more rest w is in
     let same : told_request v rest' ≡ told_request w (rest ++ more) =
@@ -177,63 +172,3 @@ longer room bytes more (w ∷ wires) (v ∷ others) end other (rest, is, t) (res
     (λ t u. longer left rest more wires others end other t u) in
     let later : others ≡ wires ++ rests.0 = rests.1 in
     (rests.0, cc)
-
--- ---- a part of the stream
-
--- what stands behind a request is the end of what stands behind its head
-behind_ends : (size_or : Result ℕ HeadFault) (h : RequestHead) (after rest : List ℕ) (wire : Wire)
-    → whole_request wire rest ≡ behind size_or h after → (size : ℕ) × (rest ≡ drop size after)
-behind_ends (Err fault) h after rest wire e =
-    let wrong : whole_request wire rest ≡ refused_head fault = e in cc
-behind_ends (Ok size) h after rest wire e = go (nat_le size (length after)) e
-  where
-    go : (x : Bool) → whole_request wire rest
-        ≡ (if x then whole_request (wire_of h (take size after)) (drop size after) else unfinished)
-        → (size : ℕ) × (rest ≡ drop size after)
-    go true e =
-        let same : whole_request wire rest ≡ whole_request (wire_of h (take size after)) (drop size after) = e in
-        (size, cc)
-    go false e = let wrong : whole_request wire rest ≡ unfinished = e in cc
-
--- a whole head has bytes
-whole_has_bytes : (bytes : List ℕ) (n : ℕ) → StandsAt bytes n Whole → 0 < n
-unfolding is_too_long
-whole_has_bytes bytes zero s = let wrong : Growing ≡ Whole = s.here in cc
-whole_has_bytes bytes (suc n) s = omega arith
-
-cut : (near rest : List ℕ) (n size : ℕ) → 0 < n → n ≤ length near → rest ≡ drop size (drop n near)
-    → (used : List ℕ) × (0 < length used) × (near ≡ used ++ rest)
-cut near rest n size some within e = (
-  take (n + size) near,
-  omega (arith, length-take (n + size) near, some, within),
-  sym (take-append-drop (n + size) near)
-      ∙ ap (λ (t : List ℕ). take (n + size) near ++ t) (sym (e ∙ drop-drop size n near)),
-)
-
-front_ends : (near rest : List ℕ) (wire : Wire) → IsFront near (whole_request wire rest)
-    → (used : List ℕ) × (0 < length used) × (near ≡ used ++ rest)
-front_ends near rest wire (growing none e) = let wrong : whole_request wire rest ≡ unfinished = e in cc
-front_ends near rest wire (too_long n s e) = let wrong : whole_request wire rest ≡ refused_head HeadLong = e in cc
-front_ends near rest wire (block n s (inl (h, reads, e))) =
-    let end = behind_ends (body_length_of h) h (drop n near) rest wire e in
-    cut near rest n end.0 (whole_has_bytes near n s) s.within end.1
-front_ends near rest wire (block n s (inr (none, e))) =
-    let wrong : whole_request wire rest ≡ refused_head BadHead = e in cc
-
-pub parts : TakesBytes
-parts room bytes rest wire (whole_request w r, is, told) =
-    let found = front_ends (take room bytes) r w is in
-    let behind_it : rest ≡ r ++ drop room bytes = cc in (
-      found.0,
-      found.1,
-      sym (take-append-drop room bytes)
-          ∙ ap (λ (t : List ℕ). t ++ drop room bytes) found.2
-          ∙ append_assoc found.0 r (drop room bytes)
-          ∙ ap (λ (t : List ℕ). found.0 ++ t) (sym behind_it),
-    )
-parts room bytes rest wire (refused_head fault, is, told) =
-    let wrong : told_request wire rest ≡ told_end (closed fault) = told in cc
-parts room bytes rest wire (unfinished, is, told) =
-    let wrong : told_request wire rest
-    ≡ told_end (if nat_le room (length bytes) then long_talk else end_of (skip_breaks bytes)) = told in
-    cc

@@ -6,3 +6,4 @@ pub mod TalkLemmas
 pub mod AnswerLemmas
 pub mod OutputLemmas
 pub mod LawLemmas
+pub mod PartLemmas

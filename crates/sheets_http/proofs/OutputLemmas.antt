@@ -6,7 +6,7 @@ use Rattle.std.proofs.lemmas.List.{take_rest}
 use Rattle.sheets_http.specs.declared.outside.SinkFault.{SinkFault}
 use Rattle.sheets_http.specs.declared.outside.SinkFault.TheVariants as fault
 use Rattle.sheets_http.specs.Outside.{Takes, TakesSome}
-use Rattle.sheets_http.specs.Responses.{phrase_of, closing, text_of_response}
+use Rattle.sheets_http.specs.Responses.{phrase_of, connection_line, text_of_response}
 
 -- ---- a response
 
@@ -28,32 +28,32 @@ behind_status : (a b c d rest : List ℕ) → (a ++ b ++ c ++ d) ++ rest ≡ a +
 behind_status a b c d rest = simp append_assoc
 
 put_together : (close : Bool) (status : ℕ) (phrase body : List ℕ) → phrase ≡ phrase_of status
-    → formatted status phrase (length body) (closing close []) ++ body ≡ text_of_response status close body
+    → formatted status phrase (length body) (connection_line close []) ++ body ≡ text_of_response status close body
 put_together close status phrase body p =
     rw p (
     behind_pieces (codes "HTTP/1.1 ") (decimal status) (codes " ") (phrase_of status)
     (codes "\r\nContent-Type: application/json; charset=UTF-8\r\nContent-Length: ") (decimal (length body))
-    (codes "\r\n") (closing close []) (codes "\r\n") body
+    (codes "\r\n") (connection_line close []) (codes "\r\n") body
     ∙ ap (λ (t : List ℕ). codes "HTTP/1.1 " ++ (decimal status ++ (codes " " ++ (phrase_of status
     ++ (codes "\r\nContent-Type: application/json; charset=UTF-8\r\nContent-Length: "
     ++ (decimal (length body) ++ (codes "\r\n" ++ t))))))) (closed_line close body)
     ∙ ap (λ (t : List ℕ). codes "HTTP/1.1 " ++ (decimal status ++ (codes " " ++ (phrase_of status
     ++ (codes "\r\nContent-Type: application/json; charset=UTF-8\r\n" ++ t)))))
     (sym (append_assoc (codes "Content-Length: ") (decimal (length body))
-    (codes "\r\n" ++ closing close (13 ∷ 10 ∷ body))))
+    (codes "\r\n" ++ connection_line close (13 ∷ 10 ∷ body))))
     ∙ sym (behind_status (codes "HTTP/1.1 ") (decimal status) (codes " ") (phrase_of status)
     (13 ∷ 10 ∷ (codes "Content-Type: application/json; charset=UTF-8" ++ 13 ∷ 10 ∷
-    ((codes "Content-Length: " ++ decimal (length body)) ++ 13 ∷ 10 ∷ closing close (13 ∷ 10 ∷ body)))))
+    ((codes "Content-Length: " ++ decimal (length body)) ++ 13 ∷ 10 ∷ connection_line close (13 ∷ 10 ∷ body)))))
     )
   where
     closed_line : (close : Bool) (body : List ℕ)
-        → closing close [] ++ (codes "\r\n" ++ body) ≡ closing close (13 ∷ 10 ∷ body)
+        → connection_line close [] ++ (codes "\r\n" ++ body) ≡ connection_line close (13 ∷ 10 ∷ body)
     closed_line true body = refl
     closed_line false body = refl
 
 -- the head and the body are the text
 pub whole_text : (close : Bool) (status : ℕ) (phrase close_line head body text : List ℕ)
-    → phrase ≡ phrase_of status → close_line ≡ closing close []
+    → phrase ≡ phrase_of status → close_line ≡ connection_line close []
     → head ≡ formatted status phrase (length body) close_line → text ≡ head ++ body
     → text ≡ text_of_response status close body
 whole_text close status phrase close_line head body text p l h t =

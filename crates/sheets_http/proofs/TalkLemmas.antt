@@ -100,12 +100,12 @@ rest_is : (room : ℕ) (pending rest : List ℕ) (n : ℕ) → n ≤ length (tak
     ≡ drop n pending ++ rest
 rest_is room pending rest n near =
     let short : n ≤ length pending = omega (arith, near, length-take room pending) in
-    let front : n ≤ length (take room (pending ++ rest)) =
+    let inside : n ≤ length (take room (pending ++ rest)) =
     omega (arith, near, length-take room pending, length-take room (pending ++ rest), length-append pending rest) in
     ap (λ (t : List ℕ). t ++ drop room (pending ++ rest))
     (sym (drop-append-le n (take room pending) (take (room - length pending) rest) near)
     ∙ ap (drop n) (sym (take-append room pending rest)))
-    ∙ sym (drop-append-le n (take room (pending ++ rest)) (drop room (pending ++ rest)) front)
+    ∙ sym (drop-append-le n (take room (pending ++ rest)) (drop room (pending ++ rest)) inside)
     ∙ ap (drop n) (take-append-drop room (pending ++ rest))
     ∙ drop-append-le n pending rest short
 

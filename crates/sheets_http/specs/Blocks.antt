@@ -6,7 +6,7 @@ use Rattle.sheets_http.specs.declared.request.HeadFault.TheVariants.{BadHead}
 use Rattle.sheets_http.specs.declared.block.Heading.{Heading}
 use Rattle.sheets_http.specs.declared.block.BlockError.{BlockError}
 use Rattle.sheets_http.specs.declared.block.BlockError.TheVariants as error
-use Rattle.sheets_http.specs.Heads.{Fields, ends_with_empty_line, line_feeds, closes, body_length, is_coded}
+use Rattle.sheets_http.specs.Heads.{Fields, ends_with_empty_line, line_feeds, asks_to_close, body_length, is_coded}
 
 -- the first empty line of the bytes is their end, and they have at most 66 lines
 pub record IsBlock (block : List ℕ) : Type 0 where
@@ -18,7 +18,7 @@ pub record IsHeading (method target : List ℕ) (minor : ℕ) (fields : Fields) 
   pub method_is : heading.method ≡ method
   pub target_is : heading.target ≡ target
   pub coded_is : heading.coded ≡ is_coded fields
-  pub close_is : heading.close ≡ closes minor fields
+  pub close_is : heading.close ≡ asks_to_close minor fields
   pub length_is : body_length method minor fields ≡ Ok heading.length
 
 -- what is answered to these parts: their heading, or why the request is refused

@@ -1,5 +1,5 @@
 -- What a buffer holds of a stream, and what is answered for it.
-use Rattle.std.specs.Prelude.{◌≡◌, ℕ, ◌+◌, ◌-◌, ◌<◌, ◌≤◌, List, [], ◌∷◌, ◌++◌, length, take, map, Option, Some, None, IfSome, Result, Ok, Err, ⊤}
+use Rattle.std.specs.Prelude.{◌≡◌, ℕ, ◌+◌, ◌-◌, ◌<◌, ◌≤◌, ◌⊎◌, List, [], ◌∷◌, ◌++◌, length, take, map, Option, Some, None, IfSome, Result, Ok, Err, ⊤}
 use Rattle.std.specs.Option.{option_map}
 use Rattle.httparse.specs.Grammar.{RequestHead, ReadsRequest}
 use Rattle.httparse.specs.Spans.{name_and_value}
@@ -10,13 +10,14 @@ use Rattle.sheets_http.specs.declared.sight.Sight.{Sight}
 use Rattle.sheets_http.specs.declared.sight.Sight.TheVariants as sight
 use Rattle.sheets_http.specs.declared.head.Look.{Look}
 use Rattle.sheets_http.specs.declared.head.Standing.TheVariants.{Growing, Whole}
+use Rattle.sheets_http.specs.Outside.{Rose}
 use Rattle.sheets_http.specs.Heads.{skip_breaks, standing, StandsAt, IsUnsettled}
 use Rattle.sheets_http.specs.Looking.{IsLook}
 use Rattle.sheets_http.specs.Blocks.{IsHeading}
 use Rattle.sheets_http.specs.declared.block.Heading.{Heading}
 use Rattle.sheets_http.specs.declared.request.Next.{Next}
 use Rattle.sheets_http.specs.declared.request.Next.TheVariants as next
-use Rattle.sheets_http.specs.Framing.{refused_head, IsFront, told_request, told_end, ended, closed, truncated, long_talk, IsNext}
+use Rattle.sheets_http.specs.Framing.{refused_head, IsFront, Told, told_request, told_end, ended, asked, closed, truncated, long_talk, IsNext}
 
 -- the bytes that were read and not used yet, and how many were used
 pub record Held : Type 0 where
@@ -28,7 +29,7 @@ pub record IsReady (look : Look) (bytes : List ℕ) : Type 0 where
   pub look_is : IsLook look bytes
   pub growing : standing (take look.seen bytes) ≡ Growing
 
--- what was found at the front of the bytes: a head that is read, one that is refused, or none yet
+-- what was found that the bytes begin with: a head that is read, one that is refused, or none yet
 abbrev pub IsSight : List ℕ → Result Sight NoMemory → Type 0
 IsSight bytes (Ok (sight.Head heading end)) =
     (h : RequestHead) × StandsAt bytes end Whole × ReadsRequest (skip_breaks (take end bytes)) h []
@@ -73,17 +74,30 @@ IsAnswer room bytes room_after stream_after next.LongTalk = IsNext room bytes (t
 IsAnswer room bytes room_after stream_after next.ReadFault = (stream_after ≡ Some bytes) × (room_after ≡ room)
 IsAnswer room bytes room_after stream_after next.NoMemory = (stream_after ≡ Some bytes) × (room_after ≡ room)
 
--- one turn of reading: an answer that is no request, a head that was read, or more bytes are held of
--- the same stream and the bound isn't met
+-- the answer is what comes next; that the connection is closed is only told by a request
+abbrev pub IsTold : Told → Next → Type 0
+IsTold (told_request wire rest) answer = answer ≡ next.Request wire
+IsTold (told_end ended) answer = answer ≡ next.End
+IsTold (told_end asked) answer = ⊥
+IsTold (told_end (closed fault)) answer = answer ≡ next.Closed fault
+IsTold (told_end (truncated count)) answer = answer ≡ next.Truncated count
+IsTold (told_end long_talk) answer = answer ≡ next.LongTalk
+
+-- the answer is what comes next, or memory ran out, or the source failed and its count rose
+abbrev pub IsExact : ℕ → List ℕ → ℕ → ℕ → Next → Type 0
+IsExact room bytes faults faults_after answer =
+    (told : Told) → IsNext room bytes told
+    → IsTold told answer ⊎ ((answer ≡ next.NoMemory) ⊎ Rose faults faults_after)
+
+-- one turn of reading: an answer that is no request, a head that was read, or more bytes are held and
+-- the bound isn't met
 abbrev pub IsTurn : ℕ → Held → Held → Option (List ℕ) → Option (List ℕ) → Turn → Type 0
 IsTurn most held held_after stream stream_after (turn.Answer answer) =
     IfSome stream (λ bytes. IsAnswer (room_of most held) bytes (room_of most held_after) stream_after answer)
 IsTurn most held held_after stream stream_after (turn.Head heading end) =
-    (stream ≡ stream_after) × (held_after ≡ held)
-    × IsSight (take (room_of most held) held.pending) (Ok (sight.Head heading end))
+    (held_after ≡ held) × IsSight (take (room_of most held) held.pending) (Ok (sight.Head heading end))
 IsTurn most held held_after stream stream_after turn.More =
-    (stream ≡ stream_after) × (held_after.used ≡ held.used)
-    × (length held.pending < length held_after.pending) × (length held.pending < room_of most held)
+    (length held.pending < length held_after.pending) × (length held.pending < room_of most held)
 
 -- a turn answers no request
 abbrev pub AnswersNoRequest : Turn → Type 0
@@ -91,11 +105,10 @@ AnswersNoRequest (turn.Answer answer) = ¬ (IsRequest answer)
 AnswersNoRequest (turn.Head heading end) = ⊤
 AnswersNoRequest turn.More = ⊤
 
--- waiting for a body: an answer, or the body is held behind the same head in the same stream
+-- waiting for a body: an answer, or the body is held behind the same head
 abbrev pub IsBody : ℕ → Held → Held → Option (List ℕ) → Option (List ℕ) → Heading → ℕ → Option Next → Type 0
 IsBody most held held_after stream stream_after heading end (Some answer) =
     IfSome stream (λ bytes. IsAnswer (room_of most held) bytes (room_of most held_after) stream_after answer)
 IsBody most held held_after stream stream_after heading end None =
-    (stream ≡ stream_after) × (held_after.used ≡ held.used)
-    × IsSight (take (room_of most held) held_after.pending) (Ok (sight.Head heading end))
+    IsSight (take (room_of most held) held_after.pending) (Ok (sight.Head heading end))
     × (end + heading.length ≤ length held_after.pending) × (end + heading.length ≤ room_of most held)

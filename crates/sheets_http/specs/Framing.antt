@@ -7,12 +7,12 @@ use Rattle.sheets_http.specs.declared.request.Wire.{Wire}
 use Rattle.sheets_http.specs.declared.request.HeadFault.{HeadFault}
 use Rattle.sheets_http.specs.declared.request.HeadFault.TheVariants.{HeadLong, BadHead}
 use Rattle.sheets_http.specs.declared.head.Standing.TheVariants.{Whole, TooLong}
-use Rattle.sheets_http.specs.Heads.{skip_breaks, StandsAt, IsUnsettled, closes, body_length_of, is_coded}
+use Rattle.sheets_http.specs.Heads.{skip_breaks, StandsAt, IsUnsettled, asks_to_close, body_length_of, is_coded}
 use Rattle.sheets_http.specs.Blocks.{IsNoHead}
 
 -- ---- what a stream begins with
 
--- what the bytes at the front of a stream are: a whole request and the bytes behind it, a head that
+-- what bytes begin with: a whole request and the bytes behind it, a head that
 -- is refused, or neither of them yet
 pub data Front : Type 0 where
   whole_request : Wire → List ℕ → Front
@@ -25,7 +25,7 @@ wire_of h body = record {
   method = h.method;
   target = h.target;
   coded = is_coded (map name_and_value h.fields);
-  close = closes h.minor (map name_and_value h.fields);
+  close = asks_to_close h.minor (map name_and_value h.fields);
   body = body;
 }
 

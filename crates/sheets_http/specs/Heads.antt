@@ -43,7 +43,7 @@ standing_of block read =
 
 -- how the head stands of which these are the first bytes
 abbrev pub standing : List ℕ → Standing
-standing front = standing_of (skip_breaks front) (length front)
+standing bytes = standing_of (skip_breaks bytes) (length bytes)
 
 -- the first n bytes settle how the head stands, and no fewer do
 pub record StandsAt (bytes : List ℕ) (n : ℕ) (how : Standing) : Type 0 where
@@ -71,8 +71,8 @@ has_field_value name value fields =
     list_any (λ f. str_eq_ignore_ascii_case f.0 name && str_eq_ignore_ascii_case f.1 value) fields
 
 -- the connection is to be closed: by a field, or by HTTP/1.0
-abbrev pub closes : ℕ → Fields → Bool
-closes minor fields = minor == 0 || has_field_value (codes "connection") (codes "close") fields
+abbrev pub asks_to_close : ℕ → Fields → Bool
+asks_to_close minor fields = minor == 0 || has_field_value (codes "connection") (codes "close") fields
 
 -- POST and PUT send a body
 abbrev pub sends_body : List ℕ → Bool
@@ -108,7 +108,7 @@ framed method fields (Ok size) =
 -- closes the connection yet
 abbrev pub body_length : List ℕ → ℕ → Fields → Result ℕ HeadFault
 body_length method minor fields =
-    if closes minor fields then Err BadHead else framed method fields (content_length fields)
+    if asks_to_close minor fields then Err BadHead else framed method fields (content_length fields)
 
 -- the same of a head that was read
 abbrev pub body_length_of : RequestHead → Result ℕ HeadFault

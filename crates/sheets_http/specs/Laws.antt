@@ -1,7 +1,9 @@
 -- What holds of every conversation.
-use Rattle.std.specs.Prelude.{◌≡◌, ℕ, ◌<◌, List, ◌++◌, length}
+use Rattle.std.specs.Prelude.{◌≡◌, ℕ, ◌-◌, ◌<◌, ◌⊎◌, List, [], ◌∷◌, ◌++◌, length, Ok}
+use Rattle.httparse.specs.Grammar.{RequestHead, ReadsRequest}
 use Rattle.sheets_http.specs.declared.request.Wire.{Wire}
-use Rattle.sheets_http.specs.Framing.{End, told_request, IsNext, Talk}
+use Rattle.sheets_http.specs.Heads.{skip_breaks, body_length_of}
+use Rattle.sheets_http.specs.Framing.{wire_of, End, asked, told_request, told_end, IsNext, Talk}
 
 -- a stream has one list of requests and one end
 abbrev pub HasOneTalk : Type 0
@@ -16,8 +18,39 @@ KeepsRequests =
     → Talk room bytes wires end → Talk room (bytes ++ more) others other
     → (later : List Wire) × (others ≡ wires ++ later)
 
--- a request is a part of the stream, and with the rest behind it the whole
+-- no stream is without a talk: it can't be that none is there (which one it is may be hard to tell,
+-- since a head's grammar is a relation)
+abbrev pub HasTalk : Type 0
+HasTalk =
+    (room : ℕ) (bytes : List ℕ) → ¬ ((wires : List Wire) → (end : End) → ¬ (Talk room bytes wires end))
+
+-- the bytes of a request: line breaks that are passed over, the block of its head, and its body
+pub record IsRequestText (wire : Wire) (text : List ℕ) : Type 0 where
+  pub breaks : List ℕ
+  pub block : List ℕ
+  pub head : RequestHead
+  pub only_breaks : skip_breaks breaks ≡ []
+  pub reads : ReadsRequest block head []
+  pub length_is : body_length_of head ≡ Ok (length wire.body)
+  pub wire_is : wire ≡ wire_of head wire.body
+  pub text_is : text ≡ breaks ++ (block ++ wire.body)
+
+-- a request's bytes and the rest behind it are the stream
 abbrev pub TakesBytes : Type 0
 TakesBytes =
     (room : ℕ) (bytes rest : List ℕ) (wire : Wire) → IsNext room bytes (told_request wire rest)
-    → (used : List ℕ) × (0 < length used) × (bytes ≡ used ++ rest)
+    → (text : List ℕ) × IsRequestText wire text × (0 < length text) × (bytes ≡ text ++ rest)
+
+-- the bytes of requests, one behind the other
+abbrev pub AreRequestTexts : List Wire → List ℕ → Type 0
+AreRequestTexts [] text = text ≡ []
+AreRequestTexts (wire ∷ wires) text =
+    (first others : List ℕ) × IsRequestText wire first × AreRequestTexts wires others × (text ≡ first ++ others)
+
+-- the bytes of all requests and what is left behind them are the stream; the last request closes the
+-- connection, or the end is that of what is left
+abbrev pub HoldsRequests : Type 0
+HoldsRequests =
+    (room : ℕ) (bytes : List ℕ) (wires : List Wire) (end : End) → Talk room bytes wires end
+    → (text left : List ℕ) × AreRequestTexts wires text × (bytes ≡ text ++ left)
+    × ((end ≡ asked) ⊎ IsNext (room - length text) left (told_end end))

@@ -1,4 +1,5 @@
 pub mod Outside
+pub mod Memory
 pub mod Heads
 pub mod Looking
 pub mod Blocks

@@ -7,11 +7,11 @@ use Rattle.cell_value.specs.declared.failure.Failed.{Failed}
 use Rattle.sheets_http.specs.declared.outside.SinkFault.{SinkFault}
 use Rattle.sheets_http.specs.declared.outside.SinkFault.TheVariants as fault
 
--- the last value of a count of faults, which stands still there
+-- the last value of a count, of faults or of shortages, which stands still there
 abbrev pub last_count : ℕ
 last_count = 18446744073709551615
 
--- a count of faults rose: it is greater than before, or stands at its last value
+-- a count rose: it is greater than before, or stands at its last value
 abbrev pub Rose : ℕ → ℕ → Type 0
 Rose before after = (before < after) ⊎ (after ≡ last_count)
 
@@ -21,17 +21,18 @@ StaysSteady steady steady_after count count_after =
     IsTrue steady → IsTrue steady_after × (count_after ≡ count)
 
 -- one side of a device that is read and written, which a call on the other side leaves as it is: its
--- bytes where it tells them, its count of faults, whether it is steady, and the references that the
--- device is made of
+-- bytes where it tells them, its count of faults, how often a write found no memory, whether it is
+-- steady, and the references that the device is made of
 pub record Side : Type 0 where
   pub bytes : Option (List ℕ)
   pub faults : ℕ
+  pub shortages : ℕ
   pub steady : Bool
   pub references : List GName
 
 -- what a device with one side has beside it
 abbrev pub no_side : Side
-no_side = record { bytes = None; faults = 0; steady = true; references = [] }
+no_side = record { bytes = None; faults = 0; shortages = 0; steady = true; references = [] }
 
 -- what is left to be read begins with the bytes that a read gave, and loses them; a read that
 -- failed takes nothing
@@ -56,7 +57,7 @@ Takes written written_after piece (Err fault.Failed) =
 abbrev pub TakesAll : Option (List ℕ) → Option (List ℕ) → List ℕ → Type 0
 TakesAll written written_after bytes = written_after ≡ option_map (λ before. before ++ bytes) written
 
--- what was written grows by a part of the bytes, from their front
+-- what was written grows by the first bytes, by some or none of them
 abbrev pub TakesSome : Option (List ℕ) → Option (List ℕ) → List ℕ → Type 0
 TakesSome written written_after bytes =
     (count : ℕ) × (written_after ≡ option_map (λ before. before ++ take count bytes) written)

@@ -3,9 +3,9 @@ use Rattle.std.specs.Prelude.{ℕ, Bool, true, false, List, [], ◌∷◌, ◌++
 use Rattle.std.specs.List.{list_any}
 use Rattle.http.specs.StatusCode.{reason_phrase}
 
--- a status that is answered
-abbrev pub IsAnswered : ℕ → Type 0
-IsAnswered status =
+-- a status of a response
+abbrev pub IsServedStatus : ℕ → Type 0
+IsServedStatus status =
     IsTrue (list_any (λ code. status == code)
     (200 ∷ 400 ∷ 401 ∷ 403 ∷ 404 ∷ 413 ∷ 429 ∷ 431 ∷ 503 ∷ 507 ∷ []))
 
@@ -18,9 +18,9 @@ abbrev pub line : List ℕ → List ℕ → List ℕ
 line text rest = text ++ 13 ∷ 10 ∷ rest
 
 -- the line that tells the client of the last response, where it is the last
-abbrev pub closing : Bool → List ℕ → List ℕ
-closing true rest = line (codes "Connection: close") rest
-closing false rest = rest
+abbrev pub connection_line : Bool → List ℕ → List ℕ
+connection_line true rest = line (codes "Connection: close") rest
+connection_line false rest = rest
 
 -- the status line, the fields, an empty line and the body
 abbrev pub text_of_response : ℕ → Bool → List ℕ → List ℕ
@@ -28,7 +28,7 @@ text_of_response status close body =
     line (codes "HTTP/1.1 " ++ decimal status ++ codes " " ++ phrase_of status) (
     line (codes "Content-Type: application/json; charset=UTF-8") (
     line (codes "Content-Length: " ++ decimal (length body)) (
-    closing close (
+    connection_line close (
     line [] body))))
 
 -- the body of the response for want of memory

@@ -3,7 +3,7 @@ ghost use Rattle.httparse.specs.Borrowed.{header_parts};
 ghost use Rattle.sheets_http.specs.Blocks.{IsBlock, HeadingOf, ReadsBlock};
 
 use crate::HeadFault;
-use crate::fields::{body_length, closes, is_coded};
+use crate::fields::{asks_to_close, body_length, is_coded};
 use cell_value::{NoMemory, Text};
 use httparse::{EMPTY_HEADER, Header, Request, Status};
 use std::alloc::Global;
@@ -65,7 +65,7 @@ fn head_of(
                 method,
                 target,
                 coded: is_coded(fields),
-                close: closes(minor, fields),
+                close: asks_to_close(minor, fields),
                 length,
             }),
             Err(_) => Err(BlockError::NoMemory),

@@ -3,7 +3,7 @@ ghost use Rattle.std.specs.List.{list_any};
 ghost use Rattle.std.specs.Str.{str_eq_ignore_ascii_case};
 ghost use Rattle.httparse.specs.Borrowed.{header_parts};
 ghost use Rattle.std.specs.Str.Parse.{digits_value};
-ghost use Rattle.sheets_http.specs.Heads.{has_field, has_field_value, closes, sends_body, is_length, content_length, framed, body_length, is_coded};
+ghost use Rattle.sheets_http.specs.Heads.{has_field, has_field_value, asks_to_close, sends_body, is_length, content_length, framed, body_length, is_coded};
 
 use crate::HeadFault;
 use httparse::Header;
@@ -15,7 +15,7 @@ const BODY_LIMIT: u64 = 8_388_608;
 pub(crate) fn body_length(method: &str, minor: u8, fields: &[Header<'_>]) -> Result<u64, HeadFault>
     ensures { result ≡ body_length method.now minor (map header_parts fields.now) }
 {
-    if closes(minor, fields) {
+    if asks_to_close(minor, fields) {
         Err(HeadFault::BadHead)
     } else {
         match content_length(fields) {
@@ -87,20 +87,12 @@ fn length_of(value: &[u8]) -> Option<u64>
 pub(crate) fn is_coded(fields: &[Header<'_>]) -> bool
     ensures { result ≡ is_coded (map header_parts fields.now) }
 {
-    any_codes(fields)
-}
-
-/// The same, as a test of the parser's headers.
-fn any_codes(fields: &[Header<'_>]) -> bool
-    ensures { result ≡ list_any (λ h. str_eq_ignore_ascii_case h.name.now (codes "content-encoding")
-        && not (str_eq_ignore_ascii_case h.value.now (codes "identity"))) fields.now }
-{
     fields.iter().any(|field| is_named(field, "content-encoding") && !has_value(field, "identity"))
 }
 
 /// Whether the connection is to be closed after the request.
-pub(crate) fn closes(minor: u8, fields: &[Header<'_>]) -> bool
-    ensures { result ≡ closes minor (map header_parts fields.now) }
+pub(crate) fn asks_to_close(minor: u8, fields: &[Header<'_>]) -> bool
+    ensures { result ≡ asks_to_close minor (map header_parts fields.now) }
 {
     minor == 0 || has_field_value("connection", "close", fields)
 }
@@ -116,27 +108,12 @@ fn sends_body(method: &str) -> bool
 fn has_field(name: &str, fields: &[Header<'_>]) -> bool
     ensures { result ≡ has_field name.now (map header_parts fields.now) }
 {
-    any_is(name, fields)
+    fields.iter().any(|field| is_named(field, name))
 }
 
 /// Whether there is a field of that name and that value, both in any ASCII case.
 fn has_field_value(name: &str, value: &str, fields: &[Header<'_>]) -> bool
     ensures { result ≡ has_field_value name.now value.now (map header_parts fields.now) }
-{
-    any_has(name, value, fields)
-}
-
-/// The same, as a test of the parser's headers.
-fn any_is(name: &str, fields: &[Header<'_>]) -> bool
-    ensures { result ≡ list_any (λ h. str_eq_ignore_ascii_case h.name.now name.now) fields.now }
-{
-    fields.iter().any(|field| is_named(field, name))
-}
-
-/// The same, as a test of the parser's headers.
-fn any_has(name: &str, value: &str, fields: &[Header<'_>]) -> bool
-    ensures { result ≡ list_any (λ h. str_eq_ignore_ascii_case h.name.now name.now
-        && str_eq_ignore_ascii_case h.value.now value.now) fields.now }
 {
     fields
         .iter()

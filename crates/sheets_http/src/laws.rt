@@ -1,10 +1,13 @@
-ghost use Rattle.sheets_http.specs.Laws.{HasOneTalk, KeepsRequests, TakesBytes};
+ghost use Rattle.sheets_http.specs.Laws.{HasOneTalk, KeepsRequests, HasTalk, TakesBytes, HoldsRequests};
 
 /// The laws of a conversation, as its contract has them: a stream has one list of requests and one
-/// end, a longer stream keeps the requests of a shorter one, and a request with what stands behind
-/// it is the stream. It does nothing when it runs.
+/// end, a longer stream keeps the requests of a shorter one, the bytes of a request with what stands
+/// behind it are the stream, and so are the bytes of all requests with what is left. It does nothing
+/// when it runs.
 pub fn conversation_laws()
     ensures one_talk { HasOneTalk }
+    ensures has_talk { HasTalk }
     ensures longer { KeepsRequests }
     ensures parts { TakesBytes }
+    ensures whole { HoldsRequests }
 {}

@@ -3,6 +3,7 @@
 
 mod block;
 mod buffer;
+mod failing;
 mod fields;
 mod head;
 mod laws;
@@ -15,6 +16,7 @@ mod sending;
 mod sight;
 
 pub use buffer::Buffer;
+pub use failing::{MemorySink, MemorySource};
 pub use laws::conversation_laws;
 pub use memory::{SteadySink, SteadySource};
 pub use next::next_request;

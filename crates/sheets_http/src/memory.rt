@@ -1,4 +1,4 @@
-ghost use Rattle.std.specs.Prelude.{◌≡◌, ◌<◌, [], min};
+ghost use Rattle.std.specs.Prelude.{◌≡◌, ◌<◌, []};
 
 use crate::{Sink, SinkFault, Source};
 use cell_value::{Bytes, Failed};
@@ -54,7 +54,8 @@ impl Source for SteadySource {
 
     fn read(&mut self, into: &mut [u8]) -> Result<usize, Failed> {
         let rest = &self.bytes.as_slice()[self.start..];
-        let count = at_most(self.piece, rest.len().min(into.len()));
+        let most = rest.len().min(into.len()) as u64;
+        let count = self.piece.min(most) as usize;
         into[..count].copy_from_slice(&rest[..count]);
         self.start += count;
         Ok(count)
@@ -62,19 +63,21 @@ impl Source for SteadySource {
 }
 
 /// A growing list of bytes in memory as a sink that never fails. Contracts see the bytes that were
-/// written.
+/// written, and how often a write found no memory.
 #[derive(Debug, Drop)]
 pub struct SteadySink {
     bytes: Bytes,
     piece: u64,
+    shortages: u64,
 }
 
 impl Model for SteadySink {
-    ghost use Rattle.std.specs.Prelude.{ℕ, ◌<◌, List};
+    ghost use Rattle.std.specs.Prelude.{◌<◌};
+    ghost use Rattle.sheets_http.specs.Memory.{Taken};
 
-    ghost Value = { List ℕ };
+    ghost Value = { Taken };
 
-    ghost view = { λ s. s.bytes };
+    ghost view = { λ s. record { written = s.bytes; shortages = s.shortages } };
 
     ghost invariant = { λ s. 0 < s.piece };
 }
@@ -83,17 +86,18 @@ impl SteadySink {
     /// A sink to which nothing was written yet, a write to which takes at most `piece` bytes.
     pub fn new(alloc: Global, piece: u64) -> SteadySink
         requires { 0 < piece }
-        ensures { result ≡ [] }
+        ensures { result ≡ record { written = []; shortages = 0 } }
     {
         SteadySink {
             bytes: Bytes::of(Vec::new(alloc)),
             piece,
+            shortages: 0,
         }
     }
 
     /// The bytes that were written so far.
     pub fn written(&self) -> &Bytes
-        ensures { result.now ≡ self.now }
+        ensures { result.now ≡ self.now.written }
     {
         &self.bytes
     }
@@ -106,30 +110,24 @@ impl Sink for SteadySink {
 
     ghost sink_steady_low = { Prim.search rules };
 
-    ghost written = { λ bytes. Some bytes };
+    ghost written = { λ sink. Some sink.written };
 
     ghost sink_faults = { λ _. 0 };
+
+    ghost sink_shortages = { λ sink. sink.shortages };
 
     ghost sink_steady = { λ _. true };
 
     ghost sink_beside = { λ _. no_side };
 
     fn write(&mut self, bytes: &[u8]) -> Result<usize, SinkFault> {
-        let count = at_most(self.piece, bytes.len());
+        let count = self.piece.min(bytes.len() as u64) as usize;
         match self.bytes.extend_from_slice(&bytes[..count]) {
             Ok(()) => Ok(count),
-            Err(_) => Err(SinkFault::NoMemory),
+            Err(_) => {
+                self.shortages = self.shortages.saturating_add(1);
+                Err(SinkFault::NoMemory)
+            }
         }
-    }
-}
-
-/// The lesser of a count and the bound of a piece.
-pub(crate) fn at_most(piece: u64, count: usize) -> usize
-    ensures { result ≡ min piece count }
-{
-    if piece < count as u64 {
-        piece as usize
-    } else {
-        count
     }
 }

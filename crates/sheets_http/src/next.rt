@@ -1,7 +1,7 @@
-ghost use Rattle.std.specs.Prelude.{◌≡◌, ◌+◌, ◌^◌, ◌<◌, ◌≤◌, length, take, drop, IfOk, OnOk, OnErr, IfSome};
+ghost use Rattle.std.specs.Prelude.{◌≡◌, ◌≢◌, IsTrue, ◌+◌, ◌^◌, ◌<◌, ◌≤◌, length, take, drop, IfOk, OnOk, OnErr, IfSome};
 ghost use Rattle.sheets_http.specs.Outside.{Rose, StaysSteady};
 ghost use Rattle.sheets_http.specs.Heads.{skip_breaks};
-ghost use Rattle.sheets_http.specs.Buffering.{room_of, stream_of, end_answer, IsRequest, IsSight, IsAnswer, IsTurn, AnswersNoRequest, IsBody};
+ghost use Rattle.sheets_http.specs.Buffering.{room_of, stream_of, end_answer, IsRequest, IsSight, IsAnswer, IsExact, IsTurn, AnswersNoRequest, IsBody};
 
 use crate::block::Heading;
 use crate::buffer::{Buffer, FillError};
@@ -27,8 +27,18 @@ pub fn next_request<L: Source>(alloc: Global, link: &mut L, buffer: &mut Buffer,
     // Each request takes some of the bound.
     ensures shrinks { IsRequest result → room_of most buffer.new < room_of most buffer.old }
 
+    // What comes next is answered, unless memory ran out or the source failed.
+    ensures exactly { IfSome (stream_of buffer.old (L.left link.old))
+        (λ bytes. IsExact (room_of most buffer.old) bytes (L.faults link.old) (L.faults link.new) result) }
+
+    // Nothing but a request takes anything.
+    ensures stream { ¬ (IsRequest result)
+        → stream_of buffer.old (L.left link.old) ≡ stream_of buffer.new (L.left link.new) }
+    ensures bound { ¬ (IsRequest result) → room_of most buffer.new ≡ room_of most buffer.old }
+
     // It doesn't give up by itself.
     ensures fault { result ≡ Next.ReadFault → Rose (L.faults link.old) (L.faults link.new) }
+    ensures unfailing { IsTrue (L.steady link.old) → result ≢ Next.ReadFault }
 
     ensures later { L.faults link.old ≤ L.faults link.new }
     ensures steady { StaysSteady (L.steady link.old) (L.steady link.new) (L.faults link.old) (L.faults link.new) }
@@ -61,6 +71,8 @@ fn read_once<L: Source>(alloc: Global, link: &mut L, buffer: &mut Buffer, most: 
     ensures turn { IsTurn most buffer.old buffer.new (stream_of buffer.old (L.left link.old))
         (stream_of buffer.new (L.left link.new)) result }
     ensures no_request { AnswersNoRequest result }
+    ensures stream { stream_of buffer.old (L.left link.old) ≡ stream_of buffer.new (L.left link.new) }
+    ensures used { buffer.new.used ≡ buffer.old.used }
     ensures fault { result ≡ Turn.Answer Next.ReadFault → Rose (L.faults link.old) (L.faults link.new) }
     ensures later { L.faults link.old ≤ L.faults link.new }
     ensures steady { StaysSteady (L.steady link.old) (L.steady link.new) (L.faults link.old) (L.faults link.new) }
@@ -100,6 +112,9 @@ fn next_body<L: Source>(
         (λ bytes. IsAnswer (room_of most buffer.old) bytes (room_of most buffer.new)
         (stream_of buffer.new (L.left link.new)) result) }
     ensures shrinks { IsRequest result → room_of most buffer.new < room_of most buffer.old }
+    ensures stream { ¬ (IsRequest result)
+        → stream_of buffer.old (L.left link.old) ≡ stream_of buffer.new (L.left link.new) }
+    ensures bound { ¬ (IsRequest result) → room_of most buffer.new ≡ room_of most buffer.old }
     ensures fault { result ≡ Next.ReadFault → Rose (L.faults link.old) (L.faults link.new) }
     ensures later { L.faults link.old ≤ L.faults link.new }
     ensures steady { StaysSteady (L.steady link.old) (L.steady link.new) (L.faults link.old) (L.faults link.new) }
@@ -127,6 +142,8 @@ fn wait_for_body<L: Source>(
     ensures body { IsBody most buffer.old buffer.new (stream_of buffer.old (L.left link.old))
         (stream_of buffer.new (L.left link.new)) heading.now end result }
     ensures no_request { IfSome result (λ next. ¬ (IsRequest next)) }
+    ensures stream { stream_of buffer.old (L.left link.old) ≡ stream_of buffer.new (L.left link.new) }
+    ensures used { buffer.new.used ≡ buffer.old.used }
     ensures fault { result ≡ Some Next.ReadFault → Rose (L.faults link.old) (L.faults link.new) }
     ensures later { L.faults link.old ≤ L.faults link.new }
     ensures steady { StaysSteady (L.steady link.old) (L.steady link.new) (L.faults link.old) (L.faults link.new) }

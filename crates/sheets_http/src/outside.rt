@@ -9,7 +9,7 @@ use cell_value::Failed;
 pub enum SinkFault {
     /// The device failed; its count of faults rose.
     Failed,
-    /// Memory ran out; nothing of the piece was written.
+    /// Memory ran out; the count of shortages rose, and nothing of the piece was written.
     NoMemory,
 }
 
@@ -27,7 +27,7 @@ pub trait Source {
     /// What a read leaves as it is: the side that is written, where there is one.
     ghost beside: { Self → Side };
 
-    /// Reads bytes into the front of `into`, and answers how many. An answer 0 for a buffer with
+    /// Reads bytes into the first places of `into`, and answers how many. An answer 0 for a buffer with
     /// room is the end.
     ///
     /// # Errors
@@ -54,25 +54,31 @@ pub trait Sink {
     /// How often the sink has failed.
     ghost sink_faults: { Self → ℕ };
 
+    /// How often a write found no memory.
+    ghost sink_shortages: { Self → ℕ };
+
     /// Whether the sink never fails.
     ghost sink_steady: { Self → Bool };
 
     /// What a write leaves as it is: the side that is read, where there is one.
     ghost sink_beside: { Self → Side };
 
-    /// Writes bytes from the front of the piece, and answers how many. An answer 0 for a piece
+    /// Writes the first bytes of the piece, and answers how many. An answer 0 for a piece
     /// that isn't empty counts as a fault.
     ///
     /// # Errors
     ///
     /// [`SinkFault::Failed`] only where the count of faults rose in this call; some of the piece
-    /// may be written then. [`SinkFault::NoMemory`]: nothing of the piece was written.
+    /// may be written then. [`SinkFault::NoMemory`] only where the count of shortages rose in this
+    /// call; nothing of the piece was written then.
     fn write(&mut self, bytes: &[u8]) -> Result<usize, SinkFault>
         ensures bound { IfOk result (λ count. count ≤ length bytes.now) }
         ensures bytes { Takes (written self.old) (written self.new) bytes.now result }
         ensures cause { result ≡ Err SinkFault.Failed → Rose (sink_faults self.old) (sink_faults self.new) }
         ensures stuck { result ≡ Ok 0 → 0 < length bytes.now → Rose (sink_faults self.old) (sink_faults self.new) }
         ensures later { sink_faults self.old ≤ sink_faults self.new }
+        ensures short { result ≡ Err SinkFault.NoMemory → Rose (sink_shortages self.old) (sink_shortages self.new) }
+        ensures short_later { sink_shortages self.old ≤ sink_shortages self.new }
         ensures steady { StaysSteady (sink_steady self.old) (sink_steady self.new) (sink_faults self.old) (sink_faults self.new) }
         ensures beside { sink_beside self.new ≡ sink_beside self.old };
 
@@ -80,8 +86,8 @@ pub trait Sink {
     ghost sink_steady_low: { (sink : Self) → IsTrue (sink_steady sink) → sink_faults sink < last_count };
 }
 
-/// What is read and written, as a connection. A read leaves what was written and the count of
-/// faults as sink; a write leaves what is left and the count of faults as source.
+/// What is read and written, as a connection. A read leaves what was written and both counts as
+/// sink; a write leaves what is left and the count of faults as source.
 pub trait Duplex: Source + Sink {
     /// The references that the link is made of.
     ghost references: { Self → List GName };
@@ -90,6 +96,7 @@ pub trait Duplex: Source + Sink {
     ghost reads_beside: { (link : Self) → Self.beside link ≡ record {
       bytes = Self.written link;
       faults = Self.sink_faults link;
+      shortages = Self.sink_shortages link;
       steady = Self.sink_steady link;
       references = references link;
     } };
@@ -98,6 +105,7 @@ pub trait Duplex: Source + Sink {
     ghost writes_beside: { (link : Self) → Self.sink_beside link ≡ record {
       bytes = Self.left link;
       faults = Self.faults link;
+      shortages = 0;
       steady = Self.steady link;
       references = references link;
     } };
@@ -124,6 +132,7 @@ impl<I: Source, O: Sink> Source for Link<'_, I, O> {
     ghost beside = { λ link. record {
       bytes = O.written link.output.now;
       faults = O.sink_faults link.output.now;
+      shortages = O.sink_shortages link.output.now;
       steady = O.sink_steady link.output.now;
       references = link.input.ghost_name ∷ link.output.ghost_name ∷ [];
     } };
@@ -140,11 +149,14 @@ impl<I: Source, O: Sink> Sink for Link<'_, I, O> {
 
     ghost sink_faults = { λ link. O.sink_faults link.output.now };
 
+    ghost sink_shortages = { λ link. O.sink_shortages link.output.now };
+
     ghost sink_steady = { λ link. O.sink_steady link.output.now };
 
     ghost sink_beside = { λ link. record {
       bytes = I.left link.input.now;
       faults = I.faults link.input.now;
+      shortages = 0;
       steady = I.steady link.input.now;
       references = link.input.ghost_name ∷ link.output.ghost_name ∷ [];
     } };

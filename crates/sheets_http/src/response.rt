@@ -1,6 +1,6 @@
 ghost use Rattle.std.specs.Prelude.{◌≡◌, ◌++◌, ◌≤◌, [], decimal, length, codes, IfOk, string_bytes};
 ghost use Rattle.http.specs.StatusCode.{IsStatusCode};
-ghost use Rattle.sheets_http.specs.Responses.{IsAnswered, phrase_of, line, closing, text_of_response, no_memory_body};
+ghost use Rattle.sheets_http.specs.Responses.{IsServedStatus, phrase_of, line, connection_line, text_of_response, no_memory_body};
 
 use cell_value::{Bytes, NoMemory};
 use http::StatusCode;
@@ -18,7 +18,7 @@ pub fn response_text(
     close: bool,
     body: &[u8],
 ) -> Result<Bytes, NoMemory>
-    requires { IsAnswered status }
+    requires { IsServedStatus status }
     ensures { IfOk result (λ text. text ≡ text_of_response status close body.now) }
 {
     let head = head_text(alloc, status, phrase(status), body.len(), close_line(close))?;
@@ -40,7 +40,7 @@ pub fn no_memory_response(close: bool) -> &'static [u8]
 
 /// The reason phrase of a status.
 fn phrase(status: u16) -> &'static str
-    requires { IsAnswered status }
+    requires { IsServedStatus status }
     ensures { result.now ≡ phrase_of status }
 {
     match StatusCode::from_u16(status) {
@@ -54,7 +54,7 @@ fn phrase(status: u16) -> &'static str
 
 /// The line of the last response.
 fn close_line(close: bool) -> &'static str
-    ensures { result.now ≡ closing close [] }
+    ensures { result.now ≡ connection_line close [] }
 {
     if close { "Connection: close\r\n" } else { "" }
 }

@@ -1,4 +1,4 @@
-ghost use Rattle.std.specs.Prelude.{◌≡◌, ◌≤◌, MatchResult};
+ghost use Rattle.std.specs.Prelude.{◌≡◌, ◌≢◌, ◌≤◌, IsTrue, MatchResult};
 ghost use Rattle.sheets_http.specs.Outside.{Rose, StaysSteady, TakesAll, TakesSome};
 
 use crate::{Sink, SinkFault};
@@ -8,12 +8,16 @@ use crate::{Sink, SinkFault};
 /// # Errors
 ///
 /// [`SinkFault::Failed`] only where the sink's count of faults rose in this call, and
-/// [`SinkFault::NoMemory`]: a part from the front was written then.
+/// [`SinkFault::NoMemory`] only where its count of shortages rose: the first bytes, or none, were
+/// written then.
 pub fn send_all<S: Sink>(sink: &mut S, bytes: &[u8]) -> Result<(), SinkFault>
     ensures sent { MatchResult result (λ _. TakesAll (S.written sink.old) (S.written sink.new) bytes.now)
         (λ _. TakesSome (S.written sink.old) (S.written sink.new) bytes.now) }
     ensures cause { result ≡ Err SinkFault.Failed → Rose (S.sink_faults sink.old) (S.sink_faults sink.new) }
+    ensures unfailing { IsTrue (S.sink_steady sink.old) → result ≢ Err SinkFault.Failed }
     ensures later { S.sink_faults sink.old ≤ S.sink_faults sink.new }
+    ensures short { result ≡ Err SinkFault.NoMemory → Rose (S.sink_shortages sink.old) (S.sink_shortages sink.new) }
+    ensures short_later { S.sink_shortages sink.old ≤ S.sink_shortages sink.new }
     ensures steady { StaysSteady (S.sink_steady sink.old) (S.sink_steady sink.new) (S.sink_faults sink.old) (S.sink_faults sink.new) }
     ensures beside { S.sink_beside sink.new ≡ S.sink_beside sink.old }
 {

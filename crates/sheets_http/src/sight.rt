@@ -4,11 +4,10 @@ ghost use Rattle.sheets_http.specs.Buffering.{IsReady, IsSight};
 use crate::HeadFault;
 use crate::block::{BlockError, Heading, read_block};
 use crate::head::{Look, Standing};
-use crate::memory::at_most;
 use cell_value::NoMemory;
 use std::alloc::Global;
 
-/// What the bytes at the front of a stream are.
+/// What a stream begins with.
 #[derive(Debug, Drop)]
 pub(crate) enum Sight {
     /// A head that was read, which ends there.
@@ -31,7 +30,8 @@ pub(crate) fn sight_of(
     ensures sight { IsSight (take room bytes.now) result }
 {
     let mut on = *look;
-    match on.find(bytes, at_most(room, bytes.len())) {
+    let end = room.min(bytes.len() as u64) as usize;
+    match on.find(bytes, end) {
         Standing::Growing => {
             *look = on;
             Ok(Sight::Growing)

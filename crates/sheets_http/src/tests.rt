@@ -1,20 +1,28 @@
 ghost use Rattle.std.specs.Prelude.{◌<◌};
 
 use crate::*;
-use cell_value::Bytes;
+use cell_value::{Bytes, Items, NoMemory};
 use std::alloc::Global;
 use std::test::Fail;
 
-/// The requests of a stream, read in pieces of that size, and its end.
+/// The requests of a stream that is read in pieces of that size, and its end.
 fn talk(alloc: Global, stream: &[u8], piece: u64, most: u64) -> Result<String, Fail>
     requires piece { 0 < piece }
     requires most { 0 < most }
 {
     let mut source = SteadySource::new(Bytes::of(Vec::from_slice(alloc, stream)?), piece);
+    requests_of(alloc, &mut source, most)
+}
+
+/// The requests of a source, its faults and its end. After a fault, and where memory ran out, it is
+/// read on.
+fn requests_of<S: Source>(alloc: Global, source: &mut S, most: u64) -> Result<String, Fail>
+    requires { 0 < most }
+{
     let mut buffer = Buffer::new(alloc)?;
     let mut told = String::new(alloc);
     for _ in 0..9 {
-        match next_request(alloc, &mut source, &mut buffer, most) {
+        match next_request(alloc, source, &mut buffer, most) {
             Next::Request(wire) => {
                 told.push_str(wire.method.as_str())?;
                 told.push_str(wire.target.as_str())?;
@@ -31,10 +39,8 @@ fn talk(alloc: Global, stream: &[u8], piece: u64, most: u64) -> Result<String, F
                 told.push_str("long")?;
                 return Ok(told);
             }
-            Next::ReadFault | Next::NoMemory => {
-                told.push_str("fault")?;
-                return Ok(told);
-            }
+            Next::ReadFault => told.push_str("fault ")?,
+            Next::NoMemory => {}
         }
     }
     Ok(told)
@@ -189,16 +195,28 @@ fn wires_have_what_came(rt: HostRuntime) -> Result<(), Fail> {
     let stream = b"PUT /a?b HTTP/1.1\r\nContent-Encoding: gzip\r\nContent-Length: 3\r\n\r\n\n\n{";
     let mut source = SteadySource::new(Bytes::of(Vec::from_slice(alloc, stream)?), 1);
     let mut buffer = Buffer::new(alloc)?;
-    let next = next_request(alloc, &mut source, &mut buffer, MOST);
-    let Next::Request(wire) = next else {
-        assert!(rt; false);
-        return Ok(());
+    let wire = match next_request(alloc, &mut source, &mut buffer, MOST) {
+        Next::Request(wire) => wire,
+        Next::NoMemory => return Err(NoMemory.into()),
+        _ => {
+            assert!(rt; false);
+            return Ok(());
+        }
     };
     assert_eq!(rt; wire.method.as_str(), "PUT");
     assert_eq!(rt; wire.target.as_str(), "/a?b");
     assert_eq!(rt; (wire.coded, wire.close), (true, false));
     assert_eq!(rt; wire.body.as_slice(), b"\n\n{".as_slice());
     Ok(())
+}
+
+/// Whether all of the bytes are sent.
+fn sends<S: Sink>(sink: &mut S, bytes: &[u8]) -> Result<bool, Fail> {
+    match send_all(sink, bytes) {
+        Ok(()) => Ok(true),
+        Err(SinkFault::Failed) => Ok(false),
+        Err(SinkFault::NoMemory) => Err(NoMemory.into()),
+    }
 }
 
 const NO_ROUTE: &str = r#"{"error":{"code":404,"message":"NoRoute","status":"NOT_FOUND"}}"#;
@@ -222,9 +240,9 @@ fn responses_are_written(rt: HostRuntime) -> Result<(), Fail> {
         let mut piece = [0; 8];
         assert_eq!(rt; link.read(&mut piece), Ok(2));
         let served = response_text(alloc, 200, false, b"{}")?;
-        assert!(rt; send_all(&mut link, served.as_slice()).is_ok());
+        assert!(rt; sends(&mut link, served.as_slice())?);
         let refused = response_text(alloc, 404, true, NO_ROUTE.as_bytes())?;
-        assert!(rt; send_all(&mut link, refused.as_slice()).is_ok());
+        assert!(rt; sends(&mut link, refused.as_slice())?);
         assert_eq!(rt; link.read(&mut piece), Ok(1));
         assert_eq!(rt; link.read(&mut piece), Ok(0));
     }
@@ -238,5 +256,73 @@ fn responses_are_written(rt: HostRuntime) -> Result<(), Fail> {
         assert_eq!(rt; no_memory_response(close), text.as_slice());
     }
     conversation_laws();
+    Ok(())
+}
+
+/// A request of 19 bytes and one of 40, which four reads of 16 bytes give; a fifth meets the end.
+const TWO: &[u8] = b"GET /a HTTP/1.1\r\n\r\nPUT /b HTTP/1.1\r\nContent-Length: 2\r\n\r\n{}";
+
+/// The numbers of the reads that fail, and what is told then of both requests.
+const FAILING_READS: [(&[u64], &str); 9] = [
+    (&[], "GET/a:0 PUT/b:2 end"),
+    (&[0], "GET/a:0 PUT/b:2 end"),
+    (&[1], "fault GET/a:0 PUT/b:2 end"),
+    (&[2], "fault GET/a:0 PUT/b:2 end"),
+    (&[3], "GET/a:0 fault PUT/b:2 end"),
+    (&[4], "GET/a:0 fault PUT/b:2 end"),
+    (&[5], "GET/a:0 PUT/b:2 fault end"),
+    (&[6], "GET/a:0 PUT/b:2 end"),
+    (&[5, 1, 2], "fault fault GET/a:0 fault PUT/b:2 end"),
+];
+
+#[test]
+fn failed_reads_lose_nothing(rt: HostRuntime) -> Result<(), Fail> {
+    let alloc = rt.alloc();
+    for (failing, want) in FAILING_READS {
+        let bytes = Bytes::of(Vec::from_slice(alloc, TWO)?);
+        let numbers = Items::of(Vec::from_slice(alloc, failing)?);
+        let mut source = MemorySource::new(bytes, 16, numbers);
+        let told = requests_of(alloc, &mut source, MOST)?;
+        assert_eq!(rt; told.as_str(), want, "{failing:?}");
+    }
+    Ok(())
+}
+
+/// The numbers of the writes of 16 bytes that fail, whether all 59 bytes are sent then, and how many
+/// are written.
+const FAILING_WRITES: [(&[u64], bool, usize); 8] = [
+    (&[], true, 59),
+    (&[0], true, 59),
+    (&[1], false, 0),
+    (&[2], false, 16),
+    (&[3], false, 32),
+    (&[4], false, 48),
+    (&[5], true, 59),
+    (&[4, 2], false, 16),
+];
+
+#[test]
+fn failed_writes_leave_a_prefix(rt: HostRuntime) -> Result<(), Fail> {
+    let alloc = rt.alloc();
+    for (failing, all, count) in FAILING_WRITES {
+        let numbers = Items::of(Vec::from_slice(alloc, failing)?);
+        let mut sink = MemorySink::new(alloc, 16, numbers);
+        assert_eq!(rt; sends(&mut sink, TWO)?, all, "{failing:?}");
+        assert_eq!(rt; sink.written().as_slice(), TWO.get(..count).unwrap_or(b""));
+    }
+    Ok(())
+}
+
+#[test]
+fn pieces_are_put_together(rt: HostRuntime) -> Result<(), Fail> {
+    let alloc = rt.alloc();
+    for piece in [1, 7, 59, 100_000] {
+        let mut sink = SteadySink::new(alloc, piece);
+        assert!(rt; sends(&mut sink, TWO)?);
+        assert!(rt; sends(&mut sink, b"")?);
+        assert!(rt; sends(&mut sink, TWO)?);
+        assert_eq!(rt; sink.written().as_slice().get(..59), Some(TWO));
+        assert_eq!(rt; sink.written().as_slice().get(59..), Some(TWO));
+    }
     Ok(())
 }

@@ -1,10 +1,13 @@
-use Rattle.std.proofs.Common.{sym, ◌∙◌}
+use Rattle.std.proofs.Common.{rules, tests, sym, ◌∙◌}
 use Rattle.std.specs.Str.{str_eq_ignore_ascii_case}
+use Rattle.std.proofs.lemmas.Iterator.{YieldsList-from_slice}
+use Rattle.std.proofs.lemmas.Iterator.Search.{any_from_yields_List}
 use Rattle.httparse.specs.Borrowed.{header_parts}
 use Rattle.sheets_http.proofs.ListLemmas.{list_any-map}
 use Rattle.sheets_http.proofs.fields.has_field.Goals as goal
 
 pub returns : goal.returns
 returns c =
-    c.any_is.ensures
+    any_from_yields_List (λ h. str_eq_ignore_ascii_case h.name.now c.args.name.now) _ _ c.any.result c.any.ensures.ran
+    (YieldsList-from_slice c.args.fields.now cc) (λ x b q k. search (rules, tests))
     ∙ sym (list_any-map (λ f. str_eq_ignore_ascii_case f.0 c.args.name.now) header_parts c.args.fields.now)

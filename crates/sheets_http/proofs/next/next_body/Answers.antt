@@ -6,4 +6,5 @@ returns-in-Ok-clause-answer g c =
     let body = c.in-None.ensures.body in
     answer_request c.args.most c.args.buffer.now c.wait_for_body.new.buffer c.take_request.new.buffer
     (g.L.Source.left c.args.link.now) (g.L.Source.left c.wait_for_body.new.link) c.args.end c.args.heading
-    c.in-Ok.wire body.0 body.1 body.2 body.3 body.4 c.in-Ok.ensures.buffer c.in-Ok.ensures.wire
+    c.in-Ok.wire c.wait_for_body.ensures.stream c.wait_for_body.ensures.used body.0 body.1 body.2
+    c.in-Ok.ensures.buffer c.in-Ok.ensures.wire

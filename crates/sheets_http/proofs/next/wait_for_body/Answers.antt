@@ -1,9 +1,9 @@
-use Rattle.std.proofs.Common.{◌≡◌, ◌-◌, List, length, take, refl, ap, ◌∙◌, sym, subst, arith, ℕ, length-take}
+use Rattle.std.proofs.Common.{◌≡◌, List, length, take, refl, ap, ◌∙◌, sym, subst, arith, ℕ, length-take}
 use Rattle.std.specs.Prelude.{Ok}
 use Rattle.sheets_http.specs.declared.request.Next.{Next}
 use Rattle.sheets_http.specs.Heads.{skip_breaks}
 use Rattle.sheets_http.specs.Buffering.{room_of, stream_of, end_answer}
-use Rattle.sheets_http.proofs.AnswerLemmas.{Answers, head_and_body, sight_with_more, body_too_long, body_cut}
+use Rattle.sheets_http.proofs.AnswerLemmas.{Answers, room_is, head_and_body, sight_with_more, body_too_long, body_cut}
 use Rattle.sheets_http.proofs.next.wait_for_body.Goals as goal
 
 pub overflow_add-whole : goal.overflow_add-whole
@@ -14,8 +14,8 @@ overflow_add-whole g c =
 
 pub returns-then-room-held-clause-body : goal.returns-then-room-held-clause-body
 returns-then-room-held-clause-body g c =
-    let room : c.saturating_sub-room.result ≡ room_of c.args.most c.args.buffer.now =
-    c.saturating_sub-room.ensures ∙ ap (λ n. c.args.most - n) c.used.ensures in
+    let room = room_is c.args.most c.saturating_sub-room.result c.used.result c.args.buffer.now
+    c.saturating_sub-room.ensures c.used.ensures in
     body_too_long c.args.most c.args.buffer.now c.body.buffer (g.L.Source.left c.args.link.now)
     (g.L.Source.left c.body.link) (stream_of c.body.buffer (g.L.Source.left c.body.link))
     (room_of c.args.most c.body.buffer) c.args.end c.args.heading.now c.body.invariant.stream
@@ -32,8 +32,8 @@ returns-then-room-held-clause-body g c =
 
 pub returns-in-Ok-eq0-clause-body : goal.returns-in-Ok-eq0-clause-body
 returns-in-Ok-eq0-clause-body g c =
-    let room : c.saturating_sub-room.result ≡ room_of c.args.most c.args.buffer.now =
-    c.saturating_sub-room.ensures ∙ ap (λ n. c.args.most - n) c.used.ensures in
+    let room = room_is c.args.most c.saturating_sub-room.result c.used.result c.args.buffer.now
+    c.saturating_sub-room.ensures c.used.ensures in
     let nothing : c.fill.result ≡ Ok 0 = cc (c.in-Ok-eq0.is, c.in-Ok-eq0.field-0-test) in
     let same = c.fill.ensures.end nothing in
     let head = sight_with_more (room_of c.args.most c.args.buffer.now) c.body.buffer.pending

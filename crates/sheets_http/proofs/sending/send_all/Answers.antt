@@ -9,6 +9,7 @@ loop-sent-preserved g c = record {
       (g.S.Sink.written c.write.new.self) c.args.bytes.now c.loop-sent.sent c.in-Ok.count
       c.loop-sent.invariant.written c.in-Ok.ensures.bytes;
   later = omega (arith, c.loop-sent.invariant.later, c.write.ensures.later);
+  short_later = omega (arith, c.loop-sent.invariant.short_later, c.write.ensures.short_later);
   steady = λ s.
       let before = c.loop-sent.invariant.steady s in
       let after = c.write.ensures.steady before.0 in

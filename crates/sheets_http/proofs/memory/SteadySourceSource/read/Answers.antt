@@ -4,9 +4,9 @@ use Rattle.sheets_http.proofs.memory.SteadySourceSource.read.Goals as goal
 
 pub returns-clause-bytes : goal.returns-clause-bytes
 returns-clause-bytes c =
-    let few : c.at_most-count.result ≤ length (take (length c.as_slice.result.now - c.self.inside.start)
+    let few : c.min-count.result ≤ length (take (length c.as_slice.result.now - c.self.inside.start)
     (drop c.self.inside.start c.as_slice.result.now)) = omega arith in
     let e = copied_then_rest c.self.inside.bytes c.as_slice.result.now c.copy_from_slice.new.self
-    (drop c.at_most-count.result c.args.into.now) c.self.inside.start c.at_most-count.result
+    (drop c.min-count.result c.args.into.now) c.self.inside.start c.min-count.result
     c.as_slice.ensures few c.copy_from_slice.ensures.after in
     cc

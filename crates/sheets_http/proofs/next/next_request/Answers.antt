@@ -1,0 +1,27 @@
+use Rattle.std.proofs.Common.{ap, ◌∙◌, arith}
+use Rattle.sheets_http.specs.declared.next.Turn.TheVariants as turn
+use Rattle.sheets_http.specs.Buffering.{room_of, stream_of}
+use Rattle.sheets_http.proofs.AnswerLemmas.{exact_on_stream}
+use Rattle.sheets_http.proofs.next.next_request.Goals as goal
+
+pub returns-in-Answer-clause-exactly : goal.returns-in-Answer-clause-exactly
+returns-in-Answer-clause-exactly g c =
+    exact_on_stream c.args.most c.args.buffer.now c.loop-next.buffer (g.L.Source.left c.args.link.now)
+    (g.L.Source.left c.loop-next.link) (room_of c.args.most c.read_once.new.buffer)
+    (stream_of c.read_once.new.buffer (g.L.Source.left c.read_once.new.link))
+    (g.L.Source.faults c.args.link.now) (g.L.Source.faults c.loop-next.link)
+    (g.L.Source.faults c.read_once.new.link) c.in-Answer.next c.loop-next.invariant.stream
+    c.loop-next.invariant.used c.loop-next.invariant.later c.in-Answer.ensures.turn
+    (λ e. c.in-Answer.ensures.fault (ap turn.Answer e))
+
+pub returns-in-Head-clause-exactly : goal.returns-in-Head-clause-exactly
+returns-in-Head-clause-exactly g c =
+    exact_on_stream c.args.most c.args.buffer.now c.read_once.new.buffer (g.L.Source.left c.args.link.now)
+    (g.L.Source.left c.read_once.new.link) (room_of c.args.most c.next_body.new.buffer)
+    (stream_of c.next_body.new.buffer (g.L.Source.left c.next_body.new.link))
+    (g.L.Source.faults c.args.link.now) (g.L.Source.faults c.read_once.new.link)
+    (g.L.Source.faults c.next_body.new.link) c.next_body.result
+    (c.loop-next.invariant.stream ∙ c.read_once.ensures.stream)
+    (c.read_once.ensures.used ∙ c.loop-next.invariant.used)
+    (omega (arith, c.loop-next.invariant.later, c.read_once.ensures.later))
+    c.next_body.ensures.answer c.next_body.ensures.fault

@@ -1,0 +1,197 @@
+ghost use Rattle.std.specs.Prelude.{◌≡◌, ◌<◌, ◌≤◌, ◌↔◌, true, [], length, is_err, OnErr, IfOk};
+ghost use Rattle.sheets_http.specs.Outside.{Rose, StaysSteady, Gives, EndsThere, Takes};
+ghost use Rattle.sheets_http.specs.Memory.{not_called, fails_next, called};
+
+use crate::{Sink, SinkFault, Source, SteadySink, SteadySource};
+use cell_value::{Bytes, Failed, Items};
+use std::alloc::Global;
+use std::marker::Model;
+
+/// The calls that were made of a device, some of which are to fail.
+#[derive(Debug, Drop)]
+struct Calls {
+    made: u64,
+    failing: Items<u64>,
+    faults: u64,
+}
+
+impl Model for Calls {
+    ghost use Rattle.sheets_http.specs.Memory.{Counted};
+
+    ghost Value = { Counted };
+
+    ghost view = { λ c. record { made = c.made; failing = c.failing; faults = c.faults } };
+}
+
+impl Calls {
+    /// No call yet.
+    fn new(failing: Items<u64>) -> Calls
+        ensures { result ≡ not_called failing }
+    {
+        Calls {
+            made: 0,
+            failing,
+            faults: 0,
+        }
+    }
+
+    /// Counts one more call, and answers whether it fails.
+    fn fails(&mut self) -> bool
+        ensures calls { self.new ≡ called self.old }
+        ensures later { self.old.faults ≤ self.new.faults }
+        ensures fails { result ≡ fails_next self.old }
+    {
+        self.made = self.made.saturating_add(1);
+        let fails = self.failing.as_slice().contains(&self.made);
+        if fails {
+            self.faults = self.faults.saturating_add(1);
+        }
+        fails
+    }
+}
+
+/// Bytes in memory as a source, some of whose reads fail. Contracts see the bytes that are left and
+/// the calls. It is steady where no call is to fail.
+#[derive(Debug, Drop)]
+pub struct MemorySource {
+    source: SteadySource,
+    calls: Calls,
+}
+
+impl Model for MemorySource {
+    ghost use Rattle.sheets_http.specs.Memory.{Reading};
+
+    ghost Value = { Reading };
+
+    ghost view = { λ s. record { left = s.source; calls = s.calls } };
+}
+
+impl MemorySource {
+    /// A source with these bytes, a read of which gives at most `piece` bytes; the reads whose
+    /// numbers are among `failing`, counted from 1, fail.
+    pub fn new(bytes: Bytes, piece: u64, failing: Items<u64>) -> MemorySource
+        requires { 0 < piece }
+        ensures { result ≡ record { left = bytes; calls = not_called failing } }
+    {
+        MemorySource {
+            source: SteadySource::new(bytes, piece),
+            calls: Calls::new(failing),
+        }
+    }
+}
+
+impl Source for MemorySource {
+    ghost use Rattle.std.specs.Prelude.{Some};
+    ghost use Rattle.sheets_http.specs.Outside.{no_side};
+    ghost use Rattle.sheets_http.specs.Memory.{never_fails};
+    ghost use Rattle.std.proofs.Common.{rules};
+
+    ghost steady_low = { Prim.search rules };
+
+    ghost left = { λ source. Some source.left };
+
+    ghost faults = { λ source. source.calls.faults };
+
+    ghost steady = { λ source. never_fails source.calls };
+
+    ghost beside = { λ _. no_side };
+
+    /// It takes no memory.
+    fn read(&mut self, into: &mut [u8]) -> Result<usize, Failed>
+        ensures bound { IfOk result (λ count. count ≤ length into.new) }
+        ensures bytes { Gives (Some self.old.left) (Some self.new.left) into.new result }
+        ensures end { EndsThere (Some self.old.left) into.new result }
+        ensures cause { OnErr result (Rose self.old.calls.faults self.new.calls.faults) }
+        ensures later { self.old.calls.faults ≤ self.new.calls.faults }
+        ensures steady { StaysSteady (never_fails self.old.calls) (never_fails self.new.calls) self.old.calls.faults self.new.calls.faults }
+        ensures calls { self.new.calls ≡ called self.old.calls }
+        ensures fails { is_err result ≡ fails_next self.old.calls }
+    {
+        if self.calls.fails() {
+            Err(Failed)
+        } else {
+            self.source.read(into)
+        }
+    }
+}
+
+/// A growing list of bytes in memory as a sink, some of whose writes fail. Contracts see the bytes
+/// that were written, how often a write found no memory, and the calls. It is steady where no call
+/// is to fail.
+#[derive(Debug, Drop)]
+pub struct MemorySink {
+    sink: SteadySink,
+    calls: Calls,
+}
+
+impl Model for MemorySink {
+    ghost use Rattle.sheets_http.specs.Memory.{Writing};
+
+    ghost Value = { Writing };
+
+    ghost view = { λ s. record { taken = s.sink; calls = s.calls } };
+}
+
+impl MemorySink {
+    /// A sink to which nothing was written yet, a write to which takes at most `piece` bytes; the
+    /// writes whose numbers are among `failing`, counted from 1, fail.
+    pub fn new(alloc: Global, piece: u64, failing: Items<u64>) -> MemorySink
+        requires { 0 < piece }
+        ensures { result ≡ record {
+          taken = record { written = []; shortages = 0 };
+          calls = not_called failing;
+        } }
+    {
+        MemorySink {
+            sink: SteadySink::new(alloc, piece),
+            calls: Calls::new(failing),
+        }
+    }
+
+    /// The bytes that were written so far.
+    pub fn written(&self) -> &Bytes
+        ensures { result.now ≡ self.now.taken.written }
+    {
+        self.sink.written()
+    }
+}
+
+impl Sink for MemorySink {
+    ghost use Rattle.std.specs.Prelude.{Some};
+    ghost use Rattle.sheets_http.specs.Outside.{no_side};
+    ghost use Rattle.sheets_http.specs.Memory.{never_fails};
+    ghost use Rattle.std.proofs.Common.{rules};
+
+    ghost sink_steady_low = { Prim.search rules };
+
+    ghost written = { λ sink. Some sink.taken.written };
+
+    ghost sink_faults = { λ sink. sink.calls.faults };
+
+    ghost sink_shortages = { λ sink. sink.taken.shortages };
+
+    ghost sink_steady = { λ sink. never_fails sink.calls };
+
+    ghost sink_beside = { λ _. no_side };
+
+    /// Nothing of the piece is written where it fails.
+    fn write(&mut self, bytes: &[u8]) -> Result<usize, SinkFault>
+        ensures bound { IfOk result (λ count. count ≤ length bytes.now) }
+        ensures bytes { Takes (Some self.old.taken.written) (Some self.new.taken.written) bytes.now result }
+        ensures cause { result ≡ Err SinkFault.Failed → Rose self.old.calls.faults self.new.calls.faults }
+        ensures stuck { result ≡ Ok 0 → 0 < length bytes.now → Rose self.old.calls.faults self.new.calls.faults }
+        ensures later { self.old.calls.faults ≤ self.new.calls.faults }
+        ensures short { result ≡ Err SinkFault.NoMemory → Rose self.old.taken.shortages self.new.taken.shortages }
+        ensures short_later { self.old.taken.shortages ≤ self.new.taken.shortages }
+        ensures steady { StaysSteady (never_fails self.old.calls) (never_fails self.new.calls) self.old.calls.faults self.new.calls.faults }
+        ensures calls { self.new.calls ≡ called self.old.calls }
+        ensures fails { (result ≡ Err SinkFault.Failed) ↔ (fails_next self.old.calls ≡ true) }
+        ensures unwritten { OnErr result (self.new.taken.written ≡ self.old.taken.written) }
+    {
+        if self.calls.fails() {
+            Err(SinkFault::Failed)
+        } else {
+            self.sink.write(bytes)
+        }
+    }
+}
