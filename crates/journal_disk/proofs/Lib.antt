@@ -1,7 +1,8 @@
-mod Contents
 mod Ending
 mod Images
+mod Joining
 mod Kept
 mod Moments
 mod Pieces
+mod Recording
 mod Scanning

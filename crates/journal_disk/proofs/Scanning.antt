@@ -44,7 +44,7 @@ module _ {D : Type 0} (seen : D → List ℕ) (may_leave : D → List ℕ → Ty
     now = λ c left. all c (read.no_more c left);
   }
 
-take_split : (d n : ℕ) (xs : List ℕ) → d ≤ length xs → take (d + n) xs ≡ take d xs ++ take n (drop d xs)
+pub take_split : (d n : ℕ) (xs : List ℕ) → d ≤ length xs → take (d + n) xs ≡ take d xs ++ take n (drop d xs)
 take_split d n xs le =
     let size : length (take d xs) ≡ d = length-take-le d xs le in
     ap (λ (l : List ℕ). take (d + n) l) (sym (take-append-drop d xs))
@@ -108,14 +108,14 @@ head_split (first ∷ image) gate size long is_gate is_size =
     ap (λ (n : ℕ). n ∷ image) (sym (ap (λ (l : List ℕ). get_or l 0 0) is_gate))
     ∙ ap (λ (l : List ℕ). get_or gate 0 0 ∷ l) (sym (take-append-drop 8 image) ∙ ap (λ (l : List ℕ). l ++ drop 8 image) (sym is_size))
 
+pub some_left : (pieces : List (List ℕ)) (rest : List ℕ) → 0 < length rest → 0 < length (records pieces rest)
+some_left [] rest behind = behind
+some_left (piece ∷ pieces) rest behind = omega arith
+
 -- the records of an image whose rest holds none
 pub records_pieces : (pieces : List (List ℕ)) (rest : List ℕ) → AllFit pieces → NoRecord rest → 0 < length rest → HasPieces (records pieces rest) pieces
 records_pieces [] rest fit none behind = none
-records_pieces (piece ∷ pieces) rest fit none behind = (records pieces rest, record { split = refl; fits = fit.0; behind = longer pieces }, records_pieces pieces rest fit.1 none behind)
-  where
-    longer : (others : List (List ℕ)) → 0 < length (records others rest)
-    longer [] = behind
-    longer (other ∷ others) = omega arith
+records_pieces (piece ∷ pieces) rest fit none behind = (records pieces rest, record { split = refl; fits = fit.0; behind = some_left pieces rest behind }, records_pieces pieces rest fit.1 none behind)
 
 pub at_front : (image : List ℕ) (place held : ℕ) (front : IsFront image place held) → drop place image ≡ front.rest
 at_front image place held front =

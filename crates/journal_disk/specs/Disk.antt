@@ -1,5 +1,5 @@
 -- What the calls of a disk do to its image, and what a crash may leave of it.
-use Rattle.std.specs.Prelude.{◌<◌, ◌≡◌, ◌⊎◌, ℕ, ◌+◌, ◌≤◌, max, List, ◌++◌, length, take, drop, Result, OnErr}
+use Rattle.std.specs.Prelude.{◌<◌, ◌≡◌, ◌⊎◌, ℕ, ◌+◌, ◌≤◌, max, List, ◌++◌, length, take, drop, Result, OnErr, IfErr}
 
 -- new is old with these bytes from this place on
 abbrev pub Holds : List ℕ → ℕ → List ℕ → List ℕ → Type 0
@@ -43,7 +43,12 @@ pub record Rose {T E : Type 0} (before now : ℕ) (result : Result T E) : Type 0
   pub later : before ≤ now
   pub failed : OnErr result ((before < now) ⊎ (now ≡ last_count))
 
--- so, and each image that a crash at the new moment may leave has P, too
+-- the count of faults never falls, and where the call failed by this fault it rose, or stands at its last value
+pub record RoseBy {T E : Type 0} (fault : E) (before now : ℕ) (result : Result T E) : Type 0 where
+  pub later : before ≤ now
+  pub failed : IfErr result (λ given. given ≡ fault → (before < now) ⊎ (now ≡ last_count))
+
+-- A crash at any moment since old leaves an image that has P, and so does a crash at the new moment.
 pub record Stays {D : Type 0} (moment : D → ℕ) (left_since : D → ℕ → List ℕ → Type 0) (may_leave : D → List ℕ → Type 0) (old new : D) (P : List ℕ → Type 0) : Type 0 where
   pub moments : LeavesOnly moment left_since old new P
   pub now : (image : List ℕ) → may_leave new image → P image

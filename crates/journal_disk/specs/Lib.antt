@@ -1,4 +1,5 @@
 pub mod Disk
+pub mod Laws
 pub mod Log
-pub mod Past
+pub mod Recorded
 pub mod Records

@@ -1,19 +1,12 @@
 ghost use Rattle.std.specs.Prelude.{◌≡◌, ◌<◌, ◌≤◌, length};
 
 use crate::Disk;
+use crate::fault::LogFault;
 use crate::gate::write_gate;
+use crate::loading::read_pieces;
 use crate::opening::prepare;
 use crate::staging::stage;
-use cell_value::Failed;
-
-/// Why a log couldn't be opened or read.
-#[derive(Clone, Copy, Debug, PartialEq, Eq)]
-pub enum LogFault {
-    /// The disk failed in this call.
-    Failed,
-    /// Memory ran out.
-    NoMemory,
-}
+use cell_value::{Bytes, Failed};
 
 /// A log of pieces on a disk.
 ///
@@ -30,8 +23,9 @@ pub struct DiskLog<D: Disk> {
 }
 
 impl<D: Disk> DiskLog<D> {
-    ghost use Rattle.std.specs.Prelude.{List, ℕ, Option, Some, None, OnOk, OnErr, IfOk, IfErr, ◌+◌, ◌++◌, ◌⊎◌, [], ◌∷◌};
-    ghost use Rattle.journal_disk.specs.Disk.{LeavesOnly, Stays, Rose, last_count};
+    ghost use Rattle.std.specs.Prelude.{List, ℕ, Option, Some, None, take, OnOk, OnErr, IfOk, IfErr, ◌+◌, ◌++◌, ◌⊎◌, [], ◌∷◌};
+    ghost use Rattle.journal_disk.specs.Disk.{LeavesOnly, Stays, Rose, RoseBy, last_count};
+    ghost use Rattle.std.specs.List.{concat};
     ghost use Rattle.journal_disk.specs.Log.{Each, Keeps, IsKept, IsKeptOrPut, MayHaveThese};
     ghost use Rattle.journal_disk.specs.Records.{HasPieces, OneListOfPieces, ClosedGateEnds};
 
@@ -80,6 +74,33 @@ impl<D: Disk> DiskLog<D> {
             → Each (D.may_leave result) (IsKept pieces doubted) }
     {
         self.disk
+    }
+
+    /// Reads the kept bytes into `into`, in place of what was there: the pieces joined, or the first
+    /// `most` bytes of them. A piece whose gate is open to doubt isn't read.
+    ///
+    /// # Errors
+    ///
+    /// [`LogFault::Failed`] where the disk failed in this call, and [`LogFault::NoMemory`] where
+    /// memory ran out. Then `into` has some first bytes of them.
+    pub fn load(&mut self, most: u64, into: &mut Bytes) -> Result<(), LogFault>
+        ensures loaded { OnOk result ((pieces : List (List ℕ)) (doubted : Option (List ℕ))
+            → Keeps (D.may_leave self.old.disk) self.old.end self.old.kept self.old.in_doubt pieces doubted
+            → into.new ≡ take most (concat pieces)) }
+        ensures fewer { OnErr result ((pieces : List (List ℕ)) (doubted : Option (List ℕ))
+            → Keeps (D.may_leave self.old.disk) self.old.end self.old.kept self.old.in_doubt pieces doubted
+            → (count : ℕ) × (into.new ≡ take count (concat pieces))) }
+        ensures keeps { (pieces : List (List ℕ)) (doubted : Option (List ℕ))
+            → Keeps (D.may_leave self.old.disk) self.old.end self.old.kept self.old.in_doubt pieces doubted
+            → Keeps (D.may_leave self.new.disk) self.new.end self.new.kept self.new.in_doubt pieces doubted }
+        ensures any_moment { (pieces : List (List ℕ)) (doubted : Option (List ℕ))
+            → Keeps (D.may_leave self.old.disk) self.old.end self.old.kept self.old.in_doubt pieces doubted
+            → LeavesOnly D.moment D.left_since self.old.disk self.new.disk (IsKept pieces doubted) }
+        ensures same { self.new.kept ≡ self.old.kept }
+        ensures cause { RoseBy LogFault.Failed (D.faults self.old.disk) (D.faults self.new.disk) result }
+    {
+        into.clear();
+        read_pieces(&mut self.disk, most.min(self.kept), into)
     }
 
     /// Puts a piece behind those that are kept, and acknowledges it: from then on each crash leaves

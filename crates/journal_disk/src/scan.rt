@@ -32,8 +32,8 @@ pub fn find_ending<D: Disk>(disk: &mut D, size: u64) -> Result<Ending, Failed>
     Ok(Ending { place, held })
 }
 
-// The length of the piece of the record at a place, if one stands there.
-fn record_at<D: Disk>(disk: &mut D, at: u64, size: u64) -> Result<Option<u64>, Failed>
+/// The length of the piece of the record at a place, if one stands there.
+pub fn record_at<D: Disk>(disk: &mut D, at: u64, size: u64) -> Result<Option<u64>, Failed>
     requires size { size ≡ length (D.seen disk.old) }
     requires within { at ≤ size }
     ensures found { IfOk result (λ found. MatchOption found (NoRecord (drop at (D.seen disk.old)))

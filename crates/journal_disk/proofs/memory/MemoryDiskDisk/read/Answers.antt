@@ -1,0 +1,34 @@
+use Rattle.std.proofs.Common.{refl}
+use Rattle.journal_disk.specs.declared.calls.Call.TheVariants.{Read}
+use Rattle.journal_disk.proofs.Recording.{notes_sound, notes_told, notes_time, notes_crash}
+use Rattle.journal_disk.proofs.memory.MemoryDiskDisk.read.Goals as goal
+
+pub invariant_of-self : goal.invariant_of-self
+invariant_of-self c =
+    let disk = c.args.self.now in
+    let call = Read c.next_fails-failed.result in
+    record {
+      sound = notes_sound disk.written.items disk.calls.items c.note-fails.new.calls.items call c.note-fails.ensures.either disk.sound refl refl;
+      told = notes_told disk.written.items disk.calls.items c.note-fails.new.calls.items call c.note-fails.ensures.either disk.bytes.items (λ held. refl) disk.told;
+      small = disk.small;
+    }
+
+pub returns-in_err-answer-clause-crash : goal.returns-in_err-answer-clause-crash
+returns-in_err-answer-clause-crash c image =
+    let disk = c.args.self.now in
+    notes_crash disk.written.items disk.calls.items c.note-fails.new.calls.items (Read c.next_fails-failed.result) c.note-fails.ensures.either image (λ held one left. left)
+
+pub returns-in_err-answer-clause-time : goal.returns-in_err-answer-clause-time
+returns-in_err-answer-clause-time c =
+    let disk = c.args.self.now in
+    notes_time disk.written.items disk.calls.items c.note-fails.new.calls.items (Read c.next_fails-failed.result) c.note-fails.ensures.either
+
+pub returns-clause-crash : goal.returns-clause-crash
+returns-clause-crash c image =
+    let disk = c.args.self.now in
+    notes_crash disk.written.items disk.calls.items c.note-fails.new.calls.items (Read c.next_fails-failed.result) c.note-fails.ensures.either image (λ held one left. left)
+
+pub returns-clause-time : goal.returns-clause-time
+returns-clause-time c =
+    let disk = c.args.self.now in
+    notes_time disk.written.items disk.calls.items c.note-fails.new.calls.items (Read c.next_fails-failed.result) c.note-fails.ensures.either

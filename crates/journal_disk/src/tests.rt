@@ -1,0 +1,374 @@
+use crate::{Call, Disk, DiskLog, LogFault, MemoryDisk};
+use cell_value::{Bytes, Items, NoMemory};
+use std::alloc::{AllocError, Global};
+use std::test::Fail;
+
+const PIECE: [u8; 144] = [7; 144];
+
+// A disk with room for a record of 100 calls and 20,000 bytes.
+fn disk(alloc: Global, failing: [u64; 2]) -> Result<MemoryDisk, NoMemory> {
+    let failing = Items::of(Vec::from_array(alloc, failing)?);
+    MemoryDisk::new(alloc, 100, 20_000, failing, None)
+}
+
+// The kept bytes of an image, or none where it couldn't be opened.
+fn kept_in(alloc: Global, image: &[u8]) -> Result<Option<Bytes>, NoMemory> {
+    let mut disk = disk(alloc, [0; 2])?;
+    let written = disk.write(0, image);
+    let settled = disk.sync();
+    if written.is_err() || settled.is_err() {
+        return Ok(None);
+    }
+    let Ok(mut log) = DiskLog::open(disk) else {
+        return Ok(None);
+    };
+    let mut kept = Bytes::of(Vec::new(alloc));
+    match log.load(u64::MAX, &mut kept) {
+        Ok(()) => Ok(Some(kept)),
+        Err(LogFault::NoMemory) => Err(NoMemory),
+        Err(LogFault::Failed) => Ok(None),
+    }
+}
+
+#[test]
+fn a_piece_stands_behind_its_gate_and_length(rt: HostRuntime) -> Result<(), Fail> {
+    let Ok(log) = DiskLog::open(disk(rt.alloc(), [0; 2])?) else {
+        assert!(rt; false, "opens");
+        return Ok(());
+    };
+    let disk = log.close();
+    assert_eq!(rt; disk.bytes(), [0].as_slice());
+    let Ok(mut log) = DiskLog::open(disk) else {
+        assert!(rt; false, "opens again");
+        return Ok(());
+    };
+    assert_eq!(rt; log.length(), 0);
+    let put = log.put(0, &PIECE);
+    assert!(rt; put.is_ok());
+    assert_eq!(rt; log.length(), 144);
+    let disk = log.close();
+    let bytes = disk.bytes();
+    assert_eq!(rt; bytes.len(), 154);
+    assert_eq!(rt; &bytes[..9], [1, 0, 0, 0, 0, 0, 0, 0, 0x90].as_slice());
+    assert_eq!(rt; &bytes[9..153], PIECE.as_slice());
+    assert_eq!(rt; bytes[153], 0);
+    Ok(())
+}
+
+// The place and the length of a write, or none of a sync.
+const CALLS_OF_A_PUT: [Option<(u64, u64)>; 6] = [
+    Some((1, 8)),
+    Some((9, 144)),
+    Some((153, 1)),
+    None,
+    Some((0, 1)),
+    None,
+];
+
+#[test]
+fn a_put_makes_six_calls(rt: HostRuntime) -> Result<(), Fail> {
+    let Ok(mut log) = DiskLog::open(disk(rt.alloc(), [0; 2])?) else {
+        assert!(rt; false, "opens");
+        return Ok(());
+    };
+    let at = log.length();
+    let put = log.put(at, &PIECE);
+    assert!(rt; put.is_ok());
+    let disk = log.close();
+    assert_eq!(rt; disk.calls().len(), 10);
+    for (made, wanted) in disk.calls()[4..].iter().zip(CALLS_OF_A_PUT) {
+        let place = match *made {
+            Call::Write { at, count, .. } => Some((at, count)),
+            _ => None,
+        };
+        assert_eq!(rt; place, wanted);
+        assert_eq!(rt; *made == Call::Sync { failed: false }, wanted.is_none());
+    }
+    Ok(())
+}
+
+// The images of a disk with the settled bytes 7, 7 and 7, where 8, 8 and 8 were written from place 1
+// on, and 9 from place 4 on.
+const IMAGES: [(u64, &[u8]); 16] = [
+    (0, &[7, 7, 7]),
+    (1, &[7, 8, 8, 8, 9]),
+    (2, &[7, 0, 0, 0, 0]),
+    (3, &[7, 1, 1, 1, 1]),
+    (4, &[7, 255, 255, 255, 255]),
+    (5, &[7, 8, 8]),
+    (6, &[7, 1, 1]),
+    (7, &[7, 255, 255]),
+    (8, &[7, 8, 8, 8]),
+    (9, &[7, 0, 0, 0]),
+    (10, &[7, 1, 1, 1]),
+    (11, &[7, 255, 255, 255]),
+    (12, &[7, 7, 7, 0, 9]),
+    (13, &[7, 7, 7, 0, 0]),
+    (14, &[7, 7, 7, 0, 1]),
+    (63, &[7, 7, 7]),
+];
+
+#[test]
+fn images_are_torn_in_each_way(rt: HostRuntime) -> Result<(), Fail> {
+    let mut disk = disk(rt.alloc(), [0; 2])?;
+    let first = disk.write(0, &[7, 7, 7]);
+    let settled = disk.sync();
+    assert!(rt; first.is_ok() && settled.is_ok());
+    for (at, bytes) in [(1, [8u8, 8, 8].as_slice()), (4, &[9])] {
+        let size = disk.bytes().len() as u64;
+        let written = disk.write(size.min(at), bytes);
+        assert!(rt; written.is_ok());
+    }
+    for (pick, image) in IMAGES {
+        assert_eq!(rt; disk.image(pick)?.as_slice(), image, "{pick}");
+    }
+    Ok(())
+}
+
+// There is room for a record of three calls and of four bytes.
+#[test]
+fn a_call_without_room_for_its_record_fails(rt: HostRuntime) -> Result<(), Fail> {
+    let alloc = rt.alloc();
+    let mut disk = MemoryDisk::new(alloc, 3, 4, Items::of(Vec::new(alloc)), None)?;
+    let first = disk.write(0, &[1, 2, 3]);
+    let too_long = disk.write(0, &[4, 5]);
+    let size = disk.bytes().len() as u64;
+    let last_byte = disk.write(size, &[6]);
+    let settled = disk.sync();
+    let fourth = disk.size();
+    assert_eq!(rt;
+        (
+            first.is_ok(),
+            too_long.is_ok(),
+            last_byte.is_ok(),
+            settled.is_ok(),
+            fourth.is_ok()
+        ),
+        (true, false, true, true, false)
+    );
+    assert_eq!(rt; disk.bytes(), [1, 2, 3, 6].as_slice());
+    assert_eq!(rt; disk.calls().len(), 3);
+    Ok(())
+}
+
+// An empty disk is opened by calls 1 to 4, and the first put makes calls 5 to 10. At the call `stop`
+// and later each call fails, and none is recorded after it: first and last call, and whether an image
+// may have no piece, and the piece.
+const STOPS_OF_A_PUT: [(u64, u64, bool, bool); 3] = [
+    (5, 8, true, false),
+    (9, 10, true, true),
+    (11, 11, false, true),
+];
+
+#[test]
+fn a_crash_after_each_call_of_a_put_leaves_it_whole_or_not_at_all(
+    rt: HostRuntime,
+) -> Result<(), Fail> {
+    let alloc = rt.alloc();
+    for (first, last, may_be_none, may_be_one) in STOPS_OF_A_PUT {
+        for stop in first..=last {
+            let disk = stopped_disk(alloc, [0; 2], stop)?;
+            let Ok(mut log) = DiskLog::open(disk) else {
+                assert!(rt; false, "opens");
+                return Ok(());
+            };
+            let at = log.length();
+            let put = log.put(at, &PIECE);
+            assert_eq!(rt; put.is_ok(), stop == 11);
+            let disk = log.close();
+            let found = found_in(alloc, &disk, &[], &PIECE)?;
+            assert_eq!(rt;
+                found,
+                (may_be_none, may_be_one, false),
+                "stopped at {stop}"
+            );
+        }
+    }
+    Ok(())
+}
+
+// A disk that fails from the call `stop` on, and has no room for a record of a later one.
+fn stopped_disk(alloc: Global, failing: [u64; 2], stop: u64) -> Result<MemoryDisk, NoMemory> {
+    let failing = Items::of(Vec::from_array(alloc, failing)?);
+    MemoryDisk::new(alloc, stop, 20_000, failing, Some(stop))
+}
+
+// Whether one of the images 0 to 63 has these kept bytes, these with a piece behind them, or others.
+fn found_in(
+    alloc: Global,
+    disk: &MemoryDisk,
+    kept: &[u8],
+    piece: &[u8],
+) -> Result<(bool, bool, bool), NoMemory> {
+    let mut longer = Bytes::of(Vec::from_slice(alloc, kept)?);
+    longer.extend_from_slice(piece)?;
+    let mut found = (false, false, false);
+    for pick in 0..64 {
+        let image = disk.image(pick)?;
+        match kept_in(alloc, image.as_slice())? {
+            Some(bytes) if bytes.as_slice() == kept => found.0 = true,
+            Some(bytes) if bytes.as_slice() == longer.as_slice() => found.1 = true,
+            _ => found.2 = true,
+        }
+    }
+    Ok(found)
+}
+
+// A put behind one that failed at its last sync begins with the gate's 0 and a sync. The puts are of
+// 144, 10 and 20 bytes, and no call has the number 0: the calls that fail, the number of puts, and the
+// number of bytes that are kept then.
+const FAILED_PUTS: [(&str, [u64; 2], usize, Option<u64>); 6] = [
+    ("nothing fails", [0, 0], 2, Some(154)),
+    ("the first sync of opening", [1, 0], 1, None),
+    ("the first sync of a put", [8, 0], 1, Some(0)),
+    ("the last sync of a put", [10, 0], 2, Some(10)),
+    ("and the sync of the gate's 0", [10, 12], 3, Some(20)),
+    ("the last sync alone", [10, 0], 1, Some(144)),
+];
+
+#[test]
+fn failed_puts_leave_no_piece_behind_later_ones(rt: HostRuntime) -> Result<(), Fail> {
+    let alloc = rt.alloc();
+    for (name, failing, puts, kept) in FAILED_PUTS {
+        assert_eq!(rt; kept_after(alloc, failing, puts)?, kept, "{name}");
+    }
+    Ok(())
+}
+
+// How many bytes are kept when the log is opened again, or none where it couldn't be opened.
+fn kept_after(alloc: Global, failing: [u64; 2], puts: usize) -> Result<Option<u64>, NoMemory> {
+    let Ok(mut log) = DiskLog::open(disk(alloc, failing)?) else {
+        return Ok(None);
+    };
+    for length in [144usize, 10, 20].into_iter().take(puts) {
+        let at = log.length();
+        let _ = log.put(at, &PIECE[..length.min(144)]);
+    }
+    match DiskLog::open(log.close()) {
+        Ok(again) => Ok(Some(again.length())),
+        Err(_) => Ok(None),
+    }
+}
+
+const SCRIPT: [&[u8]; 5] = [
+    &[1, 1, 1],
+    &[2, 0, 0, 0, 0, 0, 0, 0, 3, 1],
+    &[3],
+    &[1, 0, 0, 0, 0, 0, 0, 0, 1, 9, 9, 0],
+    &[5, 5, 5, 5, 5],
+];
+
+// The second of five puts fails at its last sync, call 16, so that the third begins with the gate's 0;
+// the third fails at its first sync, call 22: first and last call at which it stops, the bytes that
+// are kept, and the piece that may stand behind them.
+const STOPS: [(u64, u64, &[u8], &[u8]); 9] = [
+    (1, 8, &[], &[]),
+    (9, 10, &[], &[1, 1, 1]),
+    (11, 14, &[1, 1, 1], &[]),
+    (15, 18, &[1, 1, 1], &[2, 0, 0, 0, 0, 0, 0, 0, 3, 1]),
+    (19, 26, &[1, 1, 1], &[]),
+    (27, 28, &[1, 1, 1], &[1, 0, 0, 0, 0, 0, 0, 0, 1, 9, 9, 0]),
+    (29, 32, &[1, 1, 1, 1, 0, 0, 0, 0, 0, 0, 0, 1, 9, 9, 0], &[]),
+    (
+        33,
+        34,
+        &[1, 1, 1, 1, 0, 0, 0, 0, 0, 0, 0, 1, 9, 9, 0],
+        &[5, 5, 5, 5, 5],
+    ),
+    (
+        35,
+        35,
+        &[1, 1, 1, 1, 0, 0, 0, 0, 0, 0, 0, 1, 9, 9, 0, 5, 5, 5, 5, 5],
+        &[],
+    ),
+];
+
+#[test]
+fn a_crash_at_each_call_of_a_script_keeps_what_was_acknowledged(
+    rt: HostRuntime,
+) -> Result<(), Fail> {
+    let alloc = rt.alloc();
+    for (first, last, kept, piece) in STOPS {
+        for stop in first..=last {
+            let disk = after_script(stopped_disk(alloc, [16, 22], stop)?);
+            let found = found_in(alloc, &disk, kept, piece)?;
+            let may_be_longer = !piece.is_empty();
+            assert_eq!(rt; found, (true, may_be_longer, false), "stopped at {stop}");
+        }
+    }
+    Ok(())
+}
+
+// The disk after the script's puts.
+fn after_script(disk: MemoryDisk) -> MemoryDisk {
+    match DiskLog::open(disk) {
+        Ok(mut log) => {
+            for piece in SCRIPT {
+                let at = log.length();
+                let _ = log.put(at, piece);
+            }
+            log.close()
+        }
+        Err((_, disk)) => disk,
+    }
+}
+
+const LONG: [u8; 5000] = [9; 5000];
+
+// How many bytes are asked for, and how many there are.
+const LOADS: [(u64, usize); 8] = [
+    (0, 0),
+    (1, 1),
+    (144, 144),
+    (145, 145),
+    (4241, 4241),
+    (5143, 5143),
+    (5144, 5144),
+    (u64::MAX, 5144),
+];
+
+#[test]
+fn a_load_gives_the_pieces_joined_or_their_first_bytes(rt: HostRuntime) -> Result<(), Fail> {
+    let alloc = rt.alloc();
+    let Ok(mut log) = DiskLog::open(disk(alloc, [0; 2])?) else {
+        assert!(rt; false, "opens");
+        return Ok(());
+    };
+    for piece in [PIECE.as_slice(), &[], &LONG] {
+        let at = log.length();
+        let put = log.put(at, piece);
+        assert!(rt; put.is_ok());
+    }
+    let mut whole = Bytes::of(Vec::from_slice(alloc, &PIECE)?);
+    whole.extend_from_slice(&LONG)?;
+    let mut kept = Bytes::of(Vec::from_slice(alloc, &[3])?);
+    for (most, count) in LOADS {
+        log.load(most, &mut kept)?;
+        assert_eq!(rt;
+            kept.as_slice(),
+            &whole.as_slice()[..count.min(whole.as_slice().len())]
+        );
+    }
+    Ok(())
+}
+
+// The second load fails: each load reads the size, then the gate, the length and the piece. An empty
+// disk is opened by calls 1 to 4, and a put makes six.
+#[test]
+fn a_load_tells_that_the_disk_failed(rt: HostRuntime) -> Result<(), Fail> {
+    let alloc = rt.alloc();
+    let Ok(mut log) = DiskLog::open(disk(alloc, [15, 0])?) else {
+        assert!(rt; false, "opens");
+        return Ok(());
+    };
+    let at = log.length();
+    let put = log.put(at, &PIECE);
+    assert!(rt; put.is_ok());
+    let mut kept = Bytes::of(Vec::new(alloc));
+    log.load(u64::MAX, &mut kept)?;
+    assert_eq!(rt; kept.as_slice(), PIECE.as_slice());
+    assert_eq!(rt; log.load(u64::MAX, &mut kept), Err(LogFault::Failed));
+    log.load(u64::MAX, &mut kept)?;
+    assert_eq!(rt; kept.as_slice(), PIECE.as_slice());
+    Ok(())
+}
