@@ -6,29 +6,29 @@ use Rattle.std.specs.Map.{lookup, update_all, keys_of}
 use Rattle.std.proofs.lemmas.Cmp.{eq_by_cmp_equiv}
 use Rattle.std.proofs.lemmas.Map.Keys.{IsDistinct-from_sorted}
 use Rattle.std.proofs.lemmas.Map.Made.{update_all_none}
-use Rattle.std.specs.BTreeMap as tree
-use Rattle.std.specs.BTreeMap.{BTreeMap, is_at}
+use Rattle.std.specs.List.Sorted.{IsStrictlySortedBy}
 use Rattle.cell_store.specs.Table.{by_rows}
-use Rattle.cell_store.proofs.Cells.{by_rows_total}
+use Rattle.cell_store.specs.Entries.{entry_at}
+use Rattle.cell_store.proofs.Cells.{SetsPlace, by_rows_total}
 
 module _ {T : Type 0} where
   -- with the rest of the entries put into it the tree has what all of them make
-  abbrev pub FillsTo : BTreeMap (ℕ × ℕ) T → List ((ℕ × ℕ) × T) → List ((ℕ × ℕ) × T) → Type 0
+  abbrev pub FillsTo : List ((ℕ × ℕ) × T) → List ((ℕ × ℕ) × T) → List ((ℕ × ℕ) × T) → Type 0
   FillsTo items rest all = (place : ℕ × ℕ)
-      → update_all (eq_by_cmp by_rows) (tree.get by_rows items) rest place ≡ update_all (eq_by_cmp by_rows) (λ _. None) all place
+      → update_all (eq_by_cmp by_rows) (entry_at items) rest place ≡ update_all (eq_by_cmp by_rows) (λ _. None) all place
 
-  pub fills_first : (items : BTreeMap (ℕ × ℕ) T) (all : List ((ℕ × ℕ) × T)) → tree.IsEmpty items → FillsTo items all all
+  pub fills_first : (items : List ((ℕ × ℕ) × T)) (all : List ((ℕ × ℕ) × T)) → items ≡ [] → FillsTo items all all
   fills_first items all empty place =
-      ap (λ es. update_all (eq_by_cmp by_rows) (λ q. lookup (is_at (by_rows q)) es) all place) empty
+      ap (λ es. update_all (eq_by_cmp by_rows) (λ q. lookup (eq_by_cmp by_rows q) es) all place) empty
 
-  pub fills_on : (items after : BTreeMap (ℕ × ℕ) T) (place : ℕ × ℕ) (item : T) (rest all : List ((ℕ × ℕ) × T))
-      → tree.Updates by_rows items after place (Some item) → FillsTo items ((place, item) ∷ rest) all → FillsTo after rest all
+  pub fills_on : (items after : List ((ℕ × ℕ) × T)) (place : ℕ × ℕ) (item : T) (rest all : List ((ℕ × ℕ) × T))
+      → SetsPlace items after place (Some item) → FillsTo items ((place, item) ∷ rest) all → FillsTo after rest all
   fills_on items after place item rest all updates fills q =
-      ap (λ f. update_all (eq_by_cmp by_rows) f rest q) (λ i p. updates.0 p i) ∙ fills q
+      ap (λ f. update_all (eq_by_cmp by_rows) f rest q) (λ i p. updates p i) ∙ fills q
 
   -- the entries of a tree make what the tree has
-  pub filled_same : (items made : BTreeMap (ℕ × ℕ) T) → tree.IsOrdered by_rows items → FillsTo made [] items.entries
-      → (place : ℕ × ℕ) → tree.get by_rows made place ≡ tree.get by_rows items place
+  pub filled_same : (items made : List ((ℕ × ℕ) × T)) → IsStrictlySortedBy by_rows (keys_of items) → FillsTo made [] items
+      → (place : ℕ × ℕ) → entry_at made place ≡ entry_at items place
   filled_same items made ordered fills place =
       fills place
-      ∙ update_all_none (eq_by_cmp_equiv by_rows_total) (eq_by_cmp by_rows) (λ _ _. refl) items.entries place (IsDistinct-from_sorted by_rows (keys_of items.entries) ordered)
+      ∙ update_all_none (eq_by_cmp_equiv by_rows_total) (eq_by_cmp by_rows) (λ _ _. refl) items place (IsDistinct-from_sorted by_rows (keys_of items) ordered)

@@ -4,3 +4,4 @@ pub mod Filling
 pub mod Listed
 pub mod Injective
 pub mod Moving
+pub mod Scanned

@@ -1,20 +1,20 @@
 -- The filled places of an area, as a part of a tree's keys.
 use native.Mathlib.Omega.{arith}
-use Rattle.std.proofs.Common.{◌≡◌, ℕ, refl, sym, ap, subst, ◌∙◌, List, [], ◌∷◌, ◌++◌, Bool, ◌&&◌, nat_le, nat_lt, true, false, cond, not, ◌<◌, ◌≤◌}
-use Rattle.std.specs.Prelude.{None}
+use Rattle.std.proofs.Common.{inl, inr, ◌≡◌, ℕ, refl, sym, ap, subst, ◌∙◌, List, [], ◌∷◌, ◌++◌, Bool, ◌&&◌, nat_le, nat_lt, true, false, cond, not, ◌<◌, ◌≤◌}
+use Rattle.std.specs.Prelude.{None, Contains}
 use Rattle.std.specs.Option.{IsSome}
 use Rattle.std.specs.Ordering.{eq_by_cmp, is_le}
 use Rattle.std.specs.declared.ops.Bound.TheVariants.{Included, Excluded}
-use Rattle.std.specs.List.{filter}
+use Rattle.std.specs.List.{filter, IsDistinct}
 use Rattle.std.specs.List.Sorted.{IsStrictlySortedBy}
 use Rattle.std.specs.Map.{lookup, keys_of}
-use Rattle.std.specs.BTreeMap as tree
-use Rattle.std.specs.BTreeMap.{BTreeMap}
 use Rattle.std.specs.BTreeMap.Range.{entries_between, range_contains}
-use Rattle.std.proofs.lemmas.Bool.{false≢true}
+use Rattle.std.proofs.lemmas.Bool.{false≢true, cases_Bool}
 use Rattle.std.proofs.lemmas.Bool.Decides.{nat_tests}
 use Rattle.std.proofs.lemmas.Cmp.{eq_by_cmp_equiv}
 use Rattle.std.proofs.lemmas.List.{append_assoc}
+use Rattle.std.proofs.lemmas.List.Elements.{All-from_recursion, recursion_from_All, All-filter}
+use Rattle.std.proofs.lemmas.Map.Keys.{IsDistinct-head, IsDistinct-tail, IsDistinct-cons}
 use Rattle.std.proofs.lemmas.List.Kept.{IsStrictlySortedBy-filter}
 use Rattle.std.proofs.lemmas.Map.Entries.{lookup-filter-keys}
 use Rattle.std.proofs.lemmas.Map.Views.{tells_apart, Contains-keys_from_lookup, IsSome-lookup_from_Contains}
@@ -24,7 +24,7 @@ use Rattle.grid_range.specs.declared.band.Band.TheVariants.{Whole, From, Span}
 use Rattle.grid_range.specs.Band.{HasLine}
 use Rattle.grid_range.specs.Area.{Holds}
 use Rattle.cell_store.specs.Table.{Table, by_rows}
-use Rattle.cell_store.specs.Tree.{HasKeysInside, table_of}
+use Rattle.cell_store.specs.Entries.{entry_at, HasEntriesInside, table_of}
 use Rattle.cell_store.specs.Places.{AreFilledPlaces}
 use Rattle.cell_store.proofs.Cells.{by_rows_total, by_rows_exact}
 use Rattle.cell_store.proofs.Tables.{item-view}
@@ -64,6 +64,13 @@ Holds-from area row col h =
     let each = each_true (has_line area.rows row) (has_line area.cols col) h in
     (HasLine-from area.rows row each.0, HasLine-from area.cols col each.1)
 
+-- where a test of the cell failed
+pub holds_false : (area : Area) (place : ℕ × ℕ) (b : Bool) → (Holds area place.0 place.1 → b ≡ true) → b ≡ false → holds_place area place ≡ false
+holds_false area place b told failed = elim (cases_Bool (holds_place area place)) [
+  | inl held ↦ absurd (false≢true (sym failed ∙ told (Holds-from area place.0 place.1 held)))
+  | inr fails ↦ fails
+]
+
 -- a place of a row from the first to the last is between these two places
 from_start : (start row col : ℕ) → start ≤ row → is_le (by_rows (start, 0) (row, col)) ≡ true
 from_start start row col h = grind (arith, nat_tests)
@@ -74,6 +81,19 @@ past_end stop row col h = grind (arith, nat_tests)
 -- a test of keys answers alike at keys that the order doesn't tell apart
 alike : (p : ℕ × ℕ → Bool) (place k : ℕ × ℕ) → eq_by_cmp by_rows place k ≡ true → p k ≡ p place
 alike p place k same = ap p (sym (tells_apart by_rows_exact place k same))
+
+-- keys that differ still do where some are left out
+IsDistinct-filter : (p : ℕ × ℕ → Bool) (ks : List (ℕ × ℕ)) → IsDistinct (eq_by_cmp by_rows) ks → IsDistinct (eq_by_cmp by_rows) (filter p ks)
+IsDistinct-filter p [] apart = apart
+IsDistinct-filter p (k ∷ ks) apart =
+    let rest = IsDistinct-filter p ks (IsDistinct-tail (eq_by_cmp by_rows) k ks apart) in
+    elim (p k) as (λ b. IsDistinct (eq_by_cmp by_rows) (cond b (k ∷ filter p ks) (filter p ks))) [
+      | true ↦ IsDistinct-cons (eq_by_cmp by_rows) k (filter p ks)
+          (recursion_from_All (λ y. eq_by_cmp by_rows k y ≡ false) (filter p ks)
+          (All-filter p (λ y. eq_by_cmp by_rows k y ≡ false) ks
+          (All-from_recursion (λ y. eq_by_cmp by_rows k y ≡ false) ks (IsDistinct-head (eq_by_cmp by_rows) k ks apart)))) rest
+      | false ↦ rest
+    ]
 
 module _ {T : Type 0} where
   keys_filter : (p : ℕ × ℕ → Bool) (es : List ((ℕ × ℕ) × T)) → keys_of (filter (λ e. p e.0) es) ≡ filter p (keys_of es)
@@ -120,22 +140,22 @@ module _ {T : Type 0} where
   some_both true false o e f h = absurd (false≢true f)
   some_both false b o e f h = absurd (false≢true e)
 
-  pub are_filled_places : (area : Area) (rows cols : ℕ) (items : BTreeMap (ℕ × ℕ) T) {table : Table T} (start stop : ℕ)
-      → table_of rows cols items ≡ table → HasKeysInside rows cols items → tree.IsOrdered by_rows items
+  pub are_filled_places : (area : Area) (rows cols : ℕ) (items : List ((ℕ × ℕ) × T)) {table : Table T} (start stop : ℕ)
+      → table_of rows cols items ≡ table → HasEntriesInside rows cols items → IsStrictlySortedBy by_rows (keys_of items)
       → ((row : ℕ) → row < rows → HasLine area.rows row → (start ≤ row) × (row < stop))
-      → AreFilledPlaces area table (held_places area (entries_between by_rows (Included (start, 0)) (Excluded (stop, 0)) items.entries))
+      → AreFilledPlaces area table (held_places area (entries_between by_rows (Included (start, 0)) (Excluded (stop, 0)) items))
   are_filled_places area rows cols items start stop view inside ordered covers =
       let between = range_contains by_rows (Included (start, 0)) (Excluded (stop, 0)) in
-      let found = λ (row col : ℕ). lookup_both (holds_place area) between (row, col) items.entries in
+      let found = λ (row col : ℕ). lookup_both (holds_place area) between (row, col) items in
       record {
-        in_order = keys_sorted (holds_place area) between items.entries ordered;
+        in_order = keys_sorted (holds_place area) between items ordered;
         exactly = λ row col. (
           (λ listed.
-              let both = both_some (holds_place area (row, col)) (between (row, col)) (tree.get by_rows items (row, col))
+              let both = both_some (holds_place area (row, col)) (between (row, col)) (entry_at items (row, col))
               (subst IsSome (found row col) (IsSome-lookup_from_Contains (eq_by_cmp_equiv by_rows_total) (row, col) _ listed)) in
               (Holds-from area row col both.0, subst IsSome (item-view rows cols items view row col) both.1)),
           (λ held.
-              let some : IsSome (tree.get by_rows items (row, col)) = subst IsSome (sym (item-view rows cols items view row col)) held.1 in
+              let some : IsSome (entry_at items (row, col)) = subst IsSome (sym (item-view rows cols items view row col)) held.1 in
               let rows_are = covers row (inside (row, col) some).0 held.0.0 in
               Contains-keys_from_lookup (tells_apart by_rows_exact) (row, col) _
               (subst IsSome (sym (found row col))
@@ -143,3 +163,29 @@ module _ {T : Type 0} where
               (both_true _ _ (from_start start row col rows_are.0) (ap not (past_end stop row col rows_are.1))) some))),
         );
       }
+
+  -- the places of the entries that an area holds
+  held_lookup : (area : Area) (es : List ((ℕ × ℕ) × T)) (place : ℕ × ℕ)
+      → lookup (eq_by_cmp by_rows place) (filter (λ e. holds_place area e.0) es) ≡ cond (holds_place area place) (entry_at es place) None
+  held_lookup area es place = lookup-filter-keys (eq_by_cmp by_rows place) (holds_place area) (holds_place area place) (alike (holds_place area) place) es
+
+  one_some : (b : Bool) (o : _) → IsSome {T = T} (cond b o None) → (b ≡ true) × IsSome o
+  one_some true o h = (refl, h)
+  one_some false o h = absurd (false≢true h)
+
+  pub held_is : (area : Area) (es : List ((ℕ × ℕ) × T)) (place : ℕ × ℕ) → Contains (held_places area es) place
+      → Holds area place.0 place.1 × IsSome (entry_at es place)
+  held_is area es place listed =
+      let both = one_some (holds_place area place) (entry_at es place)
+      (subst IsSome (held_lookup area es place) (IsSome-lookup_from_Contains (eq_by_cmp_equiv by_rows_total) place _ listed)) in
+      (Holds-from area place.0 place.1 both.0, both.1)
+
+  pub is_held : (area : Area) (es : List ((ℕ × ℕ) × T)) (place : ℕ × ℕ) → Holds area place.0 place.1 → IsSome (entry_at es place)
+      → Contains (held_places area es) place
+  is_held area es place holds some =
+      Contains-keys_from_lookup (tells_apart by_rows_exact) place _
+      (subst IsSome (sym (held_lookup area es place)) (subst (λ b. IsSome (cond b (entry_at es place) None)) (sym (holds_true area place holds)) some))
+
+  pub distinct_held : (area : Area) (es : List ((ℕ × ℕ) × T)) → IsDistinct (eq_by_cmp by_rows) (keys_of es)
+      → IsDistinct (eq_by_cmp by_rows) (held_places area es)
+  distinct_held area es apart = subst (IsDistinct (eq_by_cmp by_rows)) (sym (keys_filter (holds_place area) es)) (IsDistinct-filter (holds_place area) (keys_of es) apart)

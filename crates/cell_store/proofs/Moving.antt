@@ -8,18 +8,16 @@ use Rattle.std.specs.Map.{lookup, keys_of}
 use Rattle.std.proofs.lemmas.Bool.{false≢true, cases_Bool}
 use Rattle.std.proofs.lemmas.Cmp.{eq_by_cmp_equiv}
 use Rattle.std.proofs.lemmas.List.Elements.{Contains-append_left, Contains-append_right, Contains-append_cases, Contains-push, Contains-push_cases}
-use Rattle.std.proofs.lemmas.Map.Keys.{IsDistinct-from_sorted, IsDistinct-head, IsDistinct-tail, IsDistinct-cons}
+use Rattle.std.proofs.lemmas.Map.Keys.{IsDistinct-head, IsDistinct-tail, IsDistinct-cons}
 use Rattle.std.proofs.lemmas.Map.Made.{update_all_none}
 use Rattle.std.proofs.lemmas.Map.Views.{tells_apart, Contains-from_lookup, lookup-from_Contains}
-use Rattle.std.specs.BTreeMap as tree
-use Rattle.std.specs.BTreeMap.{BTreeMap}
 use Rattle.grid_range.specs.declared.axis.Axis.{Axis}
 use Rattle.grid_range.specs.declared.change.Change.{Change}
 use Rattle.grid_range.specs.Change.{Fits}
 use Rattle.cell_store.specs.Table.{Table, by_rows}
-use Rattle.cell_store.specs.Tree.{HasKeysInside, table_of}
+use Rattle.cell_store.specs.Entries.{entry_at, HasEntriesInside, table_of}
 use Rattle.cell_store.specs.Moved.{place_after, lines_on, size_after, GoesWithLines}
-use Rattle.cell_store.proofs.Cells.{by_rows_total, by_rows_exact, get-cells}
+use Rattle.cell_store.proofs.Cells.{SetsPlace, by_rows_total, by_rows_exact, get-cells}
 use Rattle.cell_store.proofs.Tables.{item-view}
 use Rattle.cell_store.proofs.Filling.{FillsTo, fills_on}
 use Rattle.cell_store.proofs.Injective.{place_apart, place_within}
@@ -76,16 +74,16 @@ module _ {T : Type 0} (axis : Axis) (change : Change) where
   abbrev pub moved : List ((ℕ × ℕ) × T) → List ((ℕ × ℕ) × T)
   moved entries = filter_map moves entries
 
-  pub fills_moved : (items after : BTreeMap (ℕ × ℕ) T) (place now : ℕ × ℕ) (item copy : T) (entries rest all : List ((ℕ × ℕ) × T))
+  pub fills_moved : (items after : List ((ℕ × ℕ) × T)) (place now : ℕ × ℕ) (item copy : T) (entries rest all : List ((ℕ × ℕ) × T))
       → entries ≡ (place, item) ∷ rest → place_after axis change place.0 place.1 ≡ Some now → copy ≡ item
-      → tree.Updates by_rows items after now (Some copy) → FillsTo items (moved entries) all → FillsTo after (moved rest) all
+      → SetsPlace items after now (Some copy) → FillsTo items (moved entries) all → FillsTo after (moved rest) all
   fills_moved items after place now item copy entries rest all steps goes same updates fills =
       fills_on items after now copy (moved rest) all updates
       (subst (λ es. FillsTo items es all)
       (ap moved steps ∙ ap (λ o. cons_option (option_map (λ p. (p, item)) o) (moved rest)) goes ∙ ap (λ x. (now, x) ∷ moved rest) (sym same))
       fills)
 
-  pub fills_dropped : (items : BTreeMap (ℕ × ℕ) T) (place : ℕ × ℕ) (item : T) (entries rest all : List ((ℕ × ℕ) × T))
+  pub fills_dropped : (items : List ((ℕ × ℕ) × T)) (place : ℕ × ℕ) (item : T) (entries rest all : List ((ℕ × ℕ) × T))
       → entries ≡ (place, item) ∷ rest → place_after axis change place.0 place.1 ≡ None
       → FillsTo items (moved entries) all → FillsTo items (moved rest) all
   fills_dropped items place item entries rest all steps goes fills =
@@ -111,7 +109,7 @@ module _ {T : Type 0} (axis : Axis) (change : Change) where
         | inr apart ↦ apart
       ]
 
-  distinct_moved : (rows cols : ℕ) → Fits change (lines_on axis rows cols) → (es : List ((ℕ × ℕ) × T))
+  pub distinct_moved : (rows cols : ℕ) → Fits change (lines_on axis rows cols) → (es : List ((ℕ × ℕ) × T))
       → IsDistinct (eq_by_cmp by_rows) (keys_of es) → IsDistinct (eq_by_cmp by_rows) (keys_of (moved es))
   distinct_moved rows cols fits [] d = d
   distinct_moved rows cols fits (e ∷ es) d =
@@ -130,33 +128,30 @@ module _ {T : Type 0} (axis : Axis) (change : Change) where
       let same : ◌≡◌ {A = (ℕ × ℕ) × T} (p, item) (q, x) = ap (λ o. unwrap_or o (p, item)) e in
       (ap (λ y. Some y.0) same, ap (λ y. y.1) same)
 
-  module _ (rows cols : ℕ) (items made : BTreeMap (ℕ × ℕ) T) (fits : Fits change (lines_on axis rows cols))
-      (ordered : tree.IsOrdered by_rows items) (fills : FillsTo made [] (moved items.entries)) where
-    apart : IsDistinct (eq_by_cmp by_rows) (keys_of items.entries)
-    apart = IsDistinct-from_sorted by_rows (keys_of items.entries) ordered
-
-    get-made : (q : ℕ × ℕ) → tree.get by_rows made q ≡ lookup (eq_by_cmp by_rows q) (moved items.entries)
+  module _ (rows cols : ℕ) (items made : List ((ℕ × ℕ) × T)) (fits : Fits change (lines_on axis rows cols))
+      (apart : IsDistinct (eq_by_cmp by_rows) (keys_of items)) (fills : FillsTo made [] (moved items)) where
+    get-made : (q : ℕ × ℕ) → entry_at made q ≡ lookup (eq_by_cmp by_rows q) (moved items)
     get-made q = fills q
-        ∙ update_all_none (eq_by_cmp_equiv by_rows_total) (eq_by_cmp by_rows) (λ _ _. refl) (moved items.entries) q (distinct_moved rows cols fits items.entries apart)
+        ∙ update_all_none (eq_by_cmp_equiv by_rows_total) (eq_by_cmp by_rows) (λ _ _. refl) (moved items) q (distinct_moved rows cols fits items apart)
 
-    came_from : (q : ℕ × ℕ) (x : T) → tree.get by_rows made q ≡ Some x
-        → (old : ℕ × ℕ) × (place_after axis change old.0 old.1 ≡ Some q) × (tree.get by_rows items old ≡ Some x)
+    came_from : (q : ℕ × ℕ) (x : T) → entry_at made q ≡ Some x
+        → (old : ℕ × ℕ) × (place_after axis change old.0 old.1 ≡ Some q) × (entry_at items old ≡ Some x)
     came_from q x is =
-        let (e, held, went) = came_of moves items.entries (q, x) (Contains-from_lookup (tells_apart by_rows_exact) q x (moved items.entries) (sym (get-made q) ∙ is)) in
+        let (e, held, went) = came_of moves items (q, x) (Contains-from_lookup (tells_apart by_rows_exact) q x (moved items) (sym (get-made q) ∙ is)) in
         let parts = moved_parts (place_after axis change e.0.0 e.0.1) e.1 x q went in
-        (e.0, parts.0, lookup-from_Contains (eq_by_cmp_equiv by_rows_total) e.0 e.1 items.entries apart held ∙ ap Some parts.1)
+        (e.0, parts.0, lookup-from_Contains (eq_by_cmp_equiv by_rows_total) e.0 e.1 items apart held ∙ ap Some parts.1)
 
-    goes_to : (old q : ℕ × ℕ) (x : T) → place_after axis change old.0 old.1 ≡ Some q → tree.get by_rows items old ≡ Some x
-        → tree.get by_rows made q ≡ Some x
+    goes_to : (old q : ℕ × ℕ) (x : T) → place_after axis change old.0 old.1 ≡ Some q → entry_at items old ≡ Some x
+        → entry_at made q ≡ Some x
     goes_to old q x goes held =
         get-made q
-        ∙ lookup-from_Contains (eq_by_cmp_equiv by_rows_total) q x (moved items.entries) (distinct_moved rows cols fits items.entries apart)
-        (kept_in moves items.entries (old, x) (q, x) (Contains-from_lookup (tells_apart by_rows_exact) old x items.entries held)
+        ∙ lookup-from_Contains (eq_by_cmp_equiv by_rows_total) q x (moved items) (distinct_moved rows cols fits items apart)
+        (kept_in moves items (old, x) (q, x) (Contains-from_lookup (tells_apart by_rows_exact) old x items held)
         (ap (option_map (λ p. (p, x))) goes))
 
-    pub inside-moved : HasKeysInside rows cols items → HasKeysInside (size_after axis change rows cols).0 (size_after axis change rows cols).1 made
+    pub inside-moved : HasEntriesInside rows cols items → HasEntriesInside (size_after axis change rows cols).0 (size_after axis change rows cols).1 made
     inside-moved inside q there =
-        elim (tree.get by_rows made q) as (λ o. tree.get by_rows made q ≡ o → IsSome o → (q.0 < (size_after axis change rows cols).0) × (q.1 < (size_after axis change rows cols).1)) [
+        elim (entry_at made q) as (λ o. entry_at made q ≡ o → IsSome o → (q.0 < (size_after axis change rows cols).0) × (q.1 < (size_after axis change rows cols).1)) [
           | None ↦ λ _ none. absurd (false≢true none)
           | Some x ↦ λ is _.
               let (old, goes, held) = came_from q x is in

@@ -1,4 +1,4 @@
 pub mod Table
 pub mod Places
-pub mod Tree
+pub mod Entries
 pub mod Moved

@@ -1,8 +1,11 @@
 ghost use Rattle.std.specs.Prelude.{◌≡◌, ◌<◌};
 
+mod list;
+
 use super::*;
 use cell_value::NoMemory;
 use grid_range::{Area, Axis, Band, Change};
+use list::ListGrid;
 use std::alloc::Global;
 use std::process::Abort;
 use std::test::Fail;
@@ -12,7 +15,8 @@ const ITEMS: [(u32, u32, u64); 5] = [(3, 2, 5), (0, 0, 1), (1, 2, 3), (1, 0, 2),
 
 #[test]
 fn items_are_put_and_taken(rt: HostRuntime) -> Result<(), Fail> {
-    put_and_take(&rt, rt.alloc(), TreeGrid::new(rt.alloc(), 4, 3))
+    put_and_take(&rt, rt.alloc(), TreeGrid::new(rt.alloc(), 4, 3))?;
+    put_and_take(&rt, rt.alloc(), ListGrid::new(rt.alloc(), 4, 3))
 }
 
 fn put_and_take<G: Grid<u64> + Drop>(rt: &impl Abort, alloc: Global, grid: G) -> Result<(), Fail>
@@ -38,71 +42,85 @@ fn put_and_take<G: Grid<u64> + Drop>(rt: &impl Abort, alloc: Global, grid: G) ->
     Ok(())
 }
 
+/// Bands of rows and of columns, and the items of their cells by rows.
+const PLACES: [(Band, Band, &[u64]); 6] = [
+    (Band::Whole, Band::Whole, &[1, 2, 3, 4, 5]),
+    (Band::Span(1, 2), Band::Whole, &[2, 3]),
+    (Band::Whole, Band::Span(2, 9), &[3, 5]),
+    (Band::From(3), Band::From(0), &[5]),
+    (Band::From(4), Band::Whole, &[]),
+    (Band::Span(2, 2), Band::Whole, &[]),
+];
+
 #[test]
 fn places_go_by_rows(rt: HostRuntime) -> Result<(), Fail> {
-    let table: [(Band, Band, &[u64]); 6] = [
-        (Band::Whole, Band::Whole, &[1, 2, 3, 4, 5]),
-        (Band::Span(1, 2), Band::Whole, &[2, 3]),
-        (Band::Whole, Band::Span(2, 9), &[3, 5]),
-        (Band::From(3), Band::From(0), &[5]),
-        (Band::From(4), Band::Whole, &[]),
-        (Band::Span(2, 2), Band::Whole, &[]),
-    ];
-    let mut grid = TreeGrid::new(rt.alloc(), 4, 3);
+    compare_places(&rt, rt.alloc(), TreeGrid::new(rt.alloc(), 4, 3))?;
+    compare_places(&rt, rt.alloc(), ListGrid::new(rt.alloc(), 4, 3))
+}
+
+fn compare_places<G: Grid<u64> + Drop>(rt: &impl Abort, alloc: Global, grid: G) -> Result<(), Fail>
+    requires rows { (G.table grid).rows ≡ 4 }
+    requires columns { (G.table grid).cols ≡ 3 }
+{
+    let mut grid = grid;
     fill(&mut grid)?;
-    for (rows, cols, expected) in table {
-        let found = items_of(rt.alloc(), &grid, rows, cols)?;
-        let found: Vec<u64> = found.iter().map(|item| item.2).collect(rt.alloc())?;
+    for (rows, cols, expected) in PLACES {
+        let found = items_of(alloc, &grid, rows, cols)?;
+        let found: Vec<u64> = found.iter().map(|item| item.2).collect(alloc)?;
         assert_eq!(rt; found.as_slice(), expected, "{rows:?} {cols:?}");
     }
     Ok(())
 }
 
+/// Changes, and the items of the sheet after each with their places.
+const CHANGES: [(Axis, Change, &[(u32, u32, u64)]); 6] = [
+    (
+        Axis::Rows,
+        Change::Insert { at: 1, count: 2 },
+        &[(0, 0, 1), (3, 0, 2), (3, 2, 3), (4, 1, 4), (5, 2, 5)],
+    ),
+    (
+        Axis::Rows,
+        Change::Delete { start: 1, end: 3 },
+        &[(0, 0, 1), (1, 2, 5)],
+    ),
+    (
+        Axis::Rows,
+        Change::Move {
+            start: 0,
+            end: 1,
+            to: 3,
+        },
+        &[(0, 0, 2), (0, 2, 3), (1, 1, 4), (2, 0, 1), (3, 2, 5)],
+    ),
+    (
+        Axis::Columns,
+        Change::Insert { at: 3, count: 1 },
+        &[(0, 0, 1), (1, 0, 2), (1, 2, 3), (2, 1, 4), (3, 2, 5)],
+    ),
+    (
+        Axis::Columns,
+        Change::Delete { start: 0, end: 1 },
+        &[(1, 1, 3), (2, 0, 4), (3, 1, 5)],
+    ),
+    (
+        Axis::Columns,
+        Change::Move {
+            start: 2,
+            end: 3,
+            to: 0,
+        },
+        &[(0, 1, 1), (1, 0, 3), (1, 1, 2), (2, 2, 4), (3, 0, 5)],
+    ),
+];
+
 #[test]
 fn items_go_with_their_lines(rt: HostRuntime) -> Result<(), Fail> {
-    let table: [(Axis, Change, &[(u32, u32, u64)]); 6] = [
-        (
-            Axis::Rows,
-            Change::Insert { at: 1, count: 2 },
-            &[(0, 0, 1), (3, 0, 2), (3, 2, 3), (4, 1, 4), (5, 2, 5)],
-        ),
-        (
-            Axis::Rows,
-            Change::Delete { start: 1, end: 3 },
-            &[(0, 0, 1), (1, 2, 5)],
-        ),
-        (
-            Axis::Rows,
-            Change::Move {
-                start: 0,
-                end: 1,
-                to: 3,
-            },
-            &[(0, 0, 2), (0, 2, 3), (1, 1, 4), (2, 0, 1), (3, 2, 5)],
-        ),
-        (
-            Axis::Columns,
-            Change::Insert { at: 3, count: 1 },
-            &[(0, 0, 1), (1, 0, 2), (1, 2, 3), (2, 1, 4), (3, 2, 5)],
-        ),
-        (
-            Axis::Columns,
-            Change::Delete { start: 0, end: 1 },
-            &[(1, 1, 3), (2, 0, 4), (3, 1, 5)],
-        ),
-        (
-            Axis::Columns,
-            Change::Move {
-                start: 2,
-                end: 3,
-                to: 0,
-            },
-            &[(0, 1, 1), (1, 0, 3), (1, 1, 2), (2, 2, 4), (3, 0, 5)],
-        ),
-    ];
-    for (axis, change, expected) in table {
-        let grid = TreeGrid::new(rt.alloc(), 4, 3);
-        compare_change(&rt, rt.alloc(), grid, axis, &change, expected)?;
+    for (axis, change, expected) in CHANGES {
+        let tree = TreeGrid::new(rt.alloc(), 4, 3);
+        compare_change(&rt, rt.alloc(), tree, axis, &change, expected)?;
+        let list = ListGrid::new(rt.alloc(), 4, 3);
+        compare_change(&rt, rt.alloc(), list, axis, &change, expected)?;
     }
     Ok(())
 }

@@ -22,15 +22,15 @@ pub struct TreeGrid<T> {
 
 impl<T> Model for TreeGrid<T> {
     ghost use Rattle.cell_store.specs.Table.{Table, table_code};
-    ghost use Rattle.cell_store.specs.Tree.{HasKeysInside, table_of};
+    ghost use Rattle.cell_store.specs.Entries.{HasEntriesInside, table_of};
 
     ghost Value = { Table T };
 
     ghost coded = { table_code T.code };
 
-    ghost view = { λ g. table_of g.rows g.cols g.items };
+    ghost view = { λ g. table_of g.rows g.cols g.items.entries };
 
-    ghost invariant = { λ g. HasKeysInside g.rows g.cols g.items };
+    ghost invariant = { λ g. HasEntriesInside g.rows g.cols g.items.entries };
 }
 
 impl<T> TreeGrid<T> {
@@ -129,7 +129,7 @@ fn row_ends(band: Band, count: u32) -> (u32, u32)
 }
 
 /// How many rows and columns there are after the change.
-fn size_after(axis: Axis, change: &Change, rows: u32, cols: u32) -> (u32, u32)
+pub(crate) fn size_after(axis: Axis, change: &Change, rows: u32, cols: u32) -> (u32, u32)
     requires { Fits change.now (lines_on axis rows cols) }
     ensures { result ≡ size_after axis change.now rows cols }
 {
@@ -140,7 +140,7 @@ fn size_after(axis: Axis, change: &Change, rows: u32, cols: u32) -> (u32, u32)
 }
 
 /// Where the place of a sheet of that size is after the change; None where its line is deleted.
-fn place_after(
+pub(crate) fn place_after(
     axis: Axis,
     change: &Change,
     size: (u32, u32),

@@ -2,9 +2,11 @@ use Rattle.std.proofs.Common.{ℕ, [], sym, ap, subst}
 use Rattle.std.specs.Option.{is_some}
 use Rattle.std.specs.Map.Iter.{deref_pair}
 use Rattle.std.proofs.lemmas.Map.Iter.{btree_map_turn}
+use Rattle.std.proofs.lemmas.Map.Keys.{IsDistinct-from_sorted}
 use Rattle.grid_range.specs.Change.{Fits}
 use Rattle.cell_store.specs.Moved.{GoesWithLines, lines_on}
-use Rattle.cell_store.specs.Tree.{HasKeysInside, table_of}
+use Rattle.cell_store.specs.Table.{by_rows}
+use Rattle.cell_store.specs.Entries.{HasEntriesInside, table_of}
 use Rattle.cell_store.proofs.Cells.{by_rows_total}
 use Rattle.cell_store.proofs.Filling.{FillsTo}
 use Rattle.cell_store.proofs.Moving.{moved, fills_moved, inside-moved, goes_with_lines}
@@ -19,34 +21,34 @@ place_after-requires-clause-there g c =
 
 pub loop-place-preserved-in_ok-insert : goal.loop-place-preserved-in_ok-insert
 loop-place-preserved-in_ok-insert g c =
-    fills_moved c.args.axis c.args.change.now c.loop-place.items c.insert.new.self c.in-Some.place.now c.in-Some-place_after.now c.in-Some.item.now
+    fills_moved c.args.axis c.args.change.now c.loop-place.items.entries c.insert.new.self.entries c.in-Some.place.now c.in-Some-place_after.now c.in-Some.item.now
     c.in_ok-duplicate.field-0 c.loop-place.place-iterator c.next.new.self (moved c.args.axis c.args.change.now c.self.inside.items.entries)
-    c.in-Some.ensures.steps (sym c.in-Some-place_after.ensures) c.in_ok-duplicate.ensures c.in_ok-insert.ensures.updates c.loop-place.invariant
+    c.in-Some.ensures.steps (sym c.in-Some-place_after.ensures) c.in_ok-duplicate.ensures c.in_ok-insert.ensures.updates.0 c.loop-place.invariant
 
 pub loop-place-preserved-in_ok-insert-2 : goal.loop-place-preserved-in_ok-insert-2
 loop-place-preserved-in_ok-insert-2 g c =
-    fills_moved c.args.axis c.args.change.now c.loop-place.items c.insert.new.self c.in-Some.place.now c.in-Some-place_after.now c.in-Some.item.now
+    fills_moved c.args.axis c.args.change.now c.loop-place.items.entries c.insert.new.self.entries c.in-Some.place.now c.in-Some-place_after.now c.in-Some.item.now
     c.in_ok-duplicate.field-0 c.loop-place.place-iterator c.next.new.self (moved c.args.axis c.args.change.now c.self.inside.items.entries)
-    c.in-Some.ensures.steps (sym c.in-Some-place_after.ensures) c.in_ok-duplicate.ensures c.in_ok-insert.ensures.updates c.loop-place.invariant
+    c.in-Some.ensures.steps (sym c.in-Some-place_after.ensures) c.in_ok-duplicate.ensures c.in_ok-insert.ensures.updates.0 c.loop-place.invariant
 
 pub invariant_of-result : goal.invariant_of-result
 invariant_of-result g c = λ place.
     let fits : Fits c.args.change.now (lines_on c.args.axis c.self.inside.rows c.self.inside.cols) =
     subst (λ t. Fits c.args.change.now (lines_on c.args.axis t.rows t.cols)) (sym c.self.view_is) c.requires in
-    let filled : FillsTo c.loop-place.items [] (moved c.args.axis c.args.change.now c.self.inside.items.entries) =
-    subst (λ es. FillsTo c.loop-place.items (moved c.args.axis c.args.change.now es) (moved c.args.axis c.args.change.now c.self.inside.items.entries))
+    let filled : FillsTo c.loop-place.items.entries [] (moved c.args.axis c.args.change.now c.self.inside.items.entries) =
+    subst (λ es. FillsTo c.loop-place.items.entries (moved c.args.axis c.args.change.now es) (moved c.args.axis c.args.change.now c.self.inside.items.entries))
     c.in-None.ensures.steps.0 c.loop-place.invariant in
-    subst (λ (s : ℕ × ℕ). HasKeysInside s.0 s.1 c.loop-place.items) (sym c.size_after-rows.ensures)
-    (inside-moved c.args.axis c.args.change.now c.self.inside.rows c.self.inside.cols c.self.inside.items c.loop-place.items fits
-    c.into_iter-place-iterator.ensures.into_iter_gives.5 filled c.self.invariant) place
+    subst (λ (s : ℕ × ℕ). HasEntriesInside s.0 s.1 c.loop-place.items.entries) (sym c.size_after-rows.ensures)
+    (inside-moved c.args.axis c.args.change.now c.self.inside.rows c.self.inside.cols c.self.inside.items.entries c.loop-place.items.entries fits
+    (IsDistinct-from_sorted by_rows _ c.into_iter-place-iterator.ensures.into_iter_gives.5) filled c.self.invariant) place
 
 pub returns : goal.returns
 returns g c =
     let fits : Fits c.args.change.now (lines_on c.args.axis c.self.inside.rows c.self.inside.cols) =
     subst (λ t. Fits c.args.change.now (lines_on c.args.axis t.rows t.cols)) (sym c.self.view_is) c.requires in
-    let filled : FillsTo c.loop-place.items [] (moved c.args.axis c.args.change.now c.self.inside.items.entries) =
-    subst (λ es. FillsTo c.loop-place.items (moved c.args.axis c.args.change.now es) (moved c.args.axis c.args.change.now c.self.inside.items.entries))
+    let filled : FillsTo c.loop-place.items.entries [] (moved c.args.axis c.args.change.now c.self.inside.items.entries) =
+    subst (λ es. FillsTo c.loop-place.items.entries (moved c.args.axis c.args.change.now es) (moved c.args.axis c.args.change.now c.self.inside.items.entries))
     c.in-None.ensures.steps.0 c.loop-place.invariant in
-    subst (λ (s : ℕ × ℕ). GoesWithLines c.args.axis c.args.change.now c.args.self.now (table_of s.0 s.1 c.loop-place.items)) (sym c.size_after-rows.ensures)
-    (goes_with_lines c.args.axis c.args.change.now c.self.inside.rows c.self.inside.cols c.self.inside.items c.loop-place.items fits
-    c.into_iter-place-iterator.ensures.into_iter_gives.5 filled c.self.view_is)
+    subst (λ (s : ℕ × ℕ). GoesWithLines c.args.axis c.args.change.now c.args.self.now (table_of s.0 s.1 c.loop-place.items.entries)) (sym c.size_after-rows.ensures)
+    (goes_with_lines c.args.axis c.args.change.now c.self.inside.rows c.self.inside.cols c.self.inside.items.entries c.loop-place.items.entries fits
+    (IsDistinct-from_sorted by_rows _ c.into_iter-place-iterator.ensures.into_iter_gives.5) filled c.self.view_is)

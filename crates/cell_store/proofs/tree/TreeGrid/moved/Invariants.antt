@@ -5,4 +5,4 @@ use Rattle.cell_store.proofs.tree.TreeGrid.moved.Given as goal
 -- the rest of the tree is still to be moved
 abbrev pub invariant-loop-place : goal.invariant-loop-place
 invariant-loop-place g l =
-    FillsTo l.items (moved l.axis l.change l.place-iterator) (moved l.axis l.change l.self-inside.items.entries)
+    FillsTo l.items.entries (moved l.axis l.change l.place-iterator) (moved l.axis l.change l.self-inside.items.entries)

@@ -20,6 +20,6 @@ returns g c =
     let stop : c.row_ends-start.result.1 ≤ c.max.result = grind (arith, c.max.ensures) in
     subst (AreFilledPlaces c.args.area.now c.args.self.now)
     (sym (c.of.ensures ∙ all ∙ ap (held_places c.args.area.now) (c.into_iter-place-iterator.ensures.into_iter_gives ∙ c.range-place-items.ensures.between tt)))
-    (are_filled_places c.args.area.now c.self.inside.rows c.self.inside.cols c.self.inside.items c.row_ends-start.result.0 c.max.result
+    (are_filled_places c.args.area.now c.self.inside.rows c.self.inside.cols c.self.inside.items.entries c.row_ends-start.result.0 c.max.result
     c.self.view_is c.self.invariant c.range-place-items.ensures.ordered
     (λ row there has. let ends = c.row_ends-start.ensures row there has in (ends.0, omega (arith, stop, ends.1))))
