@@ -1,0 +1,4 @@
+pub mod Merges
+pub mod Calls
+pub mod Following
+pub mod Tests

@@ -1,0 +1,90 @@
+//! Tests of an area beside a merge, whose bands have both ends.
+
+ghost use Rattle.std.specs.Prelude.{◌≡◌};
+ghost use Rattle.grid_range.specs.Band.{first_line};
+ghost use Rattle.merge_ranges.specs.Tests.{has_all, has_some, past_line, holds_all, cuts, has_many_lines, has_many_cells};
+
+use grid_range::{Area, Band};
+
+/// The band's first line.
+pub(crate) fn first_line(band: Band) -> u32
+    ensures { result ≡ first_line band }
+{
+    match band {
+        Band::Whole => 0,
+        Band::From(start) | Band::Span(start, _) => start,
+    }
+}
+
+/// The line past the band's last one.
+pub(crate) fn past_line(band: Band) -> u32
+    ensures { result ≡ past_line band }
+{
+    match band {
+        Band::Whole | Band::From(_) => 0,
+        Band::Span(_, end) => end,
+    }
+}
+
+/// The first cell, by which merges are ordered.
+pub(crate) fn first_cell(area: &Area) -> (u32, u32)
+    ensures { result ≡ (first_line area.now.rows, first_line area.now.cols) }
+{
+    (first_line(area.rows), first_line(area.cols))
+}
+
+/// Whether the band has all lines from `first` to `past - 1`.
+fn has_all(band: Band, first: u32, past: u32) -> bool
+    ensures { result ≡ has_all band first past }
+{
+    match band {
+        Band::Whole => true,
+        Band::From(start) => start <= first,
+        Band::Span(start, end) => start <= first && past <= end,
+    }
+}
+
+/// Whether the band has one of the lines from `first` to `past - 1`.
+fn has_some(band: Band, first: u32, past: u32) -> bool
+    ensures { result ≡ has_some band first past }
+{
+    match band {
+        Band::Whole => true,
+        Band::From(start) => start < past,
+        Band::Span(start, end) => start < end && start < past && first < end,
+    }
+}
+
+/// Whether the area holds each cell of the merge.
+pub(crate) fn holds_all(area: &Area, merge: &Area) -> bool
+    ensures { result ≡ holds_all area.now merge.now }
+{
+    has_all(area.rows, first_line(merge.rows), past_line(merge.rows))
+        && has_all(area.cols, first_line(merge.cols), past_line(merge.cols))
+}
+
+/// Whether the area has a cell of the merge, and not all of them.
+pub(crate) fn cuts(area: &Area, merge: &Area) -> bool
+    ensures { result ≡ cuts area.now merge.now }
+{
+    has_some(area.rows, first_line(merge.rows), past_line(merge.rows))
+        && has_some(area.cols, first_line(merge.cols), past_line(merge.cols))
+        && !holds_all(area, merge)
+}
+
+/// Whether an area whose bands have both ends has more than one cell.
+pub(crate) fn has_many_cells(area: &Area) -> bool
+    ensures { result ≡ has_many_cells area.now }
+{
+    has_many_lines(area.rows) || has_many_lines(area.cols)
+}
+
+/// Whether a band with both ends has more than one line.
+fn has_many_lines(band: Band) -> bool
+    ensures { result ≡ has_many_lines band }
+{
+    match band {
+        Band::Whole | Band::From(_) => false,
+        Band::Span(start, end) => start < end && end - start > 1,
+    }
+}

@@ -1,0 +1,35 @@
+use std::error::Error;
+use std::fmt;
+
+/// A merge would be cut: the area has a cell of it and not all of them, or its lines would not stand
+/// side by side in their old order. The merges are as they were.
+#[derive(Clone, Copy, Debug, PartialEq, Eq)]
+pub struct Cut;
+
+impl fmt::Display for Cut {
+    fn fmt<W: fmt::Write>(&self, f: &mut fmt::Formatter<W>) -> fmt::Result {
+        f.write_str("a merge would be cut")
+    }
+}
+
+impl Error for Cut {}
+
+/// Why cells can't be merged. The merges are as they were.
+#[derive(Clone, Copy, Debug, PartialEq, Eq)]
+pub enum MergeFault {
+    /// The area has a cell of a merge and not all of them.
+    Cut,
+    /// Memory ran out.
+    NoMemory,
+}
+
+impl fmt::Display for MergeFault {
+    fn fmt<W: fmt::Write>(&self, f: &mut fmt::Formatter<W>) -> fmt::Result {
+        match self {
+            MergeFault::Cut => f.write_str("a merge would be cut"),
+            MergeFault::NoMemory => f.write_str("no memory"),
+        }
+    }
+}
+
+impl Error for MergeFault {}

@@ -1,0 +1,210 @@
+ghost use Rattle.std.specs.Prelude.{◌≡◌, ◌↔◌, ◌∷◌, ◌++◌, [], not, length, vec_len, vec_capacity, ◌≤◌, IsTrue, IsErr, IfOk, OnOk, OnErr, Any, filter};
+ghost use Rattle.std.specs.List.{list_any};
+ghost use Rattle.std.specs.List.Sorted.{IsPermutation, IsSortedByKey};
+ghost use Rattle.grid_range.specs.Change.{Fits, count_after};
+ghost use Rattle.merge_ranges.specs.Merges.{IsMerge, AreMerges, Covers};
+ghost use Rattle.merge_ranges.specs.Calls.{Cuts, ListsJust, IsLeft, IsLeftOrNew};
+ghost use Rattle.merge_ranges.specs.Following.{band_on, AreWithin, CameFrom, IsTorn, KeepsAll};
+ghost use Rattle.merge_ranges.specs.Tests.{holds_all, cuts, first_cell, by_rows};
+
+use crate::area::{cuts, first_cell, holds_all};
+use crate::fault::{Cut, MergeFault};
+use crate::follow::{follow_all, is_tearing};
+use cell_value::{Duplicate, Items, NoMemory};
+use grid_range::{Area, Axis, Change};
+use std::alloc::Global;
+use std::marker::Model;
+
+/// The merges of one sheet: rectangles of more than one cell, no two of which have a cell in common,
+/// by first row, then by first column (Sheets API v4 reference, `merges` of Sheet). The sheet of an
+/// area isn't looked at.
+#[derive(Debug, Drop)]
+pub struct Merges {
+    alloc: Global,
+    items: Items<Area>,
+}
+
+impl Model for Merges {
+    ghost use Rattle.std.specs.Prelude.{List};
+    ghost use Rattle.grid_range.specs.declared.area.Area.{Area};
+    ghost use Rattle.merge_ranges.specs.Merges.{AreMerges};
+
+    ghost Value = { List Area };
+
+    ghost view = { λ m. m.items };
+
+    ghost invariant = { λ m. AreMerges m.items };
+}
+
+impl Merges {
+    /// No merges. It takes no memory.
+    pub fn new(alloc: Global) -> Merges
+        ensures { result ≡ [] }
+    {
+        Merges {
+            alloc,
+            items: Items::of(Vec::new(alloc)),
+        }
+    }
+
+    /// How many merges there are.
+    pub fn count(&self) -> u64
+        ensures { result ≡ length self.now }
+    {
+        self.items.as_slice().len() as u64
+    }
+
+    /// The merges by first row, then by first column, lent.
+    pub fn list(&self) -> &Items<Area>
+        ensures list { result.now ≡ self.now }
+        ensures merges { AreMerges self.now }
+    {
+        &self.items
+    }
+
+    /// Whether a merge covers the cell: it holds it, and it isn't the merge's upper-left one.
+    pub fn covers(&self, row: u32, col: u32) -> bool
+        ensures { IsTrue result ↔ Any (λ merge. Covers merge row col) self.now }
+    {
+        self.items
+            .as_slice()
+            .iter()
+            .any(|merge| covers(merge, row, col))
+    }
+
+    /// Merges the cells of the area; the merges that it holds whole are dissolved first (Sheets API
+    /// v4 reference, MergeCellsRequest).
+    ///
+    /// # Errors
+    ///
+    /// [`MergeFault::Cut`] exactly where the area has a cell of a merge and not all of them;
+    /// [`MergeFault::NoMemory`] where memory runs out. The merges are as they were.
+    pub fn add(&mut self, area: &Area) -> Result<(), MergeFault>
+        requires { IsMerge area.now }
+        ensures cut { (result ≡ Err MergeFault.Cut) ↔ Any (Cuts area.now) self.old }
+        ensures added { OnOk result (ListsJust (IsLeftOrNew area.now self.old) self.new) }
+        ensures unchanged { OnErr result (self.new ≡ self.old) }
+    {
+        if is_cutting(self.items.as_slice(), area) {
+            return Err(MergeFault::Cut);
+        }
+        let mut merges = self.take();
+        let added = put(&mut merges, area);
+        self.items = Items::of(merges);
+        match added {
+            Ok(()) => Ok(()),
+            Err(NoMemory) => Err(MergeFault::NoMemory),
+        }
+    }
+
+    /// Dissolves the merges in the area, which takes no memory (Sheets API v4 reference,
+    /// UnmergeCellsRequest).
+    ///
+    /// # Errors
+    ///
+    /// [`Cut`] exactly where the area has a cell of a merge and not all of them; the merges are as
+    /// they were.
+    pub fn split(&mut self, area: &Area) -> Result<(), Cut>
+        ensures cut { IsErr result ↔ Any (Cuts area.now) self.old }
+        ensures left { OnOk result (ListsJust (IsLeft area.now self.old) self.new) }
+        ensures unchanged { OnErr result (self.new ≡ self.old) }
+    {
+        if is_cutting(self.items.as_slice(), area) {
+            return Err(Cut);
+        }
+        let mut merges = self.take();
+        dissolve(&mut merges, area);
+        self.items = Items::of(merges);
+        Ok(())
+    }
+
+    /// Makes the change of the rows or of the columns, of which there are `count`, and takes no
+    /// memory. Each merge is followed; those that are lost go, and those of which one cell is left.
+    ///
+    /// # Errors
+    ///
+    /// [`Cut`] exactly where the change is a move after which the lines of a merge don't stand side
+    /// by side in their old order; the merges are as they were.
+    pub fn change(&mut self, axis: Axis, count: u32, change: &Change) -> Result<(), Cut>
+        requires fits { Fits change.now count }
+        requires within { AreWithin axis count self.old }
+        ensures torn { OnErr result (Any (λ merge. IsTorn change.now count (band_on axis merge)) self.old) }
+        ensures whole { OnOk result (KeepsAll axis count change.now self.old) }
+        ensures followed { OnOk result (ListsJust (CameFrom axis count change.now self.old) self.new) }
+        ensures within { OnOk result (AreWithin axis (count_after change.now count) self.new) }
+        ensures unchanged { OnErr result (self.new ≡ self.old) }
+    {
+        if is_tearing(self.items.as_slice(), axis, change) {
+            return Err(Cut);
+        }
+        let mut merges = self.take();
+        follow_all(&mut merges, axis, count, change);
+        sort(&mut merges);
+        self.items = Items::of(merges);
+        Ok(())
+    }
+
+    /// The merges as a vector; none are left.
+    fn take(&mut self) -> Vec<Area>
+        ensures merges { result.items ≡ self.old }
+        ensures sound { AreMerges self.old }
+        ensures left { self.new ≡ [] }
+    {
+        let none = Items::of(Vec::new(self.alloc));
+        std::mem::replace(&mut self.items, none).into_vec()
+    }
+}
+
+impl Duplicate for Merges {
+    fn duplicate(&self) -> Result<Merges, NoMemory> {
+        let items = Vec::from_slice(self.alloc, self.items.as_slice())?;
+        Ok(Merges {
+            alloc: self.alloc,
+            items: Items::of(items),
+        })
+    }
+}
+
+/// Whether the merge covers the cell.
+fn covers(merge: &Area, row: u32, col: u32) -> bool
+    ensures { IsTrue result ↔ Covers merge.now row col }
+{
+    merge.holds(row, col) && first_cell(merge) != (row, col)
+}
+
+/// Whether the area has a cell of one of the merges, and not all of them.
+fn is_cutting(merges: &[Area], area: &Area) -> bool
+    ensures { result ≡ list_any (cuts area.now) merges.now }
+{
+    merges.iter().any(|merge| cuts(area, merge))
+}
+
+/// Takes out the merges that the area holds whole.
+fn dissolve(merges: &mut Vec<Area>, area: &Area)
+    ensures left { merges.new.items ≡ filter (λ merge. not (holds_all area.now merge)) merges.old.items }
+    ensures fewer { vec_len merges.new ≤ vec_len merges.old }
+    ensures capacity { vec_capacity merges.new ≡ vec_capacity merges.old }
+{
+    merges.retain(|merge| !holds_all(area, merge));
+}
+
+/// Puts the area in the place of the merges that it holds whole.
+fn put(merges: &mut Vec<Area>, area: &Area) -> Result<(), NoMemory>
+    ensures put { OnOk result (IsPermutation (filter (λ merge. not (holds_all area.now merge)) merges.old.items ++ area.now ∷ []) merges.new.items) }
+    ensures in_order { OnOk result (IsSortedByKey first_cell by_rows merges.new.items) }
+    ensures unchanged { OnErr result (merges.new.items ≡ merges.old.items) }
+{
+    merges.reserve(1)?;
+    dissolve(merges, area);
+    merges.push(*area)?;
+    sort(merges);
+    Ok(())
+}
+
+/// Puts the areas in order.
+fn sort(areas: &mut Vec<Area>)
+    ensures same { IsPermutation areas.old.items areas.new.items }
+    ensures in_order { IsSortedByKey first_cell by_rows areas.new.items }
+{
+    areas.sort_unstable_by_key(|area| first_cell(area));
+}
