@@ -1,0 +1,10 @@
+use Rattle.std.proofs.Common.{List, sym, subst}
+use Rattle.protection.specs.declared.range.Protection.{Protection}
+use Rattle.protection.specs.Listed.{IsInOrder}
+use Rattle.protection.proofs.Ordered.{IsInOrder-filter_map, KeepsId-followed}
+use Rattle.protection.proofs.list.Protections.change.Goals as goal
+
+pub invariant_of-self : goal.invariant_of-self
+invariant_of-self c =
+    subst (λ (list : List Protection). IsInOrder list) (sym c.follow_all.ensures)
+    (IsInOrder-filter_map _ _ (KeepsId-followed _ _ _ _) c.self.invariant)

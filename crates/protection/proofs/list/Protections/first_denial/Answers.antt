@@ -1,0 +1,38 @@
+use Rattle.std.proofs.Common.{◌∙◌, sym, subst, List}
+use Rattle.std.proofs.lemmas.Bool.{false≢true}
+use Rattle.std.proofs.lemmas.List.{take_all}
+use Rattle.std.proofs.lemmas.List.Elements.{All-more, All-same}
+use Rattle.protection.specs.declared.range.Protection.{Protection}
+use Rattle.protection.specs.Denial.{DeniesSome, IsFirstDenial}
+use Rattle.protection.specs.Listed.{IsInOrder}
+use Rattle.protection.proofs.Ordered.{IsFirstDenial-at}
+use Rattle.protection.proofs.list.Protections.first_denial.Goals as goal
+
+pub returns-then-denies_some-clause-denied : goal.returns-then-denies_some-clause-denied
+returns-then-denies_some-clause-denied c =
+    subst
+    (λ (list : List Protection). IsFirstDenial c.args.user.now c.args.owner.now c.args.area.now c.args.rows
+    c.args.cols list c.protection-item.result.id)
+    (c.deref-protection-items.ensures.value ∙ c.self.view_is)
+    (IsFirstDenial-at _ _ _ _ _ _ _ _
+    (subst (λ (list : List Protection). IsInOrder list) (sym c.deref-protection-items.ensures.value) c.self.invariant)
+    c.loop-protection-test.true c.protection-item.is c.loop-protection.invariant
+    (c.denies_some.ensures.0 c.if-denies_some.true))
+
+pub loop-protection-preserved : goal.loop-protection-preserved
+loop-protection-preserved c =
+    All-more
+    (λ one. ¬ (DeniesSome c.args.user.now c.args.owner.now c.args.area.now c.args.rows c.args.cols one))
+    _ _ c.protection-item.result c.loop-protection-test.true c.loop-protection.invariant
+    (subst
+    (λ (one : Protection). ¬ (DeniesSome c.args.user.now c.args.owner.now c.args.area.now c.args.rows c.args.cols one))
+    c.protection-item.is
+    (λ some. false≢true (sym c.if-denies_some.false ∙ c.denies_some.ensures.1 some)))
+
+pub returns-clause-allowed : goal.returns-clause-allowed
+returns-clause-allowed c =
+    All-same
+    (λ one. ¬ (DeniesSome c.args.user.now c.args.owner.now c.args.area.now c.args.rows c.args.cols one))
+    _ _
+    (sym (take_all _ _ c.loop-protection-test.false ∙ c.deref-protection-items.ensures.value ∙ c.self.view_is))
+    c.loop-protection.invariant

@@ -1,0 +1,6 @@
+use Rattle.std.proofs.Common.{All, take}
+use Rattle.protection.specs.Following.{IsWithinOn}
+use Rattle.protection.proofs.tests.ranges_within.Given as goal
+
+abbrev pub invariant-loop-range : goal.invariant-loop-range
+invariant-loop-range l = All (IsWithinOn l.sheet l.axis l.count) (take l.range-index l.ranges)

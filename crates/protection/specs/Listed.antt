@@ -1,0 +1,48 @@
+-- The protected ranges of a spreadsheet, in order of id: `protectedRangeId` of the Google Sheets
+-- API v4.
+use Rattle.std.specs.Prelude.{ℕ, ◌≡◌, ◌≤◌, ◌<◌, Bool, false, not, ◌==◌, nat_lt, List, ◌∷◌, ◌++◌, Option, None, Some, is_some, All, AllPairs, Contains, filter, find, map, if◌then◌else◌}
+use Rattle.std.specs.Option.{option_map_or}
+use Rattle.protection.specs.declared.range.Protection.{Protection}
+
+-- each has a lesser id than those behind it
+abbrev pub IsInOrder : List Protection → Type 0
+IsInOrder protections = AllPairs (λ one other. one.id < other.id) protections
+
+-- the one with the id
+abbrev pub with_id : ℕ → List Protection → Option Protection
+with_id id protections = find (λ protection. protection.id == id) protections
+
+-- one has the id
+abbrev pub has_id : ℕ → List Protection → Bool
+has_id id protections = is_some (with_id id protections)
+
+-- the least id from 1 on that none has
+pub record IsLeastUnused (protections : List Protection) (id : ℕ) : Type 0 where
+  pub positive : 1 ≤ id
+  pub unused : All (λ protection. ¬ (protection.id ≡ id)) protections
+  pub least : (lesser : ℕ) → 1 ≤ lesser → lesser < id
+      → (protection : Protection) × Contains protections protection × (protection.id ≡ lesser)
+
+-- an id that is asked for is one that some protection has
+abbrev pub is_taken : Option ℕ → List Protection → Bool
+is_taken asked protections = option_map_or (λ id. has_id id protections) asked false
+
+-- a new protection has the id that is asked for, or else the least unused one
+abbrev pub IsNewId : Option ℕ → List Protection → ℕ → Type 0
+IsNewId (Some asked) protections id = id ≡ asked
+IsNewId None protections id = IsLeastUnused protections id
+
+-- the list with one more, behind those of lesser ids and before those of greater ones
+abbrev pub with_one_more : Protection → List Protection → List Protection
+with_one_more protection protections =
+    filter (λ other. nat_lt other.id protection.id) protections
+    ++ protection ∷ filter (λ other. nat_lt protection.id other.id) protections
+
+-- the list without the one with the id
+abbrev pub without_id : ℕ → List Protection → List Protection
+without_id id protections = filter (λ protection. not (protection.id == id)) protections
+
+-- the list with the one with the id changed
+abbrev pub with_changed : ℕ → (Protection → Protection) → List Protection → List Protection
+with_changed id changed protections =
+    map (λ protection. if protection.id == id then changed protection else protection) protections

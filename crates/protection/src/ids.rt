@@ -1,0 +1,89 @@
+ghost use Rattle.std.specs.Prelude.{◌≡◌, ◌<◌, ◌≤◌, ◌^◌, Bool, true, false, None, OnOk, OnErr, IfSome, IfNone, All, length, slice_get, take, drop};
+ghost use Rattle.protection.specs.Listed.{IsInOrder, IsNewId, IsLeastUnused, is_taken, with_id, with_one_more};
+
+use crate::range::Protection;
+use cell_value::NoMemory;
+
+/// The id that a new protection gets, which is the one that is asked for, or else the least from 1 on
+/// that none has; None where the one that is asked for is taken.
+pub(crate) fn new_id(protections: &[Protection], asked: Option<u32>) -> Option<u32>
+    requires order { IsInOrder protections.now }
+    requires room { length protections.now < 4294967295 }
+    ensures taken { IfNone result (is_taken asked protections.now ≡ true) }
+    ensures free { IfSome result (λ _. is_taken asked protections.now ≡ false) }
+    ensures unused { IfSome result (λ id. with_id id protections.now ≡ None) }
+    ensures id { IfSome result (IsNewId asked protections.now) }
+{
+    match asked {
+        None => Some(least_unused(protections)),
+        Some(id) => match place_of(protections, id) {
+            None => Some(id),
+            Some(_) => None,
+        },
+    }
+}
+
+/// The least id from 1 on that no protection has.
+fn least_unused(protections: &[Protection]) -> u32
+    requires order { IsInOrder protections.now }
+    requires room { length protections.now < 4294967295 }
+    ensures { IsLeastUnused protections.now result }
+{
+    let mut id = 1;
+    for protection in protections {
+        if protection.id == id {
+            id += 1;
+        }
+    }
+    id
+}
+
+/// The place of the protection with the id, None where none has it.
+pub(crate) fn place_of(protections: &[Protection], id: u32) -> Option<usize>
+    ensures there { IfSome result (λ at. at < length protections.now) }
+    ensures found { IfSome result (λ at. with_id id protections.now ≡ slice_get protections.now at) }
+    ensures none { IfNone result (with_id id protections.now ≡ None) }
+{
+    for (place, protection) in protections.iter().enumerate() {
+        if protection.id == id {
+            return Some(place);
+        }
+    }
+    None
+}
+
+/// How many protections have a lesser id: the place where one with the id stands.
+pub(crate) fn place_for(protections: &[Protection], id: u32) -> usize
+    requires order { IsInOrder protections.now }
+    ensures there { result ≤ length protections.now }
+    ensures before { All (λ one. one.id < id) (take result protections.now) }
+    ensures behind { All (λ one. id ≤ one.id) (drop result protections.now) }
+{
+    for (place, protection) in protections.iter().enumerate() {
+        if id <= protection.id {
+            return place;
+        }
+    }
+    protections.len()
+}
+
+/// Adds a protection at its place.
+///
+/// # Errors
+///
+/// [`NoMemory`] where memory runs out; the list is as it was.
+pub(crate) fn add_at_place(
+    protections: &mut Vec<Protection>,
+    protection: Protection,
+) -> Result<(), NoMemory>
+    requires order { IsInOrder protections.old.items }
+    requires unused { with_id protection.id protections.old.items ≡ None }
+    ensures added { OnOk result
+        (protections.new.items ≡ with_one_more protection protections.old.items) }
+    ensures order { IsInOrder protections.new.items }
+    ensures unchanged { OnErr result (protections.new.items ≡ protections.old.items) }
+{
+    let place = place_for(protections, protection.id);
+    protections.insert(place, protection)?;
+    Ok(())
+}

@@ -1,0 +1,17 @@
+//! The protected ranges of a spreadsheet, in order of id: who may edit which cells, and how the
+//! ranges follow the lines of the sheets.
+#![tactic(auto)]
+
+mod denial;
+mod editors;
+mod following;
+mod ids;
+mod list;
+mod patch;
+mod range;
+
+pub use list::Protections;
+pub use range::{Protection, ProtectionFault, ProtectionPatch};
+
+#[cfg(test)]
+mod tests;
