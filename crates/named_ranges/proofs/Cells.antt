@@ -1,0 +1,75 @@
+-- Letters and a number behind them, which are a cell in A1 text.
+use Rattle.std.proofs.Common.{◌≡◌, ◌↔◌, ℕ, ◌-◌, ◌<◌, ◌≤◌, Bool, true, false, List, [], ◌∷◌, ◌++◌, Option, None, Some, IsSome, IfSome, Result, Ok, Err, length, get_or, take, drop, refl, sym, ◌∙◌, arith}
+use Rattle.std.specs.Prelude.{is_ok, is_some}
+use Rattle.std.specs.List.{list_all, prefix_len}
+use Rattle.std.specs.Char.{is_ascii_alphabetic, digit_value}
+use Rattle.std.specs.Str.Parse.{AllDigits, ParsesUnsigned}
+use Rattle.std.proofs.lemmas.Bool.{and_parts, false≢true}
+use Rattle.std.proofs.lemmas.Bool.Decides.{nat_tests}
+use Rattle.std.proofs.lemmas.List.{take_at, drop_at, take-append-drop}
+use Rattle.a1_notation.specs.Column.{IsColumn, AreLetters}
+use Rattle.a1_notation.specs.Area.{IsRow}
+use Rattle.a1_notation.proofs.Rows.{BeginsPositive, row_parsed, row_not_parsed, parsed_some, parsed_none}
+use Rattle.named_ranges.specs.NameRule.{IsCell}
+
+-- what `parse` tells of a text that begins with a digit from 1 to 9
+pub row_told : {E : Type 0} (text : List ℕ) (parsed : Result ℕ E) → BeginsPositive text
+    → length text ≤ 7 → ParsesUnsigned 32 10 text parsed
+    → (is_ok parsed ≡ true) ↔ ((row : ℕ) × IsRow text row)
+row_told {E} text (Ok number) begins few given =
+    let row = row_parsed text number begins few (parsed_some {E = E} text number (Ok number) refl given) in
+    (λ _. (number - 1, row.1), λ _. refl)
+row_told {E} text (Err error) begins few given = (
+  λ yes. absurd (false≢true yes),
+  λ is. absurd (row_not_parsed text is.0 (parsed_none {E = E} text (Err error) refl given) begins is.1),
+)
+
+-- the letters in front of digits end where the digits begin
+digit_is_no_letter : (byte : ℕ) → digit_value byte < 10 → is_ascii_alphabetic byte ≡ false
+digit_is_no_letter byte small = grind (arith, nat_tests)
+
+letters_end : (letters digits : List ℕ) → list_all is_ascii_alphabetic letters ≡ true
+    → AllDigits 10 digits → prefix_len is_ascii_alphabetic (letters ++ digits) ≡ length letters
+letters_end [] [] letter digit = refl
+letters_end [] (d ∷ ds) letter digit = rw (digit_is_no_letter d digit.0) refl
+letters_end (x ∷ xs) digits letter digit =
+    let parts = and_parts (is_ascii_alphabetic x) (list_all is_ascii_alphabetic xs) letter in
+    rw parts.0 (rw (letters_end xs digits parts.1 digit) (omega arith))
+
+-- the letters that a text begins with, and what stands behind them
+abbrev pub letters_of : List ℕ → List ℕ
+letters_of text = take (prefix_len is_ascii_alphabetic text) text
+
+abbrev pub behind_letters : List ℕ → List ℕ
+behind_letters text = drop (prefix_len is_ascii_alphabetic text) text
+
+cell_split : (text : List ℕ) (cell : IsCell text)
+    → (letters_of text ≡ cell.letters) × (behind_letters text ≡ cell.digits)
+cell_split text cell =
+    let n = letters_end cell.letters cell.digits cell.column_is.letters.all cell.row_is.digits.1 in (
+      rw (cell.parts, n) (take_at cell.letters cell.digits (length cell.letters) refl),
+      rw (cell.parts, n) (drop_at cell.letters cell.digits (length cell.letters) refl),
+    )
+
+-- the text is a cell where the letters are a column's and a row's number stands behind them
+pub cell_from_parts : (text letters digits : List ℕ) (column : Option ℕ) → letters ≡ letters_of text
+    → digits ≡ behind_letters text → IfSome column (IsColumn 3 letters) → is_some column ≡ true
+    → (row : ℕ) × IsRow digits row → IsCell text
+cell_from_parts text letters digits None before behind is some row = absurd (false≢true some)
+cell_from_parts text letters digits (Some column) before behind is some row = record {
+  letters = letters;
+  digits = digits;
+  column = column;
+  row = row.0;
+  parts = rw (before, behind) (sym (take-append-drop (prefix_len is_ascii_alphabetic text) text));
+  column_is = is;
+  row_is = row.1;
+}
+
+pub letters_from_cell : (text letters : List ℕ) → letters ≡ letters_of text → IsCell text
+    → AreLetters 3 letters
+letters_from_cell text letters before cell = rw (before ∙ (cell_split text cell).0) cell.column_is.letters
+
+pub row_from_cell : (text digits : List ℕ) → digits ≡ behind_letters text → IsCell text
+    → (row : ℕ) × IsRow digits row
+row_from_cell text digits behind cell = (cell.row, rw (behind ∙ (cell_split text cell).1) cell.row_is)

@@ -1,0 +1,14 @@
+//! The named ranges of a spreadsheet, in order of creation: their ids and names, and how they follow
+//! the lines of the sheets.
+#![tactic(auto)]
+
+mod following;
+mod list;
+mod name;
+mod range;
+
+pub use list::Names;
+pub use range::{NameFault, NamedRange};
+
+#[cfg(test)]
+mod tests;

@@ -1,0 +1,85 @@
+ghost use Rattle.std.specs.Prelude.{ℕ, ◌≡◌, ◌↔◌, ◌≤◌, IsTrue, slice_index, take, drop};
+ghost use Rattle.std.specs.List.{list_all, prefix_len};
+ghost use Rattle.std.specs.Char.{is_ascii_alphabetic, is_ascii_digit};
+ghost use Rattle.a1_notation.specs.Area.{IsRow};
+ghost use Rattle.named_ranges.specs.NameRule.{IsName, IsCell, is_name_byte};
+
+use a1_notation::read_column;
+
+/// The longest name, in bytes.
+const LONGEST: usize = 250;
+
+/// The longest number of a row, in digits.
+const DIGITS: usize = 7;
+
+/// Whether a text may be the name of a named range.
+pub(crate) fn is_name(text: &str) -> bool
+    ensures { IsTrue result ↔ IsName text.now }
+{
+    !text.is_empty()
+        && text.len() <= LONGEST
+        && are_name_bytes(text.as_bytes())
+        && !begins_with_digit(text)
+        && !text.eq_ignore_ascii_case("true")
+        && !text.eq_ignore_ascii_case("false")
+        && !is_cell(text)
+}
+
+/// Whether each byte is an ASCII letter, a digit or `_`.
+fn are_name_bytes(bytes: &[u8]) -> bool
+    ensures { result ≡ list_all is_name_byte bytes.now }
+{
+    bytes
+        .iter()
+        .all(|byte| byte.is_ascii_alphanumeric() || *byte == b'_')
+}
+
+/// Whether the first byte is a digit.
+fn begins_with_digit(text: &str) -> bool
+    ensures { result ≡ is_ascii_digit (slice_index text.now 0) }
+{
+    matches!(text.as_bytes(), [b'0'..=b'9', ..])
+}
+
+/// Whether the text is a cell in A1 text: a column's letters and a row's number.
+fn is_cell(text: &str) -> bool
+    ensures { IsTrue result ↔ IsCell text.now }
+{
+    let (letters, digits) = split_letters(text);
+    read_column(letters).is_some() && is_row(digits)
+}
+
+/// The letters that a text begins with, and what stands behind them.
+fn split_letters(text: &str) -> (&str, &str)
+    ensures letters { result.0.now ≡ take (prefix_len is_ascii_alphabetic text.now) text.now }
+    ensures behind { result.1.now ≡ drop (prefix_len is_ascii_alphabetic text.now) text.now }
+{
+    text.split_at(count_letters(text.as_bytes()))
+}
+
+/// How many letters a text begins with.
+fn count_letters(bytes: &[u8]) -> usize
+    ensures { result ≡ prefix_len is_ascii_alphabetic bytes.now }
+{
+    bytes
+        .iter()
+        .take_while(|byte| byte.is_ascii_alphabetic())
+        .count()
+}
+
+/// Whether the text is a row's number, from 1 to 9,999,999.
+fn is_row(text: &str) -> bool
+    ensures { IsTrue result ↔ ((row : ℕ) × IsRow text.now row) }
+{
+    if text.len() > DIGITS || !begins_positive(text) {
+        return false;
+    }
+    text.parse::<u32>().is_ok()
+}
+
+/// Whether a text begins with a digit from 1 to 9.
+fn begins_positive(text: &str) -> bool
+    ensures { IsTrue result ↔ ((49 ≤ slice_index text.now 0) × (slice_index text.now 0 ≤ 57)) }
+{
+    matches!(text.as_bytes(), [b'1'..=b'9', ..])
+}
