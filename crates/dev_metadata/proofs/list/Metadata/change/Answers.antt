@@ -1,0 +1,10 @@
+use Rattle.std.proofs.Common.{List, sym, subst}
+use Rattle.dev_metadata.specs.declared.types.Item.{Item}
+use Rattle.dev_metadata.specs.Listed.{HaveOwnIds}
+use Rattle.dev_metadata.proofs.OwnIds.{HaveOwnIds-followed}
+use Rattle.dev_metadata.proofs.list.Metadata.change.Goals as goal
+
+pub invariant_of-self : goal.invariant_of-self
+invariant_of-self c =
+    subst (λ (items : List Item). HaveOwnIds items) (sym c.follow_all.ensures)
+    (HaveOwnIds-followed _ _ _ _ c.self.invariant)

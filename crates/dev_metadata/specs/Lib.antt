@@ -1,0 +1,9 @@
+pub mod Spot
+pub mod Kind
+pub mod Sight
+pub mod SightKind
+pub mod Lookup
+pub mod Listed
+pub mod Following
+pub mod Patch
+pub mod Given

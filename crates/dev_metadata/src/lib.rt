@@ -1,0 +1,17 @@
+//! The developer metadata of a spreadsheet, in order of creation: where an item lies and who sees it,
+//! how it follows the lines of the sheets, and which items a look-up finds.
+#![tactic(auto)]
+
+mod finding;
+mod following;
+mod ids;
+mod list;
+mod matching;
+mod types;
+mod updating;
+
+pub use list::Metadata;
+pub use types::{Item, ItemPatch, Lookup, MetaFault, Sight, SightKind, Spot, SpotKind};
+
+#[cfg(test)]
+mod tests;

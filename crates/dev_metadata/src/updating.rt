@@ -1,0 +1,142 @@
+ghost use Rattle.std.specs.Prelude.{◌≡◌, IfOk, OnOk, OnErr, map, unwrap_or};
+ghost use Rattle.std.specs.Option.{option_map};
+ghost use Rattle.dev_metadata.specs.SightKind.{sight_given};
+ghost use Rattle.dev_metadata.specs.Patch.{with_patched};
+ghost use Rattle.dev_metadata.specs.Given.{given_of, with_given, given_to};
+
+use crate::types::{Item, ItemPatch, Lookup, Sight, SightKind, Spot};
+use cell_value::{Duplicate, NoMemory, Text};
+use std::alloc::Global;
+
+/// What an update gives to one item.
+#[derive(Drop)]
+pub(crate) struct Given {
+    pub(crate) key: Option<Text>,
+    pub(crate) value: Option<Text>,
+    pub(crate) spot: Option<Spot>,
+    pub(crate) sight: Option<Sight>,
+}
+
+/// Puts what the patch gives in the place of what the items have that one of the look-ups finds.
+///
+/// # Errors
+///
+/// [`NoMemory`] where memory runs out; the items are as they were.
+pub(crate) fn patch_found(
+    alloc: Global,
+    items: &mut Vec<Item>,
+    lookups: &[Lookup],
+    project: &str,
+    patch: &ItemPatch,
+) -> Result<(), NoMemory>
+    ensures patched { OnOk result
+        (items.new.items ≡ with_patched lookups.now project.now patch.now items.old.items) }
+    ensures unchanged { OnErr result (items.new.items ≡ items.old.items) }
+{
+    let mut copies = copies_given(alloc, items, lookups, project, patch)?;
+    for at in 0..items.len() {
+        if let Some(given) = copies[at].take() {
+            items[at].give(given);
+        }
+    }
+    Ok(())
+}
+
+/// What each item gets, in order: a copy of what the patch gives, where one of the look-ups finds it.
+fn copies_given(
+    alloc: Global,
+    items: &[Item],
+    lookups: &[Lookup],
+    project: &str,
+    patch: &ItemPatch,
+) -> Result<Vec<Option<Given>>, NoMemory>
+    ensures { IfOk result (λ copies.
+        copies.items ≡ map (given_to lookups.now project.now patch.now) items.now) }
+{
+    let mut copies = Vec::with_capacity(alloc, items.len())?;
+    for item in items {
+        copies.push(patch.given_to(alloc, item, lookups, project)?)?;
+    }
+    Ok(copies)
+}
+
+impl ItemPatch {
+    /// What the item gets in a call of the project: a copy of what the patch gives, where one of the
+    /// look-ups finds it.
+    fn given_to(
+        &self,
+        alloc: Global,
+        item: &Item,
+        lookups: &[Lookup],
+        project: &str,
+    ) -> Result<Option<Given>, NoMemory>
+        ensures { IfOk result (λ given.
+            given ≡ given_to lookups.now project.now self.now item.now) }
+    {
+        if !item.is_found(lookups, project) {
+            return Ok(None);
+        }
+        let given = self.given(alloc, project)?;
+        Ok(Some(given))
+    }
+
+    /// What the patch gives in a call of the project.
+    fn given(&self, alloc: Global, project: &str) -> Result<Given, NoMemory>
+        ensures { IfOk result (λ given. given ≡ given_of project.now self.now) }
+    {
+        Ok(Given {
+            key: copy_text(&self.key)?,
+            value: copy_text(&self.value)?,
+            spot: self.spot,
+            sight: sight_given(alloc, project, self.sight)?,
+        })
+    }
+}
+
+/// A copy of the text, if there is one.
+fn copy_text(text: &Option<Text>) -> Result<Option<Text>, NoMemory>
+    ensures { IfOk result (λ copy. copy ≡ text.now) }
+{
+    match text {
+        Some(text) => Ok(Some(text.duplicate()?)),
+        None => Ok(None),
+    }
+}
+
+/// What the word means in a call of the project, if there is one.
+fn sight_given(
+    alloc: Global,
+    project: &str,
+    word: Option<SightKind>,
+) -> Result<Option<Sight>, NoMemory>
+    ensures { IfOk result (λ sight. sight ≡ option_map (sight_given project.now) word) }
+{
+    match word {
+        Some(SightKind::Document) => Ok(Some(Sight::Document)),
+        Some(SightKind::Project) => Ok(Some(Sight::Project(Text::of(String::from_str(
+            alloc, project,
+        )?)))),
+        None => Ok(None),
+    }
+}
+
+impl Item {
+    /// Puts what is given in the place of what the item has.
+    fn give(&mut self, given: Given)
+        ensures { self.new ≡ with_given given self.old }
+    {
+        replace(&mut self.key, given.key);
+        replace(&mut self.value, given.value);
+        replace(&mut self.spot, given.spot);
+        replace(&mut self.sight, given.sight);
+    }
+}
+
+/// Puts what is given into the place, if it is.
+fn replace<T: Drop>(place: &mut T, given: Option<T>)
+    ensures { place.new ≡ unwrap_or given place.old }
+{
+    if let Some(given) = given {
+        *place = given;
+    }
+}
