@@ -1,0 +1,4 @@
+pub mod Members
+pub mod Standing
+pub mod Stores
+pub mod Reading
