@@ -4,7 +4,7 @@ ghost use Rattle.std.specs.List.{filter_map};
 ghost use Rattle.grid_range.specs.Change.{Fits};
 ghost use Rattle.protection.specs.Denial.{DeniesSome, IsFirstDenial};
 ghost use Rattle.protection.specs.Editors.{IsKeptOff};
-ghost use Rattle.protection.specs.Listed.{IsNewId, is_taken, with_id, with_one_more, with_changed, without_id};
+ghost use Rattle.protection.specs.Listed.{IsInOrder, IsNewId, is_taken, with_id, with_one_more, with_changed, without_id};
 ghost use Rattle.protection.specs.Patch.{is_bad, patched, blank};
 ghost use Rattle.protection.specs.declared.range.ProtectionFault.TheVariants.{Bad, NoId, IdTaken, NotEditor};
 ghost use Rattle.protection.specs.Following.{IsKeptWithin, protection_followed, protection_without_sheet};
@@ -56,7 +56,8 @@ impl Protections {
 
     /// The protected range at the place in order of id, counted from 0; None past the last.
     pub fn list(&self, at: u32) -> Option<&Protection>
-        ensures { option_copied result ≡ slice_get self.now at }
+        ensures protection { option_copied result ≡ slice_get self.now at }
+        ensures order { IsInOrder self.now }
     {
         self.items.get(at as usize)
     }
