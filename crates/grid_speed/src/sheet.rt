@@ -1,4 +1,5 @@
-ghost use Rattle.std.specs.Prelude.{◌≡◌, ◌<◌};
+ghost use Rattle.std.specs.Prelude.{◌≡◌, ◌<◌, ℕ, List, length, IfOk};
+ghost use Rattle.cell_store.specs.Places.{AreFilledPlaces};
 ghost use Rattle.cell_store.specs.Table.{filled_places};
 
 use cell_store::{Grid, TreeGrid};
@@ -14,7 +15,9 @@ const COLUMNS: u32 = 26;
 const MOST: u64 = 1_000_000_000;
 
 /// A sheet with an item at each place.
-pub fn filled(alloc: Global) -> Result<TreeGrid<u64>, NoMemory> {
+pub fn filled(alloc: Global) -> Result<TreeGrid<u64>, NoMemory>
+    ensures { IfOk result (λ grid. (grid.rows ≡ 1000) × (grid.cols ≡ 26)) }
+{
     let mut grid = TreeGrid::new(alloc, ROWS, COLUMNS);
     for row in 0..ROWS {
         fill_row(&mut grid, row)?;
@@ -48,6 +51,9 @@ fn put(grid: &mut TreeGrid<u64>, row: u32, column: u32) -> Result<(), NoMemory>
 }
 
 /// How many filled places the area has.
-pub fn count_places(grid: &TreeGrid<u64>, area: &Area) -> Result<usize, NoMemory> {
+pub fn count_places(grid: &TreeGrid<u64>, area: &Area) -> Result<usize, NoMemory>
+    ensures { IfOk result (λ count. (places : List (ℕ × ℕ)) × AreFilledPlaces area.now grid.now places
+        × (count ≡ length places)) }
+{
     Ok(grid.places(area)?.as_slice().len())
 }
