@@ -1,1 +1,4 @@
+pub mod Stored
+pub mod Typed
 pub mod Entered
+pub mod Shown

@@ -1,8 +1,12 @@
-ghost use Rattle.std.specs.Prelude.{◌≡◌, ◌⊎◌};
+ghost use Rattle.std.specs.Prelude.{◌≡◌, ◌⊎◌, ℕ, List, true, Some, Ok, Err};
+ghost use Rattle.std.specs.Str.Parse.{signed_digits_value};
 ghost use Rattle.serde_json.specs.View.{view, number_view};
-ghost use Rattle.cell_value.specs.Entered.{raw_input, number_input_of, text_input_of};
+ghost use Rattle.cell_value.specs.Stored.{whole_input, text_or_empty, within_longest};
+ghost use Rattle.cell_value.specs.Typed.{is_whole, plain_input};
+ghost use Rattle.cell_value.specs.Entered.{entered_input, entered_text, number_input_of};
 
 use crate::Text;
+use crate::typed::{is_decimal, is_formula, is_whole, is_word, marked_text};
 use serde_json::{Number, Value as Json};
 use std::alloc::{AllocError, Global};
 
@@ -64,22 +68,28 @@ pub const LONGEST: usize = 50_000;
 
 /// What a JSON value means that is entered into a cell (Sheets API v4 reference, ValueRange and
 /// ValueInputOption): a whole number within 2^53 either way and a truth value are stored, null
-/// leaves the cell alone, an empty text empties it, and another text is stored as it is.
+/// leaves the cell alone, an empty text empties it, and another text is stored as it is under
+/// [`Mode::Raw`] and read as if it was typed under [`Mode::UserEntered`].
+///
+/// A typed text is, by the first of these that fits: `=` and more, a formula; behind a leading `'`
+/// the text that follows; digits with an optional sign, a whole number; TRUE or FALSE in any ASCII
+/// case, a truth value; a number with a fraction or an exponent, which can't be entered; and any
+/// other text itself.
 ///
 /// # Errors
 ///
-/// [`Bad::NotWhole`] exactly for a number that isn't whole within 2^53 either way,
-/// [`Bad::TooLong`] exactly for a text of more than 50,000 bytes, [`Bad::NotScalar`] exactly for a
-/// list or an object, [`Bad::NoMemory`] only where a text can't be copied.
+/// [`Bad::NotWhole`] exactly for a number, or a text that is typed as one, that isn't whole within
+/// 2^53 either way, [`Bad::TooLong`] exactly for any other text of more than 50,000 bytes as it was
+/// given, [`Bad::NotScalar`] exactly for a list or an object, [`Bad::NoMemory`] only where a text
+/// can't be copied.
 pub fn read_entered(alloc: Global, mode: Mode, value: &Json) -> Result<Input, Bad>
-    requires { mode ≡ Mode.Raw }
-    ensures { (result ≡ raw_input (view value.now)) ⊎ (result ≡ Err Bad.NoMemory) }
+    ensures { (result ≡ entered_input mode (view value.now)) ⊎ (result ≡ Err Bad.NoMemory) }
 {
     match value {
         Json::Null => Ok(Input::Skip),
         Json::Bool(truth) => Ok(Input::Truth(*truth)),
         Json::Number(number) => number_input(number),
-        Json::String(text) => text_input(alloc, text.as_str()),
+        Json::String(text) => text_input(alloc, mode, text.as_str()),
         Json::Array(_) | Json::Object(_) => Err(Bad::NotScalar),
     }
 }
@@ -89,20 +99,108 @@ fn number_input(number: &Number) -> Result<Input, Bad>
     ensures { result ≡ number_input_of (number_view number.now) }
 {
     match number.as_i64() {
-        Some(whole) if whole.unsigned_abs() <= LARGEST => Ok(Input::Number(whole)),
-        _ => Err(Bad::NotWhole),
+        Some(whole) => whole_input(whole),
+        None => Err(Bad::NotWhole),
     }
 }
 
-/// The text as it is, unless it is empty or too long.
-fn text_input(alloc: Global, text: &str) -> Result<Input, Bad>
-    ensures { (result ≡ text_input_of text.now) ⊎ (result ≡ Err Bad.NoMemory) }
+/// The whole number, where it is within 2^53 either way.
+fn whole_input(whole: i64) -> Result<Input, Bad>
+    ensures { result ≡ whole_input (Some whole) }
+{
+    if whole.unsigned_abs() <= LARGEST {
+        Ok(Input::Number(whole))
+    } else {
+        Err(Bad::NotWhole)
+    }
+}
+
+/// What a text means, by how it is taken.
+fn text_input(alloc: Global, mode: Mode, text: &str) -> Result<Input, Bad>
+    ensures { (result ≡ entered_text mode text.now) ⊎ (result ≡ Err Bad.NoMemory) }
+{
+    match mode {
+        Mode::Raw => {
+            check_length(text)?;
+            stored_text(alloc, text)
+        }
+        Mode::UserEntered => typed_text(alloc, text),
+    }
+}
+
+/// What a typed text means, by the first line that fits.
+fn typed_text(alloc: Global, text: &str) -> Result<Input, Bad>
+    ensures { (result ≡ entered_text Mode.UserEntered text.now) ⊎ (result ≡ Err Bad.NoMemory) }
+{
+    if is_formula(text) {
+        check_length(text)?;
+        return Ok(Input::FormulaText(copy(alloc, text)?));
+    }
+    if let Some(rest) = marked_text(text) {
+        check_length(text)?;
+        return stored_text(alloc, rest);
+    }
+    if is_whole(text.as_bytes()) {
+        let number = digits_input(text)?;
+        check_length(text)?;
+        return Ok(number);
+    }
+    if is_word(text, "TRUE") {
+        return Ok(Input::Truth(true));
+    }
+    if is_word(text, "FALSE") {
+        return Ok(Input::Truth(false));
+    }
+    plain_text(alloc, text)
+}
+
+/// What a text means that is none of the others.
+fn plain_text(alloc: Global, text: &str) -> Result<Input, Bad>
+    ensures { (result ≡ within_longest text.now (plain_input text.now)) ⊎ (result ≡ Err Bad.NoMemory) }
+{
+    if is_decimal(text.as_bytes()) {
+        return Err(Bad::NotWhole);
+    }
+    check_length(text)?;
+    stored_text(alloc, text)
+}
+
+/// The number that a sign and digits write, where it is within 2^53 either way.
+fn digits_input(text: &str) -> Result<Input, Bad>
+    requires { is_whole text.now ≡ true }
+    ensures { result ≡ whole_input (Some (signed_digits_value 10 text.now)) }
+{
+    match text.parse::<i64>() {
+        Ok(whole) => whole_input(whole),
+        Err(_) => Err(Bad::NotWhole),
+    }
+}
+
+/// Refuses a text that is too long.
+fn check_length(text: &str) -> Result<(), Bad>
+    ensures { result ≡ within_longest text.now (Ok tt) }
 {
     if text.len() > LONGEST {
         Err(Bad::TooLong)
-    } else if text.is_empty() {
+    } else {
+        Ok(())
+    }
+}
+
+/// The text as it is; the empty one empties the cell.
+fn stored_text(alloc: Global, text: &str) -> Result<Input, Bad>
+    ensures { (result ≡ Ok (text_or_empty text.now)) ⊎ (result ≡ Err Bad.NoMemory) }
+{
+    if text.is_empty() {
         Ok(Input::Empty)
     } else {
-        Ok(Input::Text(Text::of(String::from_str(alloc, text)?)))
+        Ok(Input::Text(copy(alloc, text)?))
     }
+}
+
+/// A copy of the text.
+fn copy(alloc: Global, text: &str) -> Result<Text, Bad>
+    ensures { (result ≡ Ok text.now) ⊎ (result ≡ Err Bad.NoMemory) }
+{
+    Ok(Text::of(String::from_str(alloc, text)?))
 }

@@ -5,7 +5,8 @@ use Rattle.std.specs.Str.{IsUtf8, bytes_eq}
 use Rattle.serde_json.specs.Data.{Data, Items, no_items, item, Members, no_members, member}
 use Rattle.serde_json.specs.Find.{as_array, as_object}
 use Rattle.serde_json.specs.Read.{read as read_text}
-use Rattle.cell_value.specs.Entered.{raw_input}
+use Rattle.cell_value.specs.Entered.{entered_input}
+use Rattle.cell_value.specs.declared.entered.Mode.TheVariants.{Raw}
 use Rattle.cell_value.specs.declared.entered.Input.{Input}
 
 -- one more at the front, where both are there
@@ -21,7 +22,7 @@ all_of meaning (item json items) = option_cons (meaning json) (all_of meaning it
 
 -- what a JSON value means that is entered as it is
 abbrev pub input_of : Data → Option Input
-input_of json = result_ok (raw_input json)
+input_of json = result_ok (entered_input Raw json)
 
 -- what a JSON list of such values means
 abbrev pub row_of : Data → Option (List Input)
