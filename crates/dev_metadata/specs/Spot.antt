@@ -1,7 +1,7 @@
 -- Where items of metadata lie, and when two locations are one or intersect: the
 -- `DeveloperMetadataLocation` and the `DeveloperMetadataLocationMatchingStrategy` of the Google Sheets
 -- API v4.
-use Rattle.std.specs.Prelude.{ℕ, Bool, true, false, not, ◌&&◌, ◌||◌, ◌==◌}
+use Rattle.std.specs.Prelude.{ℕ, Bool, true, false, ◌&&◌, ◌||◌, ◌==◌}
 use Rattle.grid_range.specs.declared.axis.Axis.{Axis}
 use Rattle.grid_range.specs.declared.axis.Axis.TheVariants.{Rows, Columns}
 use Rattle.dev_metadata.specs.declared.types.Spot.{Spot}

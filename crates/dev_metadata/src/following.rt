@@ -2,7 +2,7 @@ ghost use Rattle.std.specs.Prelude.{◌≡◌, All, None, Some};
 ghost use Rattle.std.specs.Bool.{OnTrue, OnFalse};
 ghost use Rattle.std.specs.List.{filter_map};
 ghost use Rattle.grid_range.specs.Change.{Fits};
-ghost use Rattle.dev_metadata.specs.Following.{IsBelow, IsSpotBelow, is_changed, spot_followed, item_followed, items_elsewhere};
+ghost use Rattle.dev_metadata.specs.Following.{IsBelow, IsSpotBelow, spot_followed, item_followed, items_elsewhere};
 
 use crate::matching::is_same_axis;
 use crate::types::{Item, Spot};

@@ -1,4 +1,4 @@
-ghost use Rattle.std.specs.Prelude.{◌≡◌, ◌<◌, false, IfOk, length, List, ℕ};
+ghost use Rattle.std.specs.Prelude.{◌≡◌, ◌<◌, false, IfOk, length};
 ghost use Rattle.std.specs.List.Sorted.{IsNonDecreasing};
 ghost use Rattle.dev_metadata.specs.Listed.{AreInOrder, AreIdsInOrder, IsLeastUnused, IsNewId, ids_of, has_id, is_taken};
 

@@ -1,11 +1,11 @@
 ghost use Rattle.std.specs.Prelude.{◌≡◌, ◌==◌, true, if◌then◌else◌};
 ghost use Rattle.std.specs.List.{list_any};
 ghost use Rattle.std.specs.Option.{option_map_or};
-ghost use Rattle.dev_metadata.specs.Spot.{is_same_axis, is_spreadsheet, is_sheet, is_line_on, is_on_sheet, is_line, is_the_sheet, is_same_spot, share_sheet, are_row_and_column, intersect};
+ghost use Rattle.dev_metadata.specs.Spot.{is_same_axis, is_spreadsheet, is_sheet, is_line_on, is_on_sheet, is_line, is_same_spot, share_sheet, are_row_and_column, intersect};
 ghost use Rattle.dev_metadata.specs.Kind.{has_kind};
 ghost use Rattle.dev_metadata.specs.Sight.{is_seen_under, is_of_document};
 ghost use Rattle.dev_metadata.specs.SightKind.{has_sight};
-ghost use Rattle.dev_metadata.specs.Lookup.{is_exact, is_intersecting, asks_nothing, lacks_location, limits_exact, limits_to_spreadsheet, is_elsewhere, is_bad, has_bad, is_text_asked, is_spot_asked, meets, finds, finds_some};
+ghost use Rattle.dev_metadata.specs.Lookup.{is_exact, asks_nothing, limits_to_spreadsheet, is_elsewhere, is_bad, has_bad, is_text_asked, is_spot_asked, meets, finds, finds_some};
 
 use crate::types::{Item, Lookup, Sight, SightKind, Spot, SpotKind};
 use cell_value::Text;

@@ -1,4 +1,4 @@
-use Rattle.std.proofs.Common.{◌≡◌, ◌≢◌, ℕ, ◌+◌, ◌<◌, ◌≤◌, All, Contains, take}
+use Rattle.std.proofs.Common.{◌≢◌, ℕ, ◌+◌, ◌<◌, ◌≤◌, All, Contains, take}
 use Rattle.dev_metadata.proofs.ids.least_missing.Given as goal
 
 abbrev pub invariant-loop-id : goal.invariant-loop-id

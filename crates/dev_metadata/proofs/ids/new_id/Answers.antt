@@ -1,4 +1,3 @@
-use Rattle.std.proofs.Common.{ℕ}
 use Rattle.std.proofs.lemmas.Result.{IfOk-weaker}
 use Rattle.dev_metadata.proofs.OwnIds.{has_id-unused}
 use Rattle.dev_metadata.proofs.ids.new_id.Goals as goal
