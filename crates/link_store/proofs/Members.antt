@@ -1,6 +1,6 @@
 -- Which nodes a list of entries has, which come first and last, and what is left without one.
 use Rattle.std.proofs.Common.{◌≡◌, ◌≢◌, ◌⊎◌, inl, inr, ℕ, zero, suc, ◌+◌, List, [], ◌∷◌, ◌++◌, length, map, false, refl, sym, ap, subst, ◌∙◌, arith}
-use Rattle.std.specs.Prelude.{Option, Some, None, Contains, nat_eq, slice_get, IfSome}
+use Rattle.std.specs.Prelude.{Option, Some, None, Contains, nat_eq, slice_get, IfSome, IfNone}
 use Rattle.std.specs.List.{AllByRecursion, IsDistinct}
 use Rattle.std.specs.Option.{option_or}
 use Rattle.std.proofs.lemmas.Bool.{cases_eq, eq-eqb, ne_eqb}
@@ -30,6 +30,10 @@ pass_else node other (Some k) differs = pass_other node other k (λ same. differ
 pub if_some : (o : Option ℕ) (P : ℕ → Type 0) → ((k : ℕ) → o ≡ Some k → P k) → IfSome o P
 if_some None P holds = tt
 if_some (Some k) P holds = holds k refl
+
+pub if_none : (o : Option ℕ) (P : Type 0) → (o ≡ None → P) → IfNone o P
+if_none None P holds = holds refl
+if_none (Some k) P holds = tt
 
 pub cases_some : (o : Option ℕ) (k : ℕ) → (o ≡ Some k) ⊎ (o ≢ Some k)
 cases_some None k = inr (λ e. absurd (cc))
@@ -140,7 +144,7 @@ module _ {T : Type 0} where
         (later.0, Contains-cons entry (next, later.0) rest later.1)
   ]
 
-  without_none : (node : ℕ) (lists : List (List (ℕ × T))) → ((i : ℕ) → Lacks node (entries_of lists i)) → without_node lists node ≡ lists
+  pub without_none : (node : ℕ) (lists : List (List (ℕ × T))) → ((i : ℕ) → Lacks node (entries_of lists i)) → without_node lists node ≡ lists
   without_none node [] lacks = refl
   without_none node (found ∷ lists) lacks =
       ap (λ f. f ∷ without_node lists node) (without_lacking node found (lacks 0)) ∙ ap (λ fs. found ∷ fs) (without_none node lists (λ i. lacks (suc i)))

@@ -1,2 +1,5 @@
 pub mod Lists
 pub mod Nodes
+pub mod Entries
+pub mod Lines
+pub mod Crossings

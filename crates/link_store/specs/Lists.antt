@@ -41,6 +41,11 @@ module _ {T : Type 0} where
   abbrev pub without_node : List (List (ℕ × T)) → ℕ → List (List (ℕ × T))
   without_node lists node = map (without node) lists
 
+  -- the lists with that item at the node
+  abbrev pub with_item_at : List (List (ℕ × T)) → ℕ → T → List (List (ℕ × T))
+  with_item_at lists node item =
+      map (map (λ entry. if entry.0 == node then (node, item) else entry)) lists
+
   -- each node stands in one list, and there once
   pub record HasNodesOnce (lists : List (List (ℕ × T))) : Type 0 where
     pub one_list : (list other node : ℕ) (x y : T) → Contains (entries_of lists list) (node, x)

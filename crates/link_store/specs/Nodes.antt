@@ -17,6 +17,9 @@ module _ {T : Type 0} where
   abbrev pub with_previous : Option ℕ → Node T → Node T
   with_previous previous node = record node { previous = previous }
 
+  abbrev pub with_item : T → Node T → Node T
+  with_item item node = record node { item = item }
+
   -- a node's links where the other node is gone
   abbrev pub passed_over : ℕ → Node T → Node T → Node T
   passed_over k gone node =

@@ -55,6 +55,7 @@ impl<T> Links<T> {
         ensures item { (item : T) → HasEntry self.old node item → result ≡ item }
         ensures taken { self.new ≡ without_node self.old node }
         ensures count { live_nodes self.new + 1 ≡ live_nodes self.old }
+        ensures once { HasNodesOnce self.old }
         ensures step { steps.new ≡ steps.old + 1 }
     {
         steps.tick();
@@ -72,6 +73,7 @@ impl<T> Links<T> {
         ensures taken { IfSome result (λ entry. self.new ≡ without_node self.old entry.0) }
         ensures count { OnSome result (live_nodes self.new + 1 ≡ live_nodes self.old) }
         ensures unchanged { IfNone result (self.new ≡ self.old) }
+        ensures once { HasNodesOnce self.old }
         ensures step { steps.new ≡ steps.old + 1 }
     {
         steps.tick();

@@ -3,7 +3,7 @@ ghost use Rattle.std.specs.Prelude.{◌≡◌, ◌+◌, ◌<◌};
 use std::marker::Model;
 use std::sync::ledger::{Blank, Book, Ledger, Share};
 
-/// How many steps were taken: a number that only `tick` changes. It takes no bytes.
+/// How many steps were taken: a number that only `add` and `tick` change. It takes no bytes.
 #[derive(Drop)]
 pub struct Steps<L: Ledger> {
     book: Book<L>,
@@ -30,6 +30,13 @@ impl<L: Ledger> Steps<L> {
     {
         let (book, share) = blank.open();
         Steps { book, share }
+    }
+
+    /// Adds so many.
+    pub fn add(&mut self, count: u32)
+        ensures { self.new ≡ self.old + count }
+    {
+        self.book.add(&mut self.share, u64::from(count));
     }
 
     /// Adds one.

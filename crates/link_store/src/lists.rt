@@ -1,7 +1,7 @@
 ghost use Rattle.std.specs.Prelude.{◌≡◌, ◌≢◌, ℕ, ◌<◌, ◌+◌, ◌∷◌, ◌++◌, [], length, None, IfOk, OnErr, IfErr, OnOk, IfSome, IfNone, OnSome, slice_get, Contains};
-ghost use Rattle.link_store.specs.Lists.{entries_of, first_node, node_after, HasEntry, IsLive, live_nodes, with_entry, without_node, HasNodesOnce};
+ghost use Rattle.link_store.specs.Lists.{entries_of, first_node, node_after, HasEntry, IsLive, live_nodes, with_entry, without_node, with_item_at, HasNodesOnce};
 
-use crate::nodes::{Ends, Node, set_next, set_previous};
+use crate::nodes::{Ends, Node, replace_item, set_next, set_previous};
 use cell_value::NoMemory;
 use slab::Slab;
 use std::alloc::Global;
@@ -89,6 +89,17 @@ impl<T> Links<T> {
         &self.nodes[node as usize].item
     }
 
+    /// Puts the item in place of the node's, and gives that one. It takes no memory.
+    pub fn replace(&mut self, node: u32, item: T) -> T
+        requires { IsLive self.old node }
+        ensures old { (old : T) → HasEntry self.old node old → result ≡ old }
+        ensures replaced { self.new ≡ with_item_at self.old node item }
+        ensures count { live_nodes self.new ≡ live_nodes self.old }
+        ensures once { HasNodesOnce self.old }
+    {
+        replace_item(&mut self.nodes, node, item)
+    }
+
     /// Adds the item at the end of the list, and gives its node, which was not live before.
     ///
     /// # Errors
@@ -133,6 +144,7 @@ impl<T> Links<T> {
         ensures item { (item : T) → HasEntry self.old node item → result ≡ item }
         ensures taken { self.new ≡ without_node self.old node }
         ensures count { live_nodes self.new + 1 ≡ live_nodes self.old }
+        ensures once { HasNodesOnce self.old }
     {
         let taken = self.nodes.remove(node as usize);
         set_next(&mut self.nodes, taken.previous, taken.next);
@@ -150,6 +162,7 @@ impl<T> Links<T> {
         ensures taken { IfSome result (λ entry. self.new ≡ without_node self.old entry.0) }
         ensures count { OnSome result (live_nodes self.new + 1 ≡ live_nodes self.old) }
         ensures unchanged { IfNone result (self.new ≡ self.old) }
+        ensures once { HasNodesOnce self.old }
     {
         match self.first(list) {
             Some(node) => Some((node, self.unlink(node))),

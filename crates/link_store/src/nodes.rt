@@ -1,7 +1,7 @@
-ghost use Rattle.std.specs.Prelude.{◌≡◌, ◌≢◌, ◌<◌, ◌+◌, ◌-◌, ℕ, Some, None};
+ghost use Rattle.std.specs.Prelude.{◌≡◌, ◌≢◌, ◌<◌, ◌+◌, ◌-◌, ℕ, Some, None, IsSome};
 ghost use Rattle.std.specs.Option.{option_map, option_or};
 ghost use Rattle.slab.specs.Slab.{get};
-ghost use Rattle.link_store.specs.Nodes.{pass, with_next, with_previous};
+ghost use Rattle.link_store.specs.Nodes.{pass, with_next, with_previous, with_item};
 
 use slab::Slab;
 
@@ -44,6 +44,16 @@ pub(crate) fn set_previous<T>(nodes: &mut Slab<Node<T>>, at: Option<u32>, previo
             node.previous = previous;
         }
     }
+}
+
+/// Puts the item in place of the node's, and gives that one.
+pub(crate) fn replace_item<T>(nodes: &mut Slab<Node<T>>, at: u32, item: T) -> T
+    requires { IsSome (get nodes.old at) }
+    ensures old { option_map (λ node. node.item) (get nodes.old at) ≡ Some result }
+    ensures changed { get nodes.new at ≡ option_map (with_item item) (get nodes.old at) }
+    ensures others { (k : ℕ) → at ≢ k → get nodes.new k ≡ get nodes.old k }
+{
+    std::mem::replace(&mut nodes[at as usize].item, item)
 }
 
 /// The link, or the other one in place of one that names the node.

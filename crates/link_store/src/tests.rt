@@ -1,6 +1,9 @@
 ghost use Rattle.std.specs.Prelude.{◌≡◌, ◌<◌, ◌≤◌, ◌+◌, length, IfSome};
 ghost use Rattle.link_store.specs.Lists.{IsLive, live_nodes};
 
+mod counted;
+mod sheets;
+
 use super::*;
 use cell_value::NoMemory;
 use std::alloc::Global;

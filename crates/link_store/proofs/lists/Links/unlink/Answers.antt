@@ -2,7 +2,7 @@ use Rattle.std.proofs.Common.{◌+◌, ap, ◌∙◌, arith}
 use Rattle.std.specs.Option.{is_some}
 use Rattle.slab.specs.Slab.{get}
 use Rattle.link_store.specs.Lists.{live_nodes}
-use Rattle.link_store.proofs.Reading.{live_node, read_item, list_within, count_positive, count_less, takes_out, taken_out}
+use Rattle.link_store.proofs.Reading.{live_node, read_item, list_within, count_positive, count_less, nodes_once, takes_out, taken_out}
 use Rattle.link_store.proofs.lists.Links.unlink.Goals as goal
 
 pub remove-taken-requires : goal.remove-taken-requires
@@ -60,3 +60,6 @@ returns-clause-count g c =
     (takes_out c.self.inside.nodes c.remove-taken.new.self c.set_next.new.nodes c.set_previous.new.nodes c.args.node c.remove-taken.result c.remove-taken.ensures.value c.remove-taken.ensures.updates
     c.set_next.ensures.changed c.set_next.ensures.others c.set_previous.ensures.changed c.set_previous.ensures.others)).view
     ∙ count_less (get c.self.inside.nodes) c.self.inside.ends.items c.args.self.now c.self.view_is c.self.invariant c.args.node c.requires
+
+pub returns-clause-once : goal.returns-clause-once
+returns-clause-once g c = nodes_once (get c.self.inside.nodes) c.self.inside.ends.items c.args.self.now c.self.view_is c.self.invariant

@@ -1,0 +1,158 @@
+-- Lines after a change, where two parts of their lists changed places.
+use Rattle.std.proofs.Common.{◌≡◌, ◌⊎◌, inl, inr, ℕ, ◌+◌, ◌-◌, ◌<◌, ◌≤◌, [], length, refl, sym, ap, subst, ◌∙◌, arith, nat_lt, cond}
+use Rattle.std.specs.Prelude.{Some, None, slice_index}
+use Rattle.std.specs.Option.{option_map}
+use Rattle.std.specs.List.{range_with_len}
+use Rattle.std.specs.List.Sorted.{IsPermutation}
+use Rattle.std.proofs.lemmas.Bool.Decides.{nat_tests}
+use Rattle.std.proofs.lemmas.List.Sorted.{IsPermutation-trans}
+use Rattle.grid_range.specs.declared.axis.Axis.TheVariants.{Rows}
+use Rattle.grid_range.specs.declared.change.Change.{Change}
+use Rattle.grid_range.specs.declared.change.Change.TheVariants.{Delete, Move}
+use Rattle.grid_range.specs.Change.{Fits, count_after}
+use Rattle.grid_range.specs.Tracking.{place_of, closed_up, span_moved}
+use Rattle.cell_store.proofs.Injective.{place_apart, place_within}
+use Rattle.link_store.specs.declared.lines.Lines.{Lines}
+use Rattle.link_store.proofs.Turns.{source_last, source_within}
+use Rattle.link_store.specs.Lists.{entries_of}
+use Rattle.link_store.specs.Lines.{AreLines, AreMoved, line_entries, list_of, source}
+
+-- what stands at each place after the change, by the parts that changed places
+pub record Turns (change : Change) (count all start middle end : ℕ) (Gone : ℕ → Type 0) : Type 0 where
+  pub fits : count_after change count ≤ all
+  pub coming : (place : ℕ) → place < count_after change count
+      → ((source start middle end place < count) × (place_of change (source start middle end place) ≡ Some place))
+      ⊎ ((count ≤ source start middle end place) × (source start middle end place < all))
+  pub going : (line place : ℕ) → line < count → place_of change line ≡ Some place
+      → (place < all) × (source start middle end place ≡ line)
+  pub spare : (index : ℕ) → count_after change count ≤ index → index < all
+      → (source start middle end index < all) × ((count ≤ source start middle end index) ⊎ Gone (source start middle end index))
+
+-- two lines don't go to one place
+apart : (change : Change) (count line other place : ℕ) → Fits change count → place_of change line ≡ Some place → place_of change other ≡ Some place → line ≡ other
+apart change count line other place fits one two =
+    ap (λ p. p.0) (place_apart Rows change count 0 (line, 0) (other, 0) (place, 0) fits
+    (ap (option_map (λ l. (l, 0))) one) (ap (option_map (λ l. (l, 0))) two))
+
+within : (change : Change) (count line place : ℕ) → Fits change count → line < count → place_of change line ≡ Some place → place < count_after change count
+within change count line place fits there goes =
+    (place_within Rows change count 1 (line, 0) (place, 0) fits (there, omega arith) (ap (option_map (λ l. (l, 0))) goes)).0
+
+chosen : (a b p : ℕ) → a < b → a ≡ p → option_map (λ (s : ℕ × ℕ). s.0) (cond (nat_lt a b) (Some (a, b)) None) ≡ Some p
+chosen a b p less is = grind (arith, nat_tests)
+
+deleted_place : (start end count p : ℕ) → start < end → end ≤ count → p < count - (end - start)
+    → place_of (Delete start end) (source start end count p) ≡ Some p
+deleted_place start end count p some order there =
+    chosen (closed_up start end (source start end count p)) (closed_up start end (source start end count p + 1)) p
+    (grind (arith, nat_tests)) (grind (arith, nat_tests))
+
+moved_back : (start end to p : ℕ) → start < end → to < start → (span_moved (source to start end p) (source to start end p + 1) start end to).0 ≡ p
+moved_back start end to p some order = grind (arith, nat_tests)
+
+moved_on : (start end to p : ℕ) → start < end → end < to → (span_moved (source start end to p) (source start end to p + 1) start end to).0 ≡ p
+moved_on start end to p some order = grind (arith, nat_tests)
+
+not_moved : (start end to p : ℕ) → start < end → start ≤ to → to ≤ end → (span_moved p (p + 1) start end to).0 ≡ p
+not_moved start end to p some one two = grind (arith, nat_tests)
+
+-- no line
+abbrev pub Nothing : ℕ → Type 0
+Nothing line = ⊥
+
+pub turns_delete : (start end count all : ℕ) → Fits (Delete start end) count → count ≤ all
+    → Turns (Delete start end) count all start end count (λ line. (start ≤ line) × (line < end))
+turns_delete start end count all fits room = record {
+  fits = omega arith;
+  coming = λ p there. inl (grind (arith, nat_tests), deleted_place start end count p fits.0 fits.1 there);
+  going = λ line p there goes.
+      let less = within (Delete start end) count line p fits there goes in (
+        omega arith,
+        apart (Delete start end) count (source start end count p) line p fits (deleted_place start end count p fits.0 fits.1 less) goes,
+      );
+  spare = λ i past inside. grind (arith, nat_tests);
+}
+
+pub turns_back : (start end to count all : ℕ) → Fits (Move start end to) count → to < start → count ≤ all
+    → Turns (Move start end to) count all to start end Nothing
+turns_back start end to count all fits order room =
+    let back : (p : ℕ) → place_of (Move start end to) (source to start end p) ≡ Some p = λ p. ap Some (moved_back start end to p fits.0 order) in
+    record {
+      fits = room;
+      coming = λ p there. inl (source_within to start end p count (omega arith) (omega arith) fits.1 there, back p);
+      going = λ line p there goes.
+          let less = within (Move start end to) count line p fits there goes in
+          (omega arith, apart (Move start end to) count (source to start end p) line p fits (back p) goes);
+      spare = λ i past inside.
+          let same = source_last to start end i (omega arith) (omega arith) (omega arith) in
+          (omega arith, inl (omega arith));
+    }
+
+pub turns_on : (start end to count all : ℕ) → Fits (Move start end to) count → end < to → count ≤ all
+    → Turns (Move start end to) count all start end to Nothing
+turns_on start end to count all fits order room =
+    let back : (p : ℕ) → place_of (Move start end to) (source start end to p) ≡ Some p = λ p. ap Some (moved_on start end to p fits.0 order) in
+    record {
+      fits = room;
+      coming = λ p there. inl (source_within start end to p count (omega arith) (omega arith) fits.2 there, back p);
+      going = λ line p there goes.
+          let less = within (Move start end to) count line p fits there goes in
+          (omega arith, apart (Move start end to) count (source start end to p) line p fits (back p) goes);
+      spare = λ i past inside.
+          let same = source_last start end to i (omega arith) (omega arith) (omega arith) in
+          (omega arith, inl (omega arith));
+    }
+
+module _ {E : Type 0} where
+  -- a move that moves nothing
+  pub moved_nothing : (lines : Lines E) (start end to : ℕ) → Fits (Move start end to) lines.count → start ≤ to → to ≤ end → AreMoved (Move start end to) lines lines
+  moved_nothing lines start end to fits one two =
+      let back : (p : ℕ) → place_of (Move start end to) p ≡ Some p = λ p. ap Some (not_moved start end to p fits.0 one two) in
+      record {
+        count = refl;
+        going = λ line p there goes. ap (list_of lines) (apart (Move start end to) lines.count p line p fits (back p) goes);
+        coming = λ p there. inl (record { line = p; there = there; goes = back p; list_is = refl });
+      }
+
+  -- the lists of two parts changed places, and those of the second are of no line from now on
+  pub record IsTurned (before after : Lines E) (start middle end : ℕ) : Type 0 where
+    pub links : after.links ≡ before.links
+    pub long : length after.lists.items ≡ length before.lists.items
+    pub numbers : IsPermutation before.lists.items after.lists.items
+    pub order : (index : ℕ) → index < length before.lists.items
+        → slice_index after.lists.items index ≡ slice_index before.lists.items (source start middle end index)
+
+  module _ (change : Change) (before after : Lines E) (start middle end : ℕ) (Gone : ℕ → Type 0) (are : AreLines before)
+      (turns : Turns change before.count (length before.lists.items) start middle end Gone) (is : IsTurned before after start middle end)
+      (count : after.count ≡ count_after change before.count) where
+    pub lines_turned : ((line : ℕ) → Gone line → line_entries before line ≡ []) → AreLines after
+    lines_turned empty = record {
+      count = omega (arith, turns.fits, count, is.long);
+      most = omega (arith, are.most, is.long);
+      each_list = subst (λ n. IsPermutation (range_with_len 0 n) after.lists.items) (sym (ap length is.links))
+          (IsPermutation-trans (range_with_len 0 (length before.links)) before.lists.items after.lists.items are.each_list is.numbers);
+      spare = λ index past inside.
+          let old : index < length before.lists.items = omega (arith, is.long) in
+          let stood = turns.spare index (omega (arith, count)) old in
+          ap (λ all. entries_of all (list_of after index)) is.links ∙ ap (entries_of before.links) (is.order index old)
+          ∙ elim stood.1 [
+            | inl spare ↦ are.spare (source start middle end index) spare stood.0
+            | inr gone ↦ empty (source start middle end index) gone
+          ];
+    }
+
+    pub moved_turned : AreMoved change before after
+    moved_turned = record {
+      count = count;
+      going = λ line place there goes.
+          let stood = turns.going line place there goes in
+          is.order place stood.0 ∙ ap (list_of before) stood.1;
+      coming = λ place there.
+          let inside : place < count_after change before.count = omega (arith, count) in
+          let at = is.order place (omega (arith, turns.fits)) in
+          elim (turns.coming place inside) [
+            | inl stayed ↦ inl (record { line = source start middle end place; there = stayed.0; goes = stayed.1; list_is = at })
+            | inr spare ↦ inr (ap (λ all. entries_of all (list_of after place)) is.links ∙ ap (entries_of before.links) at
+                ∙ are.spare (source start middle end place) spare.0 spare.1)
+          ];
+    }

@@ -1,0 +1,7 @@
+use Rattle.std.proofs.Common.{◌∙◌, ap}
+use Rattle.cell_store.specs.Table.{filled_places}
+use Rattle.link_store.proofs.Views.{filled-table}
+use Rattle.link_store.proofs.grid.LinkGridGrid.filled.Goals as goal
+
+pub returns : goal.returns
+returns g c = c.from.ensures ∙ filled-table c.self.inside.cells c.self.invariant ∙ ap filled_places c.self.view_is
