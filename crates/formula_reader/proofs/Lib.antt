@@ -1,0 +1,13 @@
+pub mod Deepest
+pub mod Cutting
+pub mod Levels
+pub mod Chains
+pub mod Answers
+pub mod Signs
+pub mod Primaries
+pub mod Operands
+pub mod Lists
+pub mod Trees
+pub mod Whole
+pub mod FormulaSymbols
+pub mod Unique

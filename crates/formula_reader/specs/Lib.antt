@@ -1,0 +1,12 @@
+pub mod Sheets
+pub mod ReferenceText
+pub mod Printed
+pub mod Limits
+pub mod Pieces
+pub mod Cuts
+pub mod Workbook
+pub mod Tree
+pub mod Grammar
+pub mod Symbols
+pub mod Only
+pub mod Front

@@ -1,0 +1,24 @@
+//! Formula texts: a formula is read into its pieces and printed from them, and its pieces have a tree.
+#![tactic(auto)]
+
+mod fault;
+mod grammar;
+mod limits;
+mod names;
+mod pieces;
+mod printing;
+mod reading;
+mod reference_text;
+mod symbols;
+mod tree;
+
+pub use fault::FormulaFault;
+pub use formula_tokens::Operator;
+pub use grammar::tree_of;
+pub use names::SheetNames;
+pub use printing::print_formula;
+pub use reading::read_formula;
+pub use tree::Tree;
+
+#[cfg(test)]
+mod tests;

@@ -1,0 +1,14 @@
+pub mod Answers
+pub mod Runs
+pub mod Marks
+pub mod Corners
+pub mod References
+pub mod Numbers
+pub mod Firsts
+pub mod Quotes
+pub mod Starts
+pub mod Titles
+pub mod FirstBytes
+pub mod Places
+pub mod Scans
+pub mod Sound

@@ -1,0 +1,140 @@
+-- Where the closing quote stands, and what is read up to it.
+use Rattle.std.proofs.Common.{◌≡◌, ℕ, suc, ◌<◌, List, [], ◌∷◌, ◌++◌, length, get_or, refl, sym, ap, ◌∙◌, arith, inl, inr, append_assoc, append-nil}
+use Rattle.std.specs.Prelude.{◌≢◌, Some, None}
+use Rattle.std.specs.List.{flat_map}
+use Rattle.std.proofs.lemmas.Bool.{ne_eqb, eq-eqb, cases_eq}
+use Rattle.std.proofs.lemmas.Grind.{flat_map-append}
+use Rattle.formula_tokens.specs.Quoted.{doubled, IsUpToQuote}
+use Rattle.formula_tokens.specs.Reading.{Stands, Reads}
+
+module _ (q : ℕ) where
+  doubled_yes : (x : ℕ) → x ≡ q → doubled q x ≡ q ∷ q ∷ []
+  doubled_yes x e = rw (eq-eqb x q e) refl
+
+  doubled_no : (x : ℕ) → x ≢ q → doubled q x ≡ x ∷ []
+  doubled_no x ne = rw (ne_eqb x q ne) refl
+
+  -- nothing, or a quote that isn't doubled
+  abbrev pub Ends : List ℕ → Type 0
+  Ends [] = Unit {0}
+  Ends (c ∷ rest) = (c ≡ q) × (get_or rest 0 0 ≢ q)
+
+  no_end_inside : (y : ℕ) (ys r s : List ℕ) → Ends r → r ≡ flat_map (doubled q) (y ∷ ys) ++ s → ⊥
+  no_end_inside y ys r s ends e =
+      elim (cases_eq y q) [
+        | inl quote ↦ at_quote r ends (rw (doubled_yes y quote) at e)
+        | inr other ↦ at_other other r ends (rw (doubled_no y other) at e)
+      ]
+    where
+      at_quote : (r : List ℕ) → Ends r → r ≡ q ∷ q ∷ (flat_map (doubled q) ys ++ s) → ⊥
+      at_quote [] ends e = cc
+      at_quote (c ∷ rest) ends e =
+          let same : rest ≡ q ∷ (flat_map (doubled q) ys ++ s) = cc in
+          ends.1 (rw same refl)
+
+      at_other : y ≢ q → (r : List ℕ) → Ends r → r ≡ y ∷ (flat_map (doubled q) ys ++ s) → ⊥
+      at_other other [] ends e = cc
+      at_other other (c ∷ rest) ends e =
+          let same : c ≡ y = cc in
+          other (sym same ∙ ends.0)
+
+  -- a text has one content up to a quote that isn't doubled
+  one_content : (xs ys r s : List ℕ) → Ends r → Ends s
+      → flat_map (doubled q) xs ++ r ≡ flat_map (doubled q) ys ++ s → (xs ≡ ys) × (r ≡ s)
+  one_content [] [] r s ends ends' e = (refl, e)
+  one_content [] (y ∷ ys) r s ends ends' e = absurd (no_end_inside y ys r s ends e)
+  one_content (x ∷ xs) [] r s ends ends' e = absurd (no_end_inside x xs s r ends' (sym e))
+  one_content (x ∷ xs) (y ∷ ys) r s ends ends' e =
+      elim (cases_eq x q) [
+        | inl quote ↦ elim (cases_eq y q) [
+          | inl quote' ↦
+              let pairs : q ∷ q ∷ (flat_map (doubled q) xs ++ r) ≡ q ∷ q ∷ (flat_map (doubled q) ys ++ s) = rw (doubled_yes x quote, doubled_yes y quote') at e in
+              let tail : flat_map (doubled q) xs ++ r ≡ flat_map (doubled q) ys ++ s = cc in
+              let rest = one_content xs ys r s ends ends' tail in
+              (rw (quote, quote', rest.0) refl, rest.1)
+          | inr other' ↦
+              let heads : q ∷ q ∷ (flat_map (doubled q) xs ++ r) ≡ y ∷ (flat_map (doubled q) ys ++ s) = rw (doubled_yes x quote, doubled_no y other') at e in
+              let same : y ≡ q = cc in
+              absurd (other' same)
+        ]
+        | inr other ↦ elim (cases_eq y q) [
+          | inl quote' ↦
+              let heads : x ∷ (flat_map (doubled q) xs ++ r) ≡ q ∷ q ∷ (flat_map (doubled q) ys ++ s) = rw (doubled_no x other, doubled_yes y quote') at e in
+              let same : x ≡ q = cc in
+              absurd (other same)
+          | inr other' ↦
+              let heads : x ∷ (flat_map (doubled q) xs ++ r) ≡ y ∷ (flat_map (doubled q) ys ++ s) = rw (doubled_no x other, doubled_no y other') at e in
+              let head : x ≡ y = cc in
+              let tail : flat_map (doubled q) xs ++ r ≡ flat_map (doubled q) ys ++ s = cc in
+              let rest = one_content xs ys r s ends ends' tail in
+              (rw (head, rest.0) refl, rest.1)
+        ]
+      ]
+
+  -- bytes other than the quote stand between quotes as they are
+  doubled-none : (xs : List ℕ) → ((i : ℕ) → i < length xs → get_or xs i 0 ≢ q) → flat_map (doubled q) xs ≡ xs
+  doubled-none [] none = refl
+  doubled-none (x ∷ xs) none =
+      let plain : doubled q x ≡ x ∷ [] = doubled_no x (none 0 (omega arith)) in
+      let rest = doubled-none xs (λ i h. none (suc i) (omega (arith, h))) in
+      rw (plain, rest) refl
+
+  doubled_plain : (content plain : List ℕ) → ((i : ℕ) → i < length plain → get_or plain i 0 ≢ q)
+      → flat_map (doubled q) (content ++ plain) ≡ flat_map (doubled q) content ++ plain
+  doubled_plain content plain none = rw (flat_map-append (doubled q) content plain, doubled-none plain none) refl
+
+  -- what stands up to a closing quote
+  up_to_quote : (inside content rest : List ℕ) → Stands (IsUpToQuote q) inside content rest
+      → inside ≡ flat_map (doubled q) content ++ (q ∷ rest)
+  up_to_quote inside content rest stands =
+      stands.spelled ∙ ap (λ t. t ++ rest) stands.is.spelled
+      ∙ append_assoc (flat_map (doubled q) content) (q ∷ []) rest
+
+  not_first : (behind : List ℕ) → ((more : List ℕ) → behind ≢ q ∷ more) → 0 < q → get_or behind 0 0 ≢ q
+  not_first [] last some e = absurd (omega arith)
+  not_first (c ∷ cs) last some e = last cs (rw e refl)
+
+  -- a quote that isn't doubled closes the content
+  pub closed_here : (inside content content' rest plain behind : List ℕ) → 0 < q → content' ≡ content ++ plain
+      → rest ≡ plain ++ (q ∷ behind) → ((i : ℕ) → i < length plain → get_or plain i 0 ≢ q)
+      → flat_map (doubled q) content ++ rest ≡ inside → ((more : List ℕ) → behind ≢ q ∷ more)
+      → Reads (IsUpToQuote q) inside (Some (content', behind))
+  closed_here inside content content' rest plain behind some e split none so_far last =
+      let closed = not_first behind last some in
+      let here : inside ≡ flat_map (doubled q) content' ++ (q ∷ behind) =
+      sym so_far ∙ rw (e, split, doubled_plain content plain none) (sym (append_assoc (flat_map (doubled q) content) plain (q ∷ behind))) in
+      record {
+        found = record {
+          lexeme = flat_map (doubled q) content' ++ (q ∷ []);
+          spelled = here ∙ sym (append_assoc (flat_map (doubled q) content') (q ∷ []) behind);
+          is = record { spelled = refl; closed = closed };
+        };
+        only = λ other rest' stands.
+            let same = one_content content' other (q ∷ behind) (q ∷ rest') (refl, closed) (refl, stands.is.closed) (sym here ∙ up_to_quote inside other rest' stands) in
+            let tail : q ∷ behind ≡ q ∷ rest' = same.1 in
+            let behind_is : behind ≡ rest' = cc in
+            rw (same.0, behind_is) refl;
+      }
+
+  -- a doubled one is taken as one
+  pub doubled_read : (inside content content' content'' rest plain behind more : List ℕ) → content' ≡ content ++ plain
+      → content'' ≡ content' ++ (q ∷ []) → rest ≡ plain ++ (q ∷ behind)
+      → ((i : ℕ) → i < length plain → get_or plain i 0 ≢ q) → behind ≡ q ∷ more
+      → flat_map (doubled q) content ++ rest ≡ inside → flat_map (doubled q) content'' ++ more ≡ inside
+  doubled_read inside content content' content'' rest plain behind more e f split none again so_far =
+      let so_far' : flat_map (doubled q) content ++ (plain ++ (q ∷ q ∷ more)) ≡ inside = rw (split, again) at so_far in
+      let pair : flat_map (doubled q) (q ∷ []) ≡ q ∷ q ∷ [] = rw (doubled_yes q refl) refl in
+      rw (f, flat_map-append (doubled q) content' (q ∷ []), pair, e, doubled_plain content plain none)
+      (rw (append_assoc (flat_map (doubled q) content ++ plain) (q ∷ q ∷ []) more, append_assoc (flat_map (doubled q) content) plain (q ∷ q ∷ more)) so_far')
+
+  -- without a further quote nothing is closed
+  pub unclosed : (inside content rest : List ℕ) → ((i : ℕ) → i < length rest → get_or rest i 0 ≢ q)
+      → flat_map (doubled q) content ++ rest ≡ inside → Reads (IsUpToQuote q) inside None
+  unclosed inside content rest none so_far = record {
+    found = tt;
+    only = λ other behind stands.
+        let all : flat_map (doubled q) (content ++ rest) ++ [] ≡ inside = append-nil (flat_map (doubled q) (content ++ rest)) ∙ (doubled_plain content rest none ∙ so_far) in
+        let same = one_content (content ++ rest) other [] (q ∷ behind) tt (refl, stands.is.closed) (all ∙ up_to_quote inside other behind stands) in
+        let clash : [] ≡ q ∷ behind = same.1 in
+        absurd cc;
+  }

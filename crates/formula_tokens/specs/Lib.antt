@@ -1,0 +1,11 @@
+pub mod Run
+pub mod Corner
+pub mod Reference
+pub mod Word
+pub mod Quoted
+pub mod Form
+pub mod Tokens
+pub mod Parts
+pub mod Reading
+pub mod Class
+pub mod Boundaries

@@ -1,0 +1,96 @@
+ghost use Rattle.std.specs.Prelude.{◌≡◌, IfSome, IfNone};
+ghost use Rattle.a1_notation.specs.Area.{lines_between};
+ghost use Rattle.a1_notation.specs.Capped.{HasNext};
+ghost use Rattle.formula_tokens.specs.declared.token.Written.{Written};
+ghost use Rattle.formula_tokens.specs.Corner.{AreCornersOf, IsCellOf, area_between, marks_in_order, marks_of};
+ghost use Rattle.formula_tokens.specs.Parts.{HasRoom};
+
+use crate::corner::{Coordinate, Corner};
+use crate::token::Written;
+use grid_range::Band;
+use ref_rewrite::Marks;
+
+/// What two corners name; None where they don't go together.
+pub(crate) fn written_between(one: Corner, other: Corner) -> Option<Written>
+    requires one { HasRoom one }
+    requires other { HasRoom other }
+    ensures found { IfSome result (AreCornersOf one other) }
+    ensures none { IfNone result ((written : Written) → ¬ (AreCornersOf one other written)) }
+{
+    let (rows, cols) = area_between(one, other)?;
+    let marks = marks_of(
+        marks_in_order(one.row(), other.row()),
+        marks_in_order(one.column(), other.column()),
+    );
+    Some(Written { rows, cols, marks })
+}
+
+/// What a cell alone names.
+pub(crate) fn written_cell(row: Coordinate, column: Coordinate) -> Written
+    requires row { HasNext row.line }
+    requires column { HasNext column.line }
+    ensures { IsCellOf row column result }
+{
+    Written {
+        rows: lines_between(row, row),
+        cols: lines_between(column, column),
+        marks: marks_of((row.marked, false), (column.marked, false)),
+    }
+}
+
+/// The rows and the columns between two corners, where the corners go together.
+fn area_between(one: Corner, other: Corner) -> Option<(Band, Band)>
+    requires one { HasRoom one }
+    requires other { HasRoom other }
+    ensures { result ≡ area_between one other }
+{
+    match (one, other) {
+        (Corner::Cell(row, column), Corner::Cell(last_row, last_column)) => Some((
+            lines_between(row, last_row),
+            lines_between(column, last_column),
+        )),
+        (Corner::Cell(row, column), Corner::Column(last)) => {
+            Some((Band::From(row.line), lines_between(column, last)))
+        }
+        (Corner::Column(column), Corner::Column(last)) => {
+            Some((Band::Whole, lines_between(column, last)))
+        }
+        (Corner::Row(row), Corner::Row(last)) => Some((lines_between(row, last), Band::Whole)),
+        _ => None,
+    }
+}
+
+/// The lines from one to another, in either order.
+fn lines_between(one: Coordinate, other: Coordinate) -> Band
+    requires one { HasNext one.line }
+    requires other { HasNext other.line }
+    ensures { result ≡ lines_between one.line other.line }
+{
+    Band::Span(one.line.min(other.line), one.line.max(other.line) + 1)
+}
+
+/// The marks of the first and of the second of two coordinates: the lesser is the first, and of equal
+/// ones the one that is written first. One that isn't written has no mark.
+fn marks_in_order(one: Option<Coordinate>, other: Option<Coordinate>) -> (bool, bool)
+    ensures { result ≡ marks_in_order one other }
+{
+    match (one, other) {
+        (Some(one), Some(other)) if other.line < one.line => (other.marked, one.marked),
+        (Some(one), Some(other)) => (one.marked, other.marked),
+        (Some(one), None) => (one.marked, false),
+        (None, Some(other)) => (false, other.marked),
+        (None, None) => (false, false),
+    }
+}
+
+/// The marks of the rows and of the columns.
+fn marks_of(rows: (bool, bool), columns: (bool, bool)) -> Marks
+    ensures { result ≡ marks_of rows columns }
+{
+    Marks {
+        row1: rows.0,
+        col1: columns.0,
+        row2: rows.1,
+        col2: columns.1,
+    }
+}
