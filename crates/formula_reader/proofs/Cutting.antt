@@ -1,5 +1,5 @@
 -- Cutting a formula text into its pieces.
-use Rattle.std.proofs.Common.{◌≡◌, ℕ, suc, ◌+◌, ◌≤◌, List, [], ◌∷◌, ◌++◌, drop, Option, Some, None, refl, sym, ap, ◌∙◌, arith, subst}
+use Rattle.std.proofs.Common.{◌≡◌, ℕ, suc, ◌+◌, ◌≤◌, List, [], ◌∷◌, drop, Option, None, refl, sym, ap, ◌∙◌, arith, subst}
 use Rattle.std.specs.Prelude.{All}
 use Rattle.std.specs.Str.{IsCharBoundary}
 use Rattle.std.proofs.lemmas.List.Elements.{All-head, All-tail}
@@ -9,7 +9,7 @@ use Rattle.ref_rewrite.specs.declared.pieces.Piece.{Piece}
 use Rattle.formula_tokens.specs.declared.token.Placed.{Placed}
 use Rattle.formula_reader.specs.Sheets.{Sheets}
 use Rattle.formula_reader.specs.Pieces.{piece_of, pieces_from}
-use Rattle.formula_reader.specs.Cuts.{IsCut, Cuts}
+use Rattle.formula_reader.specs.Cuts.{Cuts}
 
 pub cuts_earlier : (text : List ℕ) (from later : ℕ) (tokens : List Placed) → from ≤ later → Cuts text later tokens → Cuts text from tokens
 cuts_earlier text from later [] less cuts = tt
@@ -39,16 +39,17 @@ pub cuts_of : (rest : List ℕ) (from before : ℕ) (tokens : List Placed) → b
     → All (HasBoundaries rest) tokens → All (λ placed. HasCells placed.token) tokens → Cuts (61 ∷ rest) before tokens
 cuts_of rest from before [] less are all cells = tt
 cuts_of rest from before (placed ∷ later) less are all cells =
-    let own = All-head (HasBoundaries rest) placed later all in
-    (record {
-      after = omega (arith, less, are.0.before);
-      ordered = are.0.ordered;
-      front = boundary_behind rest placed.start own.front;
-      back = boundary_behind rest placed.end own.back;
-      cells = All-head (λ p. HasCells p.token) placed later cells;
-    },
-    cuts_of rest placed.end (placed.end + 1) later (omega arith) are.1 (All-tail (HasBoundaries rest) placed later all)
-    (All-tail (λ p. HasCells p.token) placed later cells))
+    let own = All-head (HasBoundaries rest) placed later all in (
+      record {
+        after = omega (arith, less, are.0.before);
+        ordered = are.0.ordered;
+        front = boundary_behind rest placed.start own.front;
+        back = boundary_behind rest placed.end own.back;
+        cells = All-head (λ p. HasCells p.token) placed later cells;
+      },
+      cuts_of rest placed.end (placed.end + 1) later (omega arith) are.1 (All-tail (HasBoundaries rest) placed later all)
+          (All-tail (λ p. HasCells p.token) placed later cells),
+    )
 
 -- the other = of a text that begins with one
 pub behind_first : (text rest other : List ℕ) → text ≡ 61 ∷ rest → text ≡ 61 ∷ other → rest ≡ other

@@ -1,5 +1,5 @@
 -- The text of a formula (the `formulaValue` of the Google Sheets API v4).
-use Rattle.std.specs.Prelude.{ℕ, ⊤, Bool, true, false, List, [], ◌∷◌, ◌++◌, Option, Some, None, if◌then◌else◌}
+use Rattle.std.specs.Prelude.{ℕ, ⊤, List, [], ◌∷◌, ◌++◌, Option, Some, None, if◌then◌else◌}
 use Rattle.std.specs.List.{All, flat_map}
 use Rattle.ref_rewrite.specs.declared.reference.Ref.{Ref}
 use Rattle.ref_rewrite.specs.declared.pieces.Piece.{Piece}

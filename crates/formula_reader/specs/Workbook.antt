@@ -1,5 +1,5 @@
 -- A spreadsheet of two sheets of 1,000 rows and 26 columns, with the ids 0 and 7, for tests.
-use Rattle.std.specs.Prelude.{ℕ, List, Option, Some, None, ◌==◌, ◌||◌, if◌then◌else◌}
+use Rattle.std.specs.Prelude.{ℕ, List, Some, None, ◌==◌, ◌||◌, if◌then◌else◌}
 use Rattle.std.specs.Str.{str_eq_ignore_ascii_case}
 use Rattle.formula_reader.specs.Sheets.{Sheets}
 

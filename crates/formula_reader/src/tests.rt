@@ -4,10 +4,10 @@ mod workbook;
 use super::*;
 use cell_value::{NoMemory, Text};
 use grid_range::{Axis, Change};
+use printable::{are_printable, are_within};
 use ref_rewrite::{Formula, Piece, follow};
 use std::alloc::Global;
 use std::test::Fail;
-use printable::{are_printable, are_within};
 use workbook::Workbook;
 
 /// Formula texts of the sheet with the id 0, their pieces (a text as it is, a word in braces, a
@@ -56,7 +56,11 @@ const FORMULAS: [(&str, &str, &str); 46] = [
     ("=A1'Sheet1'!B2", "=[][]", "=A1Sheet1!B2"),
     ("=2^A1", "=2^A1", "=2^A1"),
     ("=A1:A5:B2", "=A1:A5:B2", "=A1:A5:B2"),
-    ("=9007199254740993+A1", "=9007199254740993+A1", "=9007199254740993+A1"),
+    (
+        "=9007199254740993+A1",
+        "=9007199254740993+A1",
+        "=9007199254740993+A1",
+    ),
     ("A1", "A1", "A1"),
     ("", "", ""),
 ];
@@ -68,10 +72,38 @@ const FOLLOWED: [(Change, &str); 9] = [
     (Change::Insert { at: 5, count: 1 }, "=SUM(A1:A5)"),
     (Change::Delete { start: 0, end: 2 }, "=SUM(A1:A3)"),
     (Change::Delete { start: 0, end: 5 }, "=SUM(#REF!)"),
-    (Change::Move { start: 0, end: 1, to: 10 }, "=SUM(A1:A4)"),
-    (Change::Move { start: 2, end: 3, to: 0 }, "=SUM(A1:A5)"),
-    (Change::Move { start: 7, end: 8, to: 2 }, "=SUM(A1:A6)"),
-    (Change::Move { start: 0, end: 5, to: 12 }, "=SUM(A8:A12)"),
+    (
+        Change::Move {
+            start: 0,
+            end: 1,
+            to: 10,
+        },
+        "=SUM(A1:A4)",
+    ),
+    (
+        Change::Move {
+            start: 2,
+            end: 3,
+            to: 0,
+        },
+        "=SUM(A1:A5)",
+    ),
+    (
+        Change::Move {
+            start: 7,
+            end: 8,
+            to: 2,
+        },
+        "=SUM(A1:A6)",
+    ),
+    (
+        Change::Move {
+            start: 0,
+            end: 5,
+            to: 12,
+        },
+        "=SUM(A8:A12)",
+    ),
 ];
 
 /// A text and how often it is repeated behind a beginning, an end, and the limit that is passed.
@@ -117,7 +149,13 @@ fn references_follow_rows(rt: HostRuntime) -> Result<(), Fail> {
 fn limits_are_kept(rt: HostRuntime) -> Result<(), Fail> {
     let workbook = two_sheets(rt.alloc())?;
     for row in &LIMITS {
-        assert_eq!(rt; fault_of(rt.alloc(), &workbook, row)?, row.4, "{}{}", row.1, row.2);
+        assert_eq!(rt;
+            fault_of(rt.alloc(), &workbook, row)?,
+            row.4,
+            "{}{}",
+            row.1,
+            row.2
+        );
     }
     Ok(())
 }

@@ -1,7 +1,6 @@
-use Rattle.std.proofs.Common.{rules, ◌≡◌, ℕ, List, [], ◌∷◌, refl, sym, ap, ◌∙◌, arith, lit<, subst}
+use Rattle.std.proofs.Common.{◌≡◌, ◌∷◌, arith, lit<}
 use Rattle.std.proofs.lemmas.Str.Pattern.{strip_prefix_char}
-use Rattle.formula_reader.specs.Cuts.{Cuts}
-use Rattle.formula_reader.proofs.Cutting.{cuts_of, behind_first}
+use Rattle.formula_reader.proofs.Cutting.{cuts_of}
 use Rattle.formula_reader.proofs.reading.read_formula.Goals as goal
 
 pub formula_of-requires : goal.formula_of-requires
