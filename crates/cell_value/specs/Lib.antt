@@ -2,3 +2,4 @@ pub mod Stored
 pub mod Typed
 pub mod Entered
 pub mod Shown
+pub mod formers

@@ -1,5 +1,4 @@
 use cell_value::NoMemory;
-use std::alloc::AllocError;
 
 /// Why a formula can't be read.
 #[derive(Clone, Copy, Debug, PartialEq, Eq)]
@@ -21,17 +20,6 @@ impl From<NoMemory> for FormulaFault {
     ghost from_gives = { λ _ e. e ≡ fault.NoMemory };
 
     fn from(_error: NoMemory) -> FormulaFault {
-        FormulaFault::NoMemory
-    }
-}
-
-impl From<AllocError> for FormulaFault {
-    ghost use Rattle.std.specs.Prelude.{◌≡◌};
-    ghost use Rattle.formula_reader.specs.declared.fault.FormulaFault.TheVariants as fault;
-
-    ghost from_gives = { λ _ e. e ≡ fault.NoMemory };
-
-    fn from(_error: AllocError) -> FormulaFault {
         FormulaFault::NoMemory
     }
 }

@@ -1,7 +1,7 @@
 ghost use Rattle.std.specs.Prelude.{◌≡◌, map, IfOk};
 ghost use Rattle.formula_reader.specs.Tree.{expression_of, negative, binary, call, no_arguments, behind};
 
-use cell_value::{NoMemory, Text};
+use cell_value::{Items, NoMemory, Text};
 use formula_tokens::Operator;
 use grid_range::Area;
 use std::alloc::Global;
@@ -26,7 +26,7 @@ pub enum Tree {
     /// An operator between two operands.
     Binary(Operator, Box<Tree>, Box<Tree>),
     /// A function by its name, and its arguments.
-    Call(Text, Vec<Tree>),
+    Call(Text, Items<Tree>),
 }
 
 impl Tree {
@@ -56,6 +56,6 @@ impl Tree {
     pub(crate) fn call(name: Text, arguments: Vec<Tree>) -> Tree
         ensures { expression_of result ≡ call name (behind (map expression_of arguments.items) no_arguments) }
     {
-        Tree::Call(name, arguments)
+        Tree::Call(name, Items::of(arguments))
     }
 }

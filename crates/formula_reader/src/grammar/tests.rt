@@ -271,12 +271,12 @@ fn show(out: &mut String, tree: &Tree) -> Result<(), NoMemory> {
         Tree::Call(name, arguments) => {
             out.push_str(name.as_str())?;
             let mut before = '(';
-            for argument in arguments {
+            for argument in arguments.as_slice() {
                 out.push(before)?;
                 show(out, argument)?;
                 before = ',';
             }
-            if arguments.is_empty() {
+            if arguments.as_slice().is_empty() {
                 out.push('(')?;
             }
             out.push(')')?;

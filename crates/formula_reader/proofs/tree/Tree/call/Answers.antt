@@ -8,5 +8,7 @@ use Rattle.formula_reader.proofs.tree.Tree.call.Goals as goal
 
 pub returns : goal.returns
 returns c =
-    let same : items-the_row-Tree _ (hidden-the_row-Tree-0 c.args.arguments) ≡ c.args.arguments.items = search (rules, the_lemmas) in
-    ap (call c.args.name) (listed _ (hidden-the_row-Tree-0 c.args.arguments) ∙ ap (λ (trees : List Tree). behind (map expression_of trees) no_arguments) same)
+    let same : items-the_row-Tree _ (hidden-the_row-Tree-0 c.of.result) ≡ c.of.result = search (rules, the_lemmas) in
+    ap (call c.args.name)
+    (listed _ (hidden-the_row-Tree-0 c.of.result)
+    ∙ ap (λ (trees : List Tree). behind (map expression_of trees) no_arguments) (same ∙ c.of.ensures))
