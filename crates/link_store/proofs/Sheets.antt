@@ -87,7 +87,7 @@ module _ {T : Type 0} (cells : Cells T) (are : IsGrid cells) where
       keys_row [] = refl
       keys_row (e ∷ es) = ap (λ ks. (row, column_of cells.columns e.1) ∷ ks) (keys_row es)
 
-  distinct_rows : (some : List ℕ) → IsDistinct nat_eq some → IsDistinct (eq_by_cmp by_rows) (keys_of (flat_map (row_items cells.rows cells.columns) some))
+  pub distinct_rows : (some : List ℕ) → IsDistinct nat_eq some → IsDistinct (eq_by_cmp by_rows) (keys_of (flat_map (row_items cells.rows cells.columns) some))
   distinct_rows [] apart = IsDistinct-none (eq_by_cmp by_rows)
   distinct_rows (row ∷ some) apart =
       subst (IsDistinct (eq_by_cmp by_rows)) (sym (map-append (λ e. e.0) (row_items cells.rows cells.columns row) (flat_map (row_items cells.rows cells.columns) some)))

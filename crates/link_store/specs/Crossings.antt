@@ -32,10 +32,14 @@ module _ {T : Type 0} where
   row_items rows columns row =
       map (λ entry. ((row, column_of columns entry.1), entry.1.item)) (line_entries rows row)
 
-  -- the items of the sheet, row by row
+  -- the items of the first rows, row by row
+  abbrev pub first_rows : Cells T → ℕ → List ((ℕ × ℕ) × T)
+  first_rows cells rows =
+      flat_map (row_items cells.rows cells.columns) (range_with_len 0 rows)
+
+  -- the items of the sheet
   abbrev pub sheet_items : Cells T → List ((ℕ × ℕ) × T)
-  sheet_items cells =
-      flat_map (row_items cells.rows cells.columns) (range_with_len 0 cells.rows.count)
+  sheet_items cells = first_rows cells cells.rows.count
 
   -- each cell stands in the list of its row and in the list of its column, and each of the two
   -- entries names the other
@@ -76,6 +80,11 @@ module _ {T : Type 0} where
   abbrev pub HasSameItems : Cells T → Cells T → Type 0
   HasSameItems before after =
       (place : ℕ × ℕ) → entry_at (sheet_items after) place ≡ entry_at (sheet_items before) place
+
+  -- the copy has the items of the first rows, and no others
+  abbrev pub HasFirstRows : Cells T → ℕ → Cells T → Type 0
+  HasFirstRows cells rows copy =
+      (place : ℕ × ℕ) → entry_at (sheet_items copy) place ≡ entry_at (first_rows cells rows) place
 
   -- the same lines, in the same order
   pub record HasSameLines (before after : Cells T) : Type 0 where

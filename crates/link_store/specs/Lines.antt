@@ -43,6 +43,11 @@ module _ {E : Type 0} where
     pub each_list : IsPermutation (range_with_len 0 (length lines.links)) lines.lists.items
     pub spare : (index : ℕ) → lines.count ≤ index → index < length lines.lists.items → line_entries lines index ≡ []
 
+  -- the place of each line stands at the number of its list
+  pub record ArePositions (lines : Lines E) (positions : List ℕ) : Type 0 where
+    pub long : length positions ≡ length lines.lists.items
+    pub each : (line : ℕ) → line < lines.count → slice_index positions (list_of lines line) ≡ line
+
   -- each list has the same entries
   pub record HasSameEntries (before after : Lines E) : Type 0 where
     pub entries : (list : ℕ) → entries_of after.links list ≡ entries_of before.links list

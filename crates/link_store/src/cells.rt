@@ -107,7 +107,7 @@ impl<T> Cells<T> {
     ///
     /// [`NoMemory`] with the item where memory runs out, or there are as many items as a `u32` counts;
     /// the cells are as they were.
-    fn add(&mut self, row: u32, column: u32, item: T) -> Result<(), (T, NoMemory)>
+    pub(crate) fn add(&mut self, row: u32, column: u32, item: T) -> Result<(), (T, NoMemory)>
         requires grid { IsGrid self.old }
         requires there { (row < self.old.rows.count) × (column < self.old.columns.count) }
         requires empty { (node : ℕ) (cell : Cell T) → IsCellAt self.old row column node cell → ⊥ }

@@ -1,9 +1,9 @@
-ghost use Rattle.std.specs.Prelude.{◌≡◌, ℕ, ◌+◌, ◌<◌, ◌≤◌, None, IsSome, length, slice_index, slice_set, IfOk, OnOk};
+ghost use Rattle.std.specs.Prelude.{◌≡◌, ℕ, ◌+◌, ◌<◌, ◌≤◌, None, length, slice_set, IfOk, OnOk};
 ghost use Rattle.cell_store.specs.Entries.{entry_at, table_of};
 ghost use Rattle.cell_store.specs.Places.{AreFilledPlaces};
 ghost use Rattle.link_store.specs.Lists.{entries_of};
-ghost use Rattle.link_store.specs.Lines.{AreLines, list_of};
-ghost use Rattle.link_store.specs.Crossings.{IsGrid, ChangesAt, HasSameItems, HasSameSize, sheet_items};
+ghost use Rattle.link_store.specs.Lines.{AreLines, ArePositions};
+ghost use Rattle.link_store.specs.Crossings.{IsGrid, HasFirstRows, HasSameItems, HasSameSize, sheet_items};
 
 use crate::cells::Cells;
 use crate::lines::Lines;
@@ -15,8 +15,7 @@ impl<E> Lines<E> {
     /// The place of each line, by the number of its list.
     fn positions(&self, alloc: Global) -> Result<Vec<u32>, NoMemory>
         requires { AreLines self.now }
-        ensures length { IfOk result (λ positions. length positions.items ≡ length self.now.lists.items) }
-        ensures lines { IfOk result (λ positions. (line : ℕ) → line < self.now.count → slice_index positions.items (list_of self.now line) ≡ line) }
+        ensures { IfOk result (λ positions. ArePositions self.now positions.items) }
     {
         let mut positions = vec![in alloc; 0; self.lists.len()]?;
         for line in 0..self.count {
@@ -77,44 +76,41 @@ impl<T: Drop> Cells<T> {
 }
 
 impl<T: Duplicate + Drop> Cells<T> {
-    /// Cells of the same size with copies of the items.
+    /// Cells of the same size with copies of the items, which are added row by row: none is looked up.
     pub(crate) fn copy(&self, alloc: Global) -> Result<Cells<T>, NoMemory>
         requires { IsGrid self.now }
         ensures grid { IfOk result IsGrid }
         ensures size { IfOk result (HasSameSize self.now) }
         ensures items { IfOk result (HasSameItems self.now) }
     {
-        let whole = Area {
-            sheet: 0,
-            rows: Band::Whole,
-            cols: Band::Whole,
-        };
+        let columns = self.columns.positions(alloc)?;
         let mut copy = Cells::new(alloc, self.rows.count, self.columns.count)?;
-        for place in &self.places(alloc, &whole)? {
-            self.copy_item(place.0, place.1, &mut copy)?;
+        for row in 0..self.rows.count {
+            self.copy_row(&columns, row, &mut copy)?;
         }
         Ok(copy)
     }
 
-    /// Puts a copy of the place's item into the copy.
-    fn copy_item(&self, row: u32, column: u32, copy: &mut Cells<T>) -> Result<(), NoMemory>
+    /// Adds copies of the row's items to a copy of the rows before it; `columns` has the place of each
+    /// column, by the number of its list.
+    fn copy_row(&self, columns: &[u32], row: u32, copy: &mut Cells<T>) -> Result<(), NoMemory>
         requires grid { IsGrid self.now }
+        requires columns { ArePositions self.now.columns columns.now }
+        requires there { row < self.now.rows.count }
         requires copy { IsGrid copy.old }
         requires size { HasSameSize self.now copy.old }
-        requires there { IsSome (entry_at (sheet_items self.now) (row, column)) }
+        requires before { HasFirstRows self.now row copy.old }
         ensures grid { IsGrid copy.new }
         ensures size { HasSameSize self.now copy.new }
-        ensures put { OnOk result (ChangesAt (sheet_items copy.old) (sheet_items copy.new) (row, column) (entry_at (sheet_items self.now) (row, column))) }
+        ensures copied { OnOk result (HasFirstRows self.now (row + 1) copy.new) }
     {
-        match self.find(row, column) {
-            Some(node) => {
-                let item = self.rows.links.item(node).item.duplicate()?;
-                match copy.put(row, column, item) {
-                    Ok(_) => Ok(()),
-                    Err((_, fault)) => Err(fault),
-                }
+        for (_, cell) in self.rows.links.entries(self.rows.list(row)) {
+            let column = columns[cell.column as usize];
+            let item = cell.item.duplicate()?;
+            if let Err((_, fault)) = copy.add(row, column, item) {
+                return Err(fault);
             }
-            None => Ok(()),
         }
+        Ok(())
     }
 }

@@ -147,6 +147,8 @@ fn compare_change<G: Grid<u64> + Drop>(
     }
     let found = items_of(alloc, &grid, Band::Whole, Band::Whole)?;
     assert_eq!(rt; found.as_slice(), expected, "{axis:?} {change:?}");
+    let copied = items_of(alloc, &grid.copy()?, Band::Whole, Band::Whole)?;
+    assert_eq!(rt; copied.as_slice(), expected, "copy {axis:?} {change:?}");
     Ok(())
 }
 

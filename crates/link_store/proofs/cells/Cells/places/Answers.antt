@@ -2,12 +2,12 @@ use Rattle.link_store.specs.declared.cells.Cell.{Cell}
 use Rattle.std.proofs.Common.{ℕ, ◌∙◌, ◌≡◌, sym, ap, subst, refl, arith}
 use Rattle.std.specs.List.Sorted.{IsPermutation}
 use Rattle.link_store.specs.Lists.{entries_of}
-use Rattle.link_store.specs.Crossings.{sheet_items}
+use Rattle.link_store.specs.Crossings.{first_rows, sheet_items}
 use Rattle.std.proofs.lemmas.Bool.{false≢true}
 use Rattle.cell_store.proofs.Listed.{held_places}
 use Rattle.cell_store.proofs.Scanned.{sorted_places}
 use Rattle.link_store.proofs.Sheets.{distinct_items}
-use Rattle.link_store.proofs.Gathered.{first_rows, row_begins, row_held, row_passed, row_ends, row_outside, column_there, column_read, left_first}
+use Rattle.link_store.proofs.Gathered.{row_begins, row_held, row_passed, row_ends, row_outside, column_there, column_read, left_first}
 use Rattle.link_store.proofs.cells.Cells.places.Goals as goal
 use Rattle.link_store.proofs.cells.Cells.places.Goals.{then-holds+in-None, else-holds}
 
@@ -20,7 +20,7 @@ pub index-column-requires : goal.index-column-requires
 index-column-requires g c =
     let entry : ℕ × Cell _ = (c.in-Some.field-0-0, c.in-Some.cell.now) in
     let has = left_first c.args.self.now c.args.area.now c.loop-row.row c.loop-cell.places.items c.loop-cell.cell-iterator c.next.new.self entry c.loop-cell.invariant c.in-Some.ensures.steps in
-    let there = column_there c.args.self.now c.requires c.in_ok-columns.columns.items c.in_ok-columns.ensures.length c.in_ok-columns.ensures.lines c.loop-row.row entry has in
+    let there = column_there c.args.self.now c.requires c.in_ok-columns.columns.items c.in_ok-columns.ensures c.loop-row.row entry has in
     omega (arith, there, c.in_ok-columns.columns.ok.0)
 
 pub loop-cell-preserved-in-Continue-branch-2 : goal.loop-cell-preserved-in-Continue-branch-2
@@ -29,7 +29,7 @@ loop-cell-preserved-in-Continue-branch-2 g c =
     let has = left_first c.args.self.now c.args.area.now c.loop-row.row c.loop-cell.places.items c.loop-cell.cell-iterator c.next.new.self entry c.loop-cell.invariant c.in-Some.ensures.steps in
     row_held c.args.self.now c.args.area.now c.loop-row.row c.index-column.result.now c.loop-cell.places.items c.push.new.self.items c.loop-cell.cell-iterator c.next.new.self entry
     c.loop-cell.invariant c.in-Some.ensures.steps
-    (column_read c.args.self.now c.requires c.in_ok-columns.columns.items c.in_ok-columns.ensures.length c.in_ok-columns.ensures.lines c.loop-row.row entry has c.index-column.result.now c.index-column.ensures)
+    (column_read c.args.self.now c.requires c.in_ok-columns.columns.items c.in_ok-columns.ensures c.loop-row.row entry has c.index-column.result.now c.index-column.ensures)
     c.in_ok-push.ensures.items (c.holds-in-loop-cell.ensures.0 c.if-holds-2.true)
 
 pub loop-cell-preserved : goal.loop-cell-preserved
@@ -38,7 +38,7 @@ loop-cell-preserved g c =
     let has = left_first c.args.self.now c.args.area.now c.loop-row.row c.loop-cell.places.items c.loop-cell.cell-iterator c.next.new.self entry c.loop-cell.invariant c.in-Some.ensures.steps in
     row_passed c.args.self.now c.args.area.now c.loop-row.row c.index-column.result.now c.loop-cell.places.items c.loop-cell.cell-iterator c.next.new.self entry
     c.loop-cell.invariant c.in-Some.ensures.steps
-    (column_read c.args.self.now c.requires c.in_ok-columns.columns.items c.in_ok-columns.ensures.length c.in_ok-columns.ensures.lines c.loop-row.row entry has c.index-column.result.now c.index-column.ensures)
+    (column_read c.args.self.now c.requires c.in_ok-columns.columns.items c.in_ok-columns.ensures c.loop-row.row entry has c.index-column.result.now c.index-column.ensures)
     (λ holds. absurd (false≢true (sym c.if-holds-2.false ∙ c.holds-in-loop-cell.ensures.1 holds)))
 
 pub loop-row-preserved : goal.loop-row-preserved

@@ -1,6 +1,7 @@
 use Rattle.std.proofs.Common.{◌≡◌}
 use Rattle.cell_store.proofs.Listed.{held_places}
-use Rattle.link_store.proofs.Gathered.{IsRowLeft, first_rows}
+use Rattle.link_store.specs.Crossings.{first_rows}
+use Rattle.link_store.proofs.Gathered.{IsRowLeft}
 use Rattle.link_store.proofs.cells.Cells.places.Given as goal
 
 -- the places of the first rows
