@@ -1,5 +1,5 @@
 -- Areas from their corners.
-use Rattle.std.proofs.Common.{◌≡◌, ℕ, ◌+◌, ◌<◌, ◌≤◌, min, max, Bool, true, false, List, [], ◌∷◌, ◌++◌, length, get_or, refl, sym, ap, ◌∙◌, arith, inl, inr, subst}
+use Rattle.std.proofs.Common.{◌≡◌, ℕ, ◌+◌, ◌<◌, ◌≤◌, min, max, Bool, true, false, List, ◌∷◌, ◌++◌, length, get_or, refl, sym, ap, ◌∙◌, arith, inl, inr, subst}
 use Rattle.std.specs.Prelude.{◌⊎◌, ◌≢◌, ◌==◌, not, Option, Some, None, IfSome, IfNone}
 use Rattle.std.specs.List.{list_all}
 use Rattle.std.specs.Char.{is_ascii_alphanumeric}
@@ -13,8 +13,10 @@ use Rattle.grid_range.specs.declared.band.Band.TheVariants.{Whole, From, Span}
 use Rattle.a1_notation.specs.declared.corner.Corner.{Corner}
 use Rattle.a1_notation.specs.declared.corner.Corner.TheVariants.{Cell, Column, Row}
 use Rattle.a1_notation.specs.Column.{IsColumn}
-use Rattle.a1_notation.specs.Area.{IsCorner, IsOneCell, IsBetween, IsTwoCorners, IsArea, area_between, lines_between}
-use Rattle.a1_notation.specs.Capped.{IsCappedCorner, capped_corner, capped_band, IsCappedBetween, IsCappedArea, ArePastZZZ, HasRoom}
+use Rattle.a1_notation.specs.Area.{IsCorner, IsOneCell, IsBetween, IsTwoCorners, IsArea, IsRow, area_between, lines_between}
+use Rattle.a1_notation.specs.Room.{HasNext, HasRoom}
+use Rattle.a1_notation.specs.Capped.{IsCappedCorner, capped_corner, capped_band, IsCappedBetween, IsCappedArea, ArePastZZZ}
+use Rattle.a1_notation.proofs.Fronts.{one_front}
 use Rattle.a1_notation.proofs.Letters.{letters_value_bounds}
 use Rattle.a1_notation.proofs.Titles.{list_all-weaker}
 use Rattle.a1_notation.proofs.Rows.{numerals}
@@ -22,18 +24,10 @@ use Rattle.a1_notation.proofs.Corners.{IsCorner_unique, corner_bytes}
 
 -- two texts up to their first characters that fail a test
 pub split_unique : (p : ℕ → Bool) (c : ℕ) (xs zs ys ws : List ℕ) → list_all p xs ≡ true → list_all p zs ≡ true → p c ≡ false → xs ++ (c ∷ ys) ≡ zs ++ (c ∷ ws) → (xs ≡ zs) × (ys ≡ ws)
-split_unique p c [] [] ys ws left right fails e = (refl, cc)
-split_unique p c [] (z ∷ zs) ys ws left right fails e =
-    let same : c ≡ z = cc in
-    absurd (false≢true (sym fails ∙ (ap p same ∙ (and_parts (p z) (list_all p zs) right).0)))
-split_unique p c (x ∷ xs) [] ys ws left right fails e =
-    let same : c ≡ x = cc in
-    absurd (false≢true (sym fails ∙ (ap p same ∙ (and_parts (p x) (list_all p xs) left).0)))
-split_unique p c (x ∷ xs) (z ∷ zs) ys ws left right fails e =
-    let head : x ≡ z = cc in
-    let tail : xs ++ (c ∷ ys) ≡ zs ++ (c ∷ ws) = cc in
-    let rest = split_unique p c xs zs ys ws (and_parts (p x) (list_all p xs) left).1 (and_parts (p z) (list_all p zs) right).1 fails tail in
-    (rw (head, rest.0) refl, rest.1)
+split_unique p c xs zs ys ws left right fails e =
+    let same = one_front p xs (c ∷ ys) zs (c ∷ ws) left right fails fails e in
+    let tail : c ∷ ys ≡ c ∷ ws = same.1 in
+    (same.0, cc)
 
 -- a text whose characters pass a test has none that fails it
 pub absent : (p : ℕ → Bool) (c : ℕ) (xs ys : List ℕ) → list_all p (xs ++ (c ∷ ys)) ≡ true → p c ≡ false → ⊥
@@ -135,12 +129,14 @@ no_between first second x y a b e most rows columns is =
     let clash : ◌≡◌ {A = Option (Band × Band)} None (Some (rows, capped_band columns)) = capped ∙ ap capped_area exact in
     cc
 
--- what is kept of a corner has a next line
+-- a row has a next line, and so has what is kept of a corner
+pub row_has_next : (text : List ℕ) (row : ℕ) → IsRow text row → HasNext row
+row_has_next text row is = omega (arith, is.value, digits_value_short numerals text 7 is.digits.1 is.few)
+
 room_of : (most : ℕ) (text : List ℕ) (exact : Corner) → IsCorner most text exact → HasRoom (capped_corner exact)
-room_of most text (Cell row column) is =
-    (omega (arith, is.4.value, digits_value_short numerals is.1 7 is.4.digits.1 is.4.few), omega arith)
+room_of most text (Cell row column) is = (row_has_next is.1 row is.4, omega arith)
 room_of most text (Column column) is = omega arith
-room_of most text (Row row) is = omega (arith, is.value, digits_value_short numerals text 7 is.digits.1 is.few)
+room_of most text (Row row) is = row_has_next text row is
 
 pub capped_room : (text : List ℕ) (corner : Corner) → IsCappedCorner text corner → HasRoom corner
 capped_room text corner is = rw is.capped (room_of (length text) text is.exact is.is)
@@ -175,12 +171,15 @@ column_short most text column is small =
       | inr many ↦ absurd (omega (arith, many.1, is.value))
     ]
 
-column_small : (text : List ℕ) (column : ℕ) → IsColumn 3 text column → column < 18278
+pub column_small : (text : List ℕ) (column : ℕ) → IsColumn 3 text column → column < 18278
 column_small text column is =
     elim (letters_value_bounds text is.letters.all is.letters.some).1 [
       | inl few ↦ omega (arith, few.1, is.value)
       | inr many ↦ absurd (omega (arith, many.0, is.letters.few))
     ]
+
+pub column_has_next : (text : List ℕ) (column : ℕ) → IsColumn 3 text column → HasNext column
+column_has_next text column is = omega (arith, column_small text column is)
 
 -- the column of a corner that has one
 abbrev pub column_of : Corner → Option ℕ

@@ -1,39 +1,40 @@
 -- A corner's letters, and its digits behind them.
-use Rattle.std.proofs.Common.{◌≡◌, ℕ, ◌+◌, ◌-◌, ◌<◌, min, true, false, List, [], ◌∷◌, ◌++◌, length, get_or, take, drop, refl, sym, ap, ◌∙◌, arith, inl, inr, subst, append-nil}
+use Rattle.std.proofs.Common.{◌≡◌, ℕ, ◌+◌, ◌-◌, ◌<◌, min, true, false, List, [], ◌∷◌, ◌++◌, length, take, drop, refl, sym, ap, ◌∙◌, arith, subst, append-nil}
 use Rattle.std.specs.List.{list_all, prefix_len}
-use Rattle.std.specs.Char.{is_ascii_alphabetic, is_ascii_alphanumeric, digit_value}
+use Rattle.std.specs.Char.{is_ascii_alphabetic, is_ascii_alphanumeric, is_ascii_digit}
 use Rattle.std.specs.Str.Parse.{AllDigits}
-use Rattle.std.proofs.lemmas.Bool.{and_parts, and_from, cases_lt}
+use Rattle.std.proofs.lemmas.Bool.{and_parts, and_from}
 use Rattle.std.proofs.lemmas.Bool.Decides.{nat_tests}
-use Rattle.std.proofs.lemmas.List.{take_at, drop_at, length-take, length-append, get_or-take, take-append-drop, nil_from_length}
+use Rattle.std.proofs.lemmas.List.{take_at, drop_at, length-append, take-append-drop, nil_from_length}
 use Rattle.std.proofs.lemmas.List.Folds.{list_all-append}
-use Rattle.std.proofs.lemmas.List.Recursion.{and_from_places}
-use Rattle.std.proofs.lemmas.List.Sums.{prefix_len_passes, prefix_len-le-length}
 use Rattle.std.specs.Str.{IsUtf8, IsCharBoundary}
-use Rattle.std.proofs.lemmas.Str.{IsCharBoundary-start, IsCharBoundary-after_ascii}
 use Rattle.a1_notation.specs.declared.corner.Corner.{Corner}
 use Rattle.a1_notation.specs.declared.corner.Corner.TheVariants.{Cell, Column, Row}
 use Rattle.a1_notation.specs.Column.{IsColumn, letters_value}
 use Rattle.a1_notation.specs.Area.{IsRow, IsCorner}
 use Rattle.a1_notation.specs.Capped.{IsCappedCorner}
+use Rattle.a1_notation.proofs.Fronts.{front_passes, behind_ascii}
+use Rattle.a1_notation.proofs.Rows.{digit_is_digit, all_digits}
 use Rattle.a1_notation.proofs.Letters.{letters_value_bounds}
 use Rattle.a1_notation.proofs.Titles.{list_all-weaker}
 
 -- a digit is no letter
-digit_is_no_letter : (b : ℕ) → digit_value b < 10 → (is_ascii_alphabetic b ≡ false) × (is_ascii_alphanumeric b ≡ true)
-digit_is_no_letter b small = (grind (arith, nat_tests), grind (arith, nat_tests))
+pub digit_no_letter : (b : ℕ) → is_ascii_digit b ≡ true → is_ascii_alphabetic b ≡ false
+digit_no_letter b h = grind (arith, nat_tests)
+
+digit_is_alphanumeric : (b : ℕ) → is_ascii_digit b ≡ true → is_ascii_alphanumeric b ≡ true
+digit_is_alphanumeric b h = grind (arith, nat_tests)
 
 letter_is_alphanumeric : (b : ℕ) → is_ascii_alphabetic b ≡ true → is_ascii_alphanumeric b ≡ true
 letter_is_alphanumeric b letter = grind (arith, nat_tests)
 
-digits_are_alphanumeric : (ds : List ℕ) → AllDigits 10 ds → list_all is_ascii_alphanumeric ds ≡ true
-digits_are_alphanumeric [] all = refl
-digits_are_alphanumeric (d ∷ ds) all = and_from (is_ascii_alphanumeric d) (list_all is_ascii_alphanumeric ds) (digit_is_no_letter d all.0).1 (digits_are_alphanumeric ds all.1)
+digits_are_alphanumeric : (digits : List ℕ) → AllDigits 10 digits → list_all is_ascii_alphanumeric digits ≡ true
+digits_are_alphanumeric digits all = list_all-weaker is_ascii_digit is_ascii_alphanumeric digit_is_alphanumeric digits (all_digits digits all)
 
 -- the letters in front of digits end where the digits begin
 letters_end : (letters digits : List ℕ) → list_all is_ascii_alphabetic letters ≡ true → AllDigits 10 digits → prefix_len is_ascii_alphabetic (letters ++ digits) ≡ length letters
 letters_end [] [] letter digit = refl
-letters_end [] (d ∷ ds) letter digit = rw (digit_is_no_letter d digit.0).0 refl
+letters_end [] (d ∷ ds) letter digit = rw (digit_no_letter d (digit_is_digit d digit.0)) refl
 letters_end (x ∷ xs) digits letter digit =
     let parts = and_parts (is_ascii_alphabetic x) (list_all is_ascii_alphabetic xs) letter in
     rw parts.0 (rw (letters_end xs digits parts.1 digit) (omega arith))
@@ -101,26 +102,13 @@ corner_bytes most text (Row row) is = digits_are_alphanumeric text is.digits.1
 
 -- the letters in front are letters, and the text may be cut behind them
 pub letters_of_are : (text : List ℕ) → list_all is_ascii_alphabetic (letters_of text) ≡ true
-letters_of_are text =
-    let n = prefix_len is_ascii_alphabetic text in
-    and_from_places (list_all is_ascii_alphabetic) is_ascii_alphabetic refl (λ _ _. refl) (letters_of text) 0
-    (λ i h. let short : i < n = omega (arith, length-take n text) in
-    rw (get_or-take n text i 0 short) (prefix_len_passes is_ascii_alphabetic text i 0 short))
+letters_of_are text = front_passes is_ascii_alphabetic text
 
 letter_is_ascii : (b : ℕ) → is_ascii_alphabetic b ≡ true → b < 128
 letter_is_ascii b letter = grind (arith, nat_tests)
 
 pub letters_boundary : (text : List ℕ) (n : ℕ) → IsUtf8 text → n ≡ prefix_len is_ascii_alphabetic text → IsCharBoundary text n
-letters_boundary text n utf8 e =
-    elim (cases_lt 0 n) [
-      | inl some ↦
-          let last = prefix_len_passes is_ascii_alphabetic text (n - 1) 0 (omega arith) in
-          let back : n - 1 + 1 ≡ n = omega arith in
-          rw back at (IsCharBoundary-after_ascii text (n - 1) utf8 (omega (arith, prefix_len-le-length is_ascii_alphabetic text)) (letter_is_ascii (get_or text (n - 1) 0) last))
-      | inr none ↦
-          let zero' : n ≡ 0 = omega arith in
-          rw zero' (IsCharBoundary-start text utf8)
-    ]
+letters_boundary text n utf8 e = behind_ascii is_ascii_alphabetic text n letter_is_ascii utf8 e
 
 -- what a corner's letters and digits say of it
 module _ (text letters digits : List ℕ) (front : letters ≡ letters_of text) (back : digits ≡ digits_of_text text) where

@@ -1,7 +1,7 @@
 -- What a text names, by its first character and its first !.
-use Rattle.std.proofs.Common.{◌≡◌, ℕ, ◌<◌, true, List, [], ◌∷◌, ◌++◌, length, get_or, refl, sym, ap, ◌∙◌, arith, inl, inr, append_assoc}
+use Rattle.std.proofs.Common.{◌≡◌, ℕ, ◌<◌, true, List, [], ◌∷◌, ◌++◌, length, get_or, refl, sym, ap, ◌∙◌, arith, inl, inr, append-nil}
 use Rattle.std.specs.Prelude.{◌⊎◌, ◌≢◌, Option, None, Some, Result, Ok, Err}
-use Rattle.std.specs.List.{list_all, flat_map}
+use Rattle.std.specs.List.{list_all}
 use Rattle.std.specs.Char.{is_ascii_alphanumeric}
 use Rattle.std.proofs.lemmas.Bool.{and_parts, and_from, false≢true, cases_eq}
 use Rattle.std.proofs.lemmas.Bool.Decides.{nat_tests}
@@ -15,13 +15,14 @@ use Rattle.a1_notation.specs.declared.a1.Part.{Part}
 use Rattle.a1_notation.specs.declared.a1.Part.TheVariants.{Cells, WholeSheet, Word}
 use Rattle.a1_notation.specs.declared.corner.Corner.{Corner}
 use Rattle.a1_notation.specs.declared.corner.Corner.TheVariants.{Cell, Column, Row}
-use Rattle.a1_notation.specs.Title.{doubled_quote, quoted, is_loose, IsLoose, IsUpToQuote}
+use Rattle.a1_notation.specs.Title.{is_loose, IsLoose}
+use Rattle.a1_notation.specs.Quoted.{quoted, IsUpToQuote}
 use Rattle.a1_notation.specs.Area.{IsCorner, IsArea}
 use Rattle.a1_notation.specs.Range.{IsWord, NamesPart, Names, IsNotA1, IsPastZZZ, IsReading, IsUnlessNoMemory}
 use Rattle.a1_notation.proofs.Titles.{list_all-weaker}
 use Rattle.a1_notation.proofs.Corners.{corner_bytes}
 use Rattle.a1_notation.proofs.Areas.{split_unique, absent, other_than, area_unique}
-use Rattle.a1_notation.proofs.Quotes.{up_to_quote_unique}
+use Rattle.a1_notation.proofs.Quotes.{up_to_quote_unique, behind_opening, with_opening}
 
 -- the characters of an area are loose
 alphanumeric_is_loose : (b : ℕ) → is_ascii_alphanumeric b ≡ true → is_loose b ≡ true
@@ -85,7 +86,7 @@ pub record IsCellsOf (most : ℕ) (title rest : List ℕ) (range : A1) : Type 0 
 pub record IsBehindQuote (most : ℕ) (inside : List ℕ) (range : A1) : Type 0 where
   pub title : List ℕ
   pub rest : List ℕ
-  pub up_to : IsUpToQuote inside title rest
+  pub up_to : IsUpToQuote 39 inside title rest
   pub some : 0 < length title
   pub names : IsWholeSheet title rest range ⊎ IsCellsOf most title rest range
 
@@ -99,26 +100,22 @@ behind_quote_part most inside None (Word word) is = absurd (not_loose_quote insi
 behind_quote_part most inside (Some title) (Cells rows columns) is =
     elim is.title_is [
       | inl quotes ↦
-          let whole : 39 ∷ inside ≡ 39 ∷ ((flat_map doubled_quote title ++ (39 ∷ [])) ++ (33 ∷ is.part)) = rw quotes.spelled at is.parts in
-          let tail : inside ≡ (flat_map doubled_quote title ++ (39 ∷ [])) ++ (33 ∷ is.part) = cc in
           record {
             title = title;
             rest = 33 ∷ is.part;
-            up_to = record { parts = tail ∙ append_assoc (flat_map doubled_quote title) (39 ∷ []) (33 ∷ is.part); closed = λ e. absurd (omega arith) };
+            up_to = behind_opening 39 inside title (33 ∷ is.part) (rw quotes.spelled at is.parts) (λ e. absurd (omega arith));
             some = quotes.some;
             names = inr (record { area = is.part; rows = rows; columns = columns; mark = refl; is = is.area_is; same = refl });
           }
       | inr loose ↦ absurd (loose_front (39 ∷ inside) is.sheet (33 ∷ is.part) (name_is_loose is.sheet title loose) (omega (arith, loose.some, ap length loose.same)) is.parts refl)
     ]
-behind_quote_part most inside (Some title) WholeSheet is =
-    let same : inside ≡ flat_map doubled_quote title ++ (39 ∷ []) = let spelled = is.spelled in cc in
-    record {
-      title = title;
-      rest = [];
-      up_to = record { parts = same; closed = λ e. absurd (omega arith) };
-      some = is.some;
-      names = inl (refl, refl);
-    }
+behind_quote_part most inside (Some title) WholeSheet is = record {
+  title = title;
+  rest = [];
+  up_to = behind_opening 39 inside title [] (is.spelled ∙ sym (append-nil (quoted 39 title))) (λ e. absurd (omega arith));
+  some = is.some;
+  names = inl (refl, refl);
+}
 behind_quote_part most inside (Some title) (Word word) is = absurd is
 
 pub behind_quote : (most : ℕ) (inside : List ℕ) (range : A1) → Names most (39 ∷ inside) range → IsBehindQuote most inside range
@@ -230,10 +227,10 @@ pub record IsQuotedArea (most : ℕ) (title area : List ℕ) (range : A1) : Type
   pub is : IsArea most area rows columns
   pub same : range ≡ record { sheet = Some title; part = Cells rows columns }
 
-pub quoted_area : (most : ℕ) (inside title rest area : List ℕ) (range : A1) → IsUpToQuote inside title rest → rest ≡ 33 ∷ area → Names most (39 ∷ inside) range → IsQuotedArea most title area range
+pub quoted_area : (most : ℕ) (inside title rest area : List ℕ) (range : A1) → IsUpToQuote 39 inside title rest → rest ≡ 33 ∷ area → Names most (39 ∷ inside) range → IsQuotedArea most title area range
 quoted_area most inside title rest area range up_to mark is =
     let found = behind_quote most inside range is in
-    let same = up_to_quote_unique inside found.title found.rest title rest found.up_to up_to in
+    let same = up_to_quote_unique 39 inside found.title found.rest title rest found.up_to up_to in
     elim found.names [
       | inl whole ↦ let clash : [] ≡ 33 ∷ area = sym whole.0 ∙ (same.1 ∙ mark) in absurd cc
       | inr cells ↦
@@ -247,11 +244,11 @@ quoted_area most inside title rest area range up_to mark is =
           }
     ]
 
-pub quoted_area_names : (most : ℕ) (inside title rest area : List ℕ) (rows columns : Band) → IsUpToQuote inside title rest → 0 < length title → rest ≡ 33 ∷ area → IsArea most area rows columns → Names most (39 ∷ inside) (record { sheet = Some title; part = Cells rows columns })
+pub quoted_area_names : (most : ℕ) (inside title rest area : List ℕ) (rows columns : Band) → IsUpToQuote 39 inside title rest → 0 < length title → rest ≡ 33 ∷ area → IsArea most area rows columns → Names most (39 ∷ inside) (record { sheet = Some title; part = Cells rows columns })
 quoted_area_names most inside title rest area rows columns up_to some mark is = record {
-  sheet = quoted title;
+  sheet = quoted 39 title;
   part = area;
-  parts = rw (up_to.parts, mark) (rw (append_assoc (flat_map doubled_quote title) (39 ∷ []) (33 ∷ area)) refl);
+  parts = with_opening 39 inside title rest up_to ∙ ap (λ t. quoted 39 title ++ t) mark;
   title_is = inl (record { some = some; spelled = refl });
   area_is = is;
 }
@@ -273,7 +270,7 @@ pub record IsAreaFault (area : List ℕ) (fault : A1Fault) : Type 0 where
   pub not_a1 : fault ≡ NotA1 → (most : ℕ) (rows columns : Band) → ¬ (IsArea most area rows columns)
   pub past : fault ≡ PastZZZ → (most : ℕ) × (rows : Band) × (columns : Band) × IsArea most area rows columns
 
-pub quoted_fault : (inside title rest area : List ℕ) (fault : A1Fault) → IsUpToQuote inside title rest → 0 < length title → rest ≡ 33 ∷ area → IsAreaFault area fault → IsReading (39 ∷ inside) (Err fault)
+pub quoted_fault : (inside title rest area : List ℕ) (fault : A1Fault) → IsUpToQuote 39 inside title rest → 0 < length title → rest ≡ 33 ∷ area → IsAreaFault area fault → IsReading (39 ∷ inside) (Err fault)
 quoted_fault inside title rest area fault up_to some mark is =
     fault_reading (39 ∷ inside) fault
     (λ e most range names. let found = quoted_area most inside title rest area range up_to mark names in
@@ -299,27 +296,22 @@ marked_fault text title area fault first mark no_mark loose is =
           is.none found.rows found.columns found.is;
     })
 
--- no quote in front, from a text that isn't a quote and a rest
-pub not_first : (c : ℕ) (text : List ℕ) → 0 < c → ((rest : List ℕ) → text ≢ c ∷ rest) → get_or text 0 0 ≢ c
-not_first c [] some none e = absurd (omega arith)
-not_first c (x ∷ xs) some none e = none xs (rw e refl)
-
 -- behind a quote, where nothing is named
-pub unclosed_is_nothing : (inside : List ℕ) → ((title rest : List ℕ) → ¬ (IsUpToQuote inside title rest)) → IsNotA1 (39 ∷ inside)
+pub unclosed_is_nothing : (inside : List ℕ) → ((title rest : List ℕ) → ¬ (IsUpToQuote 39 inside title rest)) → IsNotA1 (39 ∷ inside)
 unclosed_is_nothing inside none most range names =
     let found = behind_quote most inside range names in
     none found.title found.rest found.up_to
 
-pub empty_title_is_nothing : (inside title rest : List ℕ) → IsUpToQuote inside title rest → length title ≡ 0 → IsNotA1 (39 ∷ inside)
+pub empty_title_is_nothing : (inside title rest : List ℕ) → IsUpToQuote 39 inside title rest → length title ≡ 0 → IsNotA1 (39 ∷ inside)
 empty_title_is_nothing inside title rest up_to empty most range names =
     let found = behind_quote most inside range names in
-    let same = up_to_quote_unique inside found.title found.rest title rest found.up_to up_to in
+    let same = up_to_quote_unique 39 inside found.title found.rest title rest found.up_to up_to in
     absurd (omega (arith, found.some, ap length same.0))
 
-pub unmarked_is_nothing : (inside title rest : List ℕ) → IsUpToQuote inside title rest → 0 < length rest → ((area : List ℕ) → rest ≢ 33 ∷ area) → IsNotA1 (39 ∷ inside)
+pub unmarked_is_nothing : (inside title rest : List ℕ) → IsUpToQuote 39 inside title rest → 0 < length rest → ((area : List ℕ) → rest ≢ 33 ∷ area) → IsNotA1 (39 ∷ inside)
 unmarked_is_nothing inside title rest up_to some none most range names =
     let found = behind_quote most inside range names in
-    let same = up_to_quote_unique inside found.title found.rest title rest found.up_to up_to in
+    let same = up_to_quote_unique 39 inside found.title found.rest title rest found.up_to up_to in
     elim found.names [
       | inl whole ↦ absurd (omega (arith, ap length (sym same.1 ∙ whole.0)))
       | inr cells ↦ none cells.area (sym same.1 ∙ cells.mark)
@@ -331,7 +323,7 @@ same_cells title title' rows columns rows' columns' one other a b e areas = a �
 
 behind_quote_unique : (most : ℕ) (inside : List ℕ) (one other : A1) → IsBehindQuote most inside one → IsBehindQuote most inside other → one ≡ other
 behind_quote_unique most inside one other a b =
-    let same = up_to_quote_unique inside a.title a.rest b.title b.rest a.up_to b.up_to in
+    let same = up_to_quote_unique 39 inside a.title a.rest b.title b.rest a.up_to b.up_to in
     elim a.names [
       | inl whole ↦ elim b.names [
         | inl whole' ↦ whole.1 ∙ rw same.0 (sym whole'.1)

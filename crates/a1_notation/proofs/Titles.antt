@@ -1,41 +1,35 @@
 -- Titles as they are printed and read.
-use Rattle.std.proofs.Common.{◌≡◌, ℕ, suc, ◌<◌, Bool, true, List, [], ◌∷◌, ◌++◌, length, get_or, drop, refl, arith, append_assoc}
+use Rattle.std.proofs.Common.{◌≡◌, ℕ, ◌<◌, Bool, true, List, [], ◌∷◌, ◌++◌, length, get_or, drop, refl, arith, append_assoc}
 use Rattle.std.specs.Prelude.{◌==◌, ◌&&◌, ◌||◌, ◌≢◌}
 use Rattle.std.specs.List.{list_all, flat_map}
 use Rattle.std.specs.Char.{is_ascii_alphabetic, is_ascii_alphanumeric}
-use Rattle.std.proofs.lemmas.Bool.{ne_eqb, and_parts, and_from, false≢true}
+use Rattle.std.proofs.lemmas.Bool.{and_parts, and_from, false≢true}
 use Rattle.std.proofs.lemmas.Bool.Decides.{nat_tests}
 use Rattle.std.proofs.lemmas.Grind.{flat_map-append}
-use Rattle.a1_notation.specs.Title.{doubled_quote, is_plain, is_loose, IsLoose}
+use Rattle.a1_notation.specs.Quoted.{doubled}
+use Rattle.a1_notation.specs.Title.{is_plain, is_loose, IsLoose}
+use Rattle.a1_notation.proofs.Quotes.{doubled-none}
 
 -- a plain title by its first byte and the rest
 pub is_plain-parts : (xs : List ℕ) → 0 < length xs → is_plain xs ≡ ((is_ascii_alphabetic (get_or xs 0 0) || get_or xs 0 0 == 95) && list_all (λ d. is_ascii_alphanumeric d || d == 95) (drop 1 xs))
 is_plain-parts [] some = absurd (omega arith)
 is_plain-parts (x ∷ xs) some = refl
 
--- characters other than ' stand between quotes as they are
-pub doubled-none : (xs : List ℕ) → ((i : ℕ) → i < length xs → get_or xs i 0 ≢ 39) → flat_map doubled_quote xs ≡ xs
-doubled-none [] none = refl
-doubled-none (x ∷ xs) none =
-    let plain : doubled_quote x ≡ x ∷ [] = rw (ne_eqb x 39 (none 0 (omega arith))) refl in
-    let rest = doubled-none xs (λ i h. none (suc i) (omega (arith, h))) in
-    rw (plain, rest) refl
-
 -- up to the first ', and behind it
-pub doubled-split : (bs xs ys : List ℕ) → bs ≡ xs ++ (39 ∷ ys) → ((i : ℕ) → i < length xs → get_or xs i 0 ≢ 39) → flat_map doubled_quote bs ≡ xs ++ (39 ∷ 39 ∷ flat_map doubled_quote ys)
-doubled-split bs xs ys e none = rw e (rw (flat_map-append doubled_quote xs (39 ∷ ys), doubled-none xs none) refl)
+pub doubled-split : (bs xs ys : List ℕ) → bs ≡ xs ++ (39 ∷ ys) → ((i : ℕ) → i < length xs → get_or xs i 0 ≢ 39) → flat_map (doubled 39) bs ≡ xs ++ (39 ∷ 39 ∷ flat_map (doubled 39) ys)
+doubled-split bs xs ys e none = rw e (rw (flat_map-append (doubled 39) xs (39 ∷ ys), doubled-none 39 xs none) refl)
 
 -- a turn of the loop that doubles: it writes up to the first ', and two of them
-pub doubled_more : (text text' text'' rest plain behind whole : List ℕ) → text' ≡ text ++ plain → text'' ≡ text' ++ (39 ∷ 39 ∷ []) → rest ≡ plain ++ (39 ∷ behind) → ((i : ℕ) → i < length plain → get_or plain i 0 ≢ 39) → text ++ flat_map doubled_quote rest ≡ whole → text'' ++ flat_map doubled_quote behind ≡ whole
+pub doubled_more : (text text' text'' rest plain behind whole : List ℕ) → text' ≡ text ++ plain → text'' ≡ text' ++ (39 ∷ 39 ∷ []) → rest ≡ plain ++ (39 ∷ behind) → ((i : ℕ) → i < length plain → get_or plain i 0 ≢ 39) → text ++ flat_map (doubled 39) rest ≡ whole → text'' ++ flat_map (doubled 39) behind ≡ whole
 doubled_more text text' text'' rest plain behind whole e f split none so_far =
-    let doubled = doubled-split rest plain behind split none in
-    let regrouped : text ++ (plain ++ (39 ∷ 39 ∷ flat_map doubled_quote behind)) ≡ whole = rw doubled at so_far in
-    rw (f, e) (rw (append_assoc (text ++ plain) (39 ∷ 39 ∷ []) (flat_map doubled_quote behind), append_assoc text plain (39 ∷ 39 ∷ flat_map doubled_quote behind)) regrouped)
+    let twice = doubled-split rest plain behind split none in
+    let regrouped : text ++ (plain ++ (39 ∷ 39 ∷ flat_map (doubled 39) behind)) ≡ whole = rw twice at so_far in
+    rw (f, e) (rw (append_assoc (text ++ plain) (39 ∷ 39 ∷ []) (flat_map (doubled 39) behind), append_assoc text plain (39 ∷ 39 ∷ flat_map (doubled 39) behind)) regrouped)
 
 -- its end: a rest without ' is written as it is, and the last ' behind it
-pub doubled_end : (text text' text'' rest whole : List ℕ) → text' ≡ text ++ rest → text'' ≡ text' ++ (39 ∷ []) → ((i : ℕ) → i < length rest → get_or rest i 0 ≢ 39) → text ++ flat_map doubled_quote rest ≡ 39 ∷ whole → text'' ≡ 39 ∷ (whole ++ (39 ∷ []))
+pub doubled_end : (text text' text'' rest whole : List ℕ) → text' ≡ text ++ rest → text'' ≡ text' ++ (39 ∷ []) → ((i : ℕ) → i < length rest → get_or rest i 0 ≢ 39) → text ++ flat_map (doubled 39) rest ≡ 39 ∷ whole → text'' ≡ 39 ∷ (whole ++ (39 ∷ []))
 doubled_end text text' text'' rest whole e f none so_far =
-    let plain : text ++ rest ≡ 39 ∷ whole = rw (doubled-none rest none) at so_far in
+    let plain : text ++ rest ≡ 39 ∷ whole = rw (doubled-none 39 rest none) at so_far in
     rw (f, e, plain) refl
 
 -- what passes one test passes a weaker one

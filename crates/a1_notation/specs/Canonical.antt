@@ -1,4 +1,5 @@
--- The one text that is written for an area of a sheet (Google Sheets API v4, "A1 notation").
+-- The one text that is written for an area with a first and a last row and column (Google Sheets API v4,
+-- "A1 notation").
 use Rattle.std.specs.Prelude.{ℕ, ◌+◌, ◌-◌, ◌<◌, ◌≤◌, Bool, List, ◌∷◌, ◌++◌, ◌==◌, ◌&&◌, if◌then◌else◌}
 use Rattle.std.specs.Fmt.{decimal}
 use Rattle.a1_notation.specs.Column.{column_letters}

@@ -1,6 +1,6 @@
 -- What is kept of a corner or an area that may lie past column ZZZ: there a column counts as 18278, the
 -- number of the columns from A to ZZZ.
-use Rattle.std.specs.Prelude.{◌≡◌, ℕ, ◌-◌, ◌^◌, ◌<◌, List, length, min}
+use Rattle.std.specs.Prelude.{◌≡◌, ℕ, ◌<◌, List, length, min}
 use Rattle.grid_range.specs.declared.band.Band.{Band}
 use Rattle.grid_range.specs.declared.band.Band.TheVariants.{Whole, From, Span}
 use Rattle.a1_notation.specs.declared.corner.Corner.{Corner}
@@ -42,12 +42,3 @@ abbrev pub ArePastZZZ : Band → Type 0
 ArePastZZZ Whole = ⊥
 ArePastZZZ (From start) = ⊥
 ArePastZZZ (Span start end) = 18278 < end
-
--- a line number that has a next one
-abbrev pub HasNext : ℕ → Type 0
-HasNext line = line < 2 ^ 32 - 1
-
-abbrev pub HasRoom : Corner → Type 0
-HasRoom (Cell row column) = HasNext row × HasNext column
-HasRoom (Column column) = HasNext column
-HasRoom (Row row) = HasNext row

@@ -1,6 +1,8 @@
 pub mod Column
+pub mod Quoted
 pub mod Title
 pub mod Area
+pub mod Room
 pub mod Range
 pub mod Canonical
 pub mod Capped

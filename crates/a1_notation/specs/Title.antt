@@ -1,27 +1,15 @@
 -- Titles of sheets in A1 notation (Google Sheets API v4, "A1 notation": single quotes stand around a
 -- title with spaces or special characters, and a quote inside them is doubled). A text is the list of
 -- its UTF-8 bytes: 39 is ', 33 is !, 95 is _.
-use Rattle.std.specs.Prelude.{◌≡◌, ℕ, ◌<◌, List, [], ◌∷◌, ◌++◌, Bool, false, not, ◌&&◌, ◌||◌, ◌⊎◌, ◌≢◌, length, slice_index, ◌==◌, if◌then◌else◌, IsTrue}
-use Rattle.std.specs.List.{list_all, flat_map}
+use Rattle.std.specs.Prelude.{◌≡◌, ℕ, ◌<◌, List, [], ◌∷◌, Bool, false, not, ◌&&◌, ◌||◌, ◌⊎◌, length, ◌==◌, if◌then◌else◌, IsTrue}
+use Rattle.std.specs.List.{list_all}
 use Rattle.std.specs.Char.{is_ascii_alphabetic, is_ascii_alphanumeric}
-
--- a character between quotes
-abbrev pub doubled_quote : ℕ → List ℕ
-doubled_quote c = if c == 39 then 39 ∷ 39 ∷ [] else c ∷ []
-
--- a title between quotes, with each ' in it doubled
-abbrev pub quoted : List ℕ → List ℕ
-quoted title = 39 ∷ flat_map doubled_quote title ++ 39 ∷ []
+use Rattle.a1_notation.specs.Quoted.{quoted}
 
 -- a title between quotes has a character
 pub record IsQuoted (text title : List ℕ) : Type 0 where
   pub some : 0 < length title
-  pub spelled : text ≡ quoted title
-
--- behind an opening ' stands this title, up to the closing ', and the rest behind that: no further '
-pub record IsUpToQuote (inside title rest : List ℕ) : Type 0 where
-  pub parts : inside ≡ flat_map doubled_quote title ++ 39 ∷ rest
-  pub closed : slice_index rest 0 ≢ 39
+  pub spelled : text ≡ quoted 39 title
 
 -- a character that needs no quotes around it when a text is read
 abbrev pub is_loose : ℕ → Bool
@@ -45,4 +33,4 @@ is_plain (c ∷ cs) =
 
 -- a title as it is printed
 abbrev pub printed_title : List ℕ → List ℕ
-printed_title title = if is_plain title then title else quoted title
+printed_title title = if is_plain title then title else quoted 39 title

@@ -1,4 +1,4 @@
-use cell_value::Text;
+use cell_value::{NoMemory, Text};
 use grid_range::Band;
 use std::alloc::AllocError;
 use std::error::Error;
@@ -53,6 +53,17 @@ impl From<AllocError> for A1Fault {
     ghost from_gives = { λ _ fault. fault ≡ NoMemory };
 
     fn from(_error: AllocError) -> A1Fault {
+        A1Fault::NoMemory
+    }
+}
+
+impl From<NoMemory> for A1Fault {
+    ghost use Rattle.std.specs.Prelude.{◌≡◌};
+    ghost use Rattle.a1_notation.specs.declared.a1.A1Fault.TheVariants as fault;
+
+    ghost from_gives = { λ _ given. given ≡ fault.NoMemory };
+
+    fn from(_error: NoMemory) -> A1Fault {
         A1Fault::NoMemory
     }
 }

@@ -1,7 +1,8 @@
 ghost use Rattle.std.specs.Prelude.{◌≡◌, ◌↔◌, ℕ, IfSome, IfNone, IfOk, OnErr, IsTrue};
 ghost use Rattle.grid_range.specs.declared.band.Band.{Band};
 ghost use Rattle.a1_notation.specs.Area.{IsArea, IsOneCell, IsBetween, area_between, lines_between};
-ghost use Rattle.a1_notation.specs.Capped.{IsCappedArea, IsCappedBetween, HasNext, HasRoom, ArePastZZZ};
+ghost use Rattle.a1_notation.specs.Room.{HasNext, HasRoom};
+ghost use Rattle.a1_notation.specs.Capped.{IsCappedArea, IsCappedBetween, ArePastZZZ};
 
 use crate::a1::A1Fault;
 use crate::column::COLUMNS;
@@ -61,8 +62,9 @@ fn read_cell(text: &str) -> Option<(Band, Band)>
     }
 }
 
-/// The rows and the columns between two corners, where the corners go together.
-fn area_between(one: Corner, other: Corner) -> Option<(Band, Band)>
+/// The rows and the columns between two corners; None where the corners don't go together: two cells, two
+/// columns or two rows do, and a cell before a column, whose rows have no end.
+pub fn area_between(one: Corner, other: Corner) -> Option<(Band, Band)>
     requires one { HasRoom one }
     requires other { HasRoom other }
     ensures { result ≡ area_between one other }

@@ -5,9 +5,9 @@ ghost use Rattle.std.specs.Char.{is_ascii_alphabetic};
 use crate::column::capped_column;
 use crate::row::read_row;
 
-/// What stands before or behind the colon of an area, or alone.
+/// What stands before or behind the colon of an area, or alone. Rows and columns are counted from 0.
 #[derive(Clone, Copy, Debug, PartialEq, Eq)]
-pub(crate) enum Corner {
+pub enum Corner {
     /// A row and a column.
     Cell(u32, u32),
     /// A column, with all its rows or without an end.

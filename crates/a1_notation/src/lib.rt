@@ -7,14 +7,19 @@ mod a1;
 mod area;
 mod column;
 mod corner;
+mod quoted;
 mod reading;
 mod row;
 mod title;
 mod writing;
 
 pub use a1::{A1, A1Fault, Part};
+pub use area::area_between;
 pub use column::{column_text, read_column};
+pub use corner::Corner;
+pub use quoted::read_quoted;
 pub use reading::read_a1;
+pub use row::read_row;
 pub use title::quote_name;
 pub use writing::write_a1;
 

@@ -5,7 +5,8 @@ ghost use Rattle.a1_notation.specs.Range.{Names, IsNotA1, IsPastZZZ, IsReading, 
 
 use crate::a1::{A1, A1Fault, Part};
 use crate::area::read_area;
-use crate::title::{is_loose, read_quoted};
+use crate::quoted::read_quoted;
+use crate::title::is_loose;
 use cell_value::Text;
 use std::alloc::Global;
 
@@ -44,7 +45,9 @@ pub fn read_a1(alloc: Global, text: &str) -> Result<A1, A1Fault>
 fn read_behind_quote(alloc: Global, inside: &str) -> Result<A1, A1Fault>
     ensures { IsReading (39 ∷ inside.now) result }
 {
-    let (title, behind) = read_quoted(alloc, inside)?;
+    let Some((title, behind)) = read_quoted(alloc, inside, '\'')? else {
+        return Err(A1Fault::NotA1);
+    };
     if title.is_empty() {
         return Err(A1Fault::NotA1);
     }

@@ -4,8 +4,9 @@ ghost use Rattle.a1_notation.specs.Area.{IsRow};
 /// The longest number of a row.
 const DIGITS: usize = 7;
 
-/// The row of a number from 1 to 9,999,999 that begins with another digit than 0.
-pub(crate) fn read_row(text: &str) -> Option<u32>
+/// The row that a number from 1 to 9,999,999 names, counted from 0; None where the text isn't one to
+/// seven ASCII digits, or begins with `0`.
+pub fn read_row(text: &str) -> Option<u32>
     ensures row { IfSome result (IsRow text.now) }
     ensures none { IfNone result ((row : ℕ) → ¬ (IsRow text.now row)) }
 {

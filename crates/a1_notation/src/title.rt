@@ -1,9 +1,9 @@
-ghost use Rattle.std.specs.Prelude.{◌≡◌, ◌≢◌, ◌↔◌, ℕ, ◌<◌, ◌==◌, ◌||◌, List, length, IfOk, IsTrue, string_bytes};
+ghost use Rattle.std.specs.Prelude.{◌≡◌, ◌↔◌, ◌<◌, ◌==◌, ◌||◌, length, IfOk, IsTrue, string_bytes};
 ghost use Rattle.std.specs.Char.{is_ascii_alphabetic, is_ascii_alphanumeric};
 ghost use Rattle.std.specs.List.{list_all};
-ghost use Rattle.a1_notation.specs.Title.{IsTitle, IsUpToQuote, IsLoose, is_loose, is_plain, printed_title, quoted};
+ghost use Rattle.a1_notation.specs.Quoted.{quoted};
+ghost use Rattle.a1_notation.specs.Title.{IsTitle, IsLoose, is_loose, is_plain, printed_title};
 
-use crate::a1::A1Fault;
 use cell_value::{NoMemory, Text};
 use std::alloc::Global;
 
@@ -51,7 +51,7 @@ fn are_word_bytes(bytes: &[u8]) -> bool
 
 /// A title in quotes, with each `'` doubled.
 fn quoted(alloc: Global, title: &str) -> Result<String, NoMemory>
-    ensures { IfOk result (λ text. string_bytes text ≡ quoted title.now) }
+    ensures { IfOk result (λ text. string_bytes text ≡ quoted 39 title.now) }
 {
     let mut text = String::from_str(alloc, "'")?;
     let mut rest = title;
@@ -63,33 +63,6 @@ fn quoted(alloc: Global, title: &str) -> Result<String, NoMemory>
     text.push_str(rest)?;
     text.push('\'')?;
     Ok(text)
-}
-
-/// What stands between quotes: the title behind an opening `'`, with each doubled `'` taken as one,
-/// and the rest behind the closing `'`.
-///
-/// # Errors
-///
-/// [`A1Fault::NotA1`] where there is no closing `'`, and [`A1Fault::NoMemory`] where memory runs out.
-pub(crate) fn read_quoted(alloc: Global, inside: &str) -> Result<(String, &str), A1Fault>
-    ensures title { IfOk result (λ found. IsUpToQuote inside.now (string_bytes found.0) found.1.now) }
-    ensures not_a1 { result ≡ Err A1Fault.NotA1 →
-        (title rest : List ℕ) → ¬ (IsUpToQuote inside.now title rest) }
-    ensures past_zzz { result ≢ Err A1Fault.PastZZZ }
-{
-    let mut title = String::new(alloc);
-    let mut rest = inside;
-    while let Some((plain, behind)) = rest.split_once('\'') {
-        title.push_str(plain)?;
-        match behind.strip_prefix('\'') {
-            None => return Ok((title, behind)),
-            Some(more) => {
-                title.push('\'')?;
-                rest = more;
-            }
-        }
-    }
-    Err(A1Fault::NotA1)
 }
 
 /// Whether a text stands for itself: one or more characters other than `'` and `!`.

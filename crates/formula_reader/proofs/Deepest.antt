@@ -5,11 +5,15 @@ use Rattle.formula_tokens.specs.declared.token.Token.TheVariants.{Reference, Els
 use Rattle.formula_tokens.specs.declared.token.Placed.{Placed}
 use Rattle.formula_reader.specs.Limits.{depth_behind, deepest}
 
-pub deepest_from : (n : ℕ) (tokens : List Placed) → n ≤ deepest n tokens
+-- how many are open behind a token at its place
+abbrev pub behind : Placed → ℕ → ℕ
+behind placed = depth_behind placed.token
+
+deepest_from : (n : ℕ) (tokens : List Placed) → n ≤ deepest behind n tokens
 deepest_from n [] = omega arith
 deepest_from n (placed ∷ later) = omega arith
 
-pub token_here : (tokens : List Placed) (i : ℕ) (placed : Placed) → i < length tokens → placed ≡ get_or tokens i placed
+token_here : (tokens : List Placed) (i : ℕ) (placed : Placed) → i < length tokens → placed ≡ get_or tokens i placed
     → drop i tokens ≡ placed ∷ drop (i + 1) tokens
 token_here tokens i placed less is =
     let next : i + 1 ≡ suc i = omega arith in
@@ -20,11 +24,11 @@ maxes most n d m x e less held = omega (arith, e, less, held)
 
 -- the token at this place is taken
 pub deepest_on : (n most i : ℕ) (tokens : List Placed) (placed : Placed) → n ≤ most → i < length tokens → placed ≡ get_or tokens i placed
-    → max (max most (depth_behind placed.token n)) (deepest (depth_behind placed.token n) (drop (i + 1) tokens))
-    ≡ max most (deepest n (drop i tokens))
+    → max (max most (depth_behind placed.token n)) (deepest behind (depth_behind placed.token n) (drop (i + 1) tokens))
+    ≡ max most (deepest behind n (drop i tokens))
 deepest_on n most i tokens placed held less is =
     rw (token_here tokens i placed less is)
-    (maxes most n (depth_behind placed.token n) (deepest (depth_behind placed.token n) (drop (i + 1) tokens)) (deepest n (placed ∷ drop (i + 1) tokens)) refl
+    (maxes most n (depth_behind placed.token n) (deepest behind (depth_behind placed.token n) (drop (i + 1) tokens)) (deepest behind n (placed ∷ drop (i + 1) tokens)) refl
     (deepest_from (depth_behind placed.token n) (drop (i + 1) tokens)) held)
 
 pub at_most_one_more : (token : Token) (n : ℕ) → depth_behind token n ≤ n + 1

@@ -10,3 +10,6 @@ pub mod Grammar
 pub mod Symbols
 pub mod Only
 pub mod Front
+pub mod Bytes
+pub mod ReadBack
+pub mod Changed

@@ -1,5 +1,5 @@
 -- The pieces of a formula text (the `formulaValue` of the Google Sheets API v4), from its tokens.
-use Rattle.std.specs.Prelude.{ℕ, ◌+◌, Bool, true, false, ◌&&◌, nat_lt, List, [], ◌∷◌, ◌++◌, drop, slice_range, Option, Some, None, Result, Ok, Err, if◌then◌else◌}
+use Rattle.std.specs.Prelude.{◌≡◌, ℕ, ◌+◌, Bool, true, false, ◌&&◌, nat_lt, List, [], ◌∷◌, ◌++◌, drop, slice_range, Option, Some, None, Result, Ok, Err, if◌then◌else◌}
 use Rattle.grid_range.specs.declared.area.Area.{Area}
 use Rattle.grid_range.specs.Band.{first_line}
 use Rattle.grid_range.specs.Area.{cut_area}
@@ -10,6 +10,7 @@ use Rattle.formula_tokens.specs.declared.token.Written.{Written}
 use Rattle.formula_tokens.specs.declared.token.Token.{Token}
 use Rattle.formula_tokens.specs.declared.token.Token.TheVariants.{Reference, Elsewhere, Function, Word, Truth, Number, Text, Lost, Operator, Open, Close, Comma}
 use Rattle.formula_tokens.specs.declared.token.Placed.{Placed}
+use Rattle.formula_tokens.specs.Tokens.{AreTokens}
 use Rattle.formula_reader.specs.declared.fault.FormulaFault.{FormulaFault}
 use Rattle.formula_reader.specs.Sheets.{Sheets}
 use Rattle.formula_reader.specs.Limits.{passed}
@@ -53,24 +54,28 @@ piece_of sheets here Open = None
 piece_of sheets here Close = None
 piece_of sheets here Comma = None
 
--- a text between two pieces; an empty one is none
-abbrev pub kept : List ℕ → List Piece
-kept [] = []
-kept (byte ∷ bytes) = piece.Text (byte ∷ bytes) ∷ []
+-- the piece of a text between two others; an empty one is none
+abbrev pub text_piece : List ℕ → List Piece
+text_piece [] = []
+text_piece (byte ∷ bytes) = piece.Text (byte ∷ bytes) ∷ []
 
 -- a piece behind the text before it, or what follows where there is no piece
 abbrev pub with_piece : Option Piece → List ℕ → List Piece → List Piece → List Piece
-with_piece (Some own) before behind on = kept before ++ own ∷ behind
+with_piece (Some own) before behind on = text_piece before ++ own ∷ behind
 with_piece None before behind on = on
 
 -- The pieces of a text with these tokens from a byte on: the pieces of the tokens, and what stands
 -- between them as it is. A token's place is counted behind the text's first byte, its =.
 abbrev pub pieces_from : Sheets → ℕ → List ℕ → ℕ → List Placed → List Piece
-pieces_from sheets here text from [] = kept (drop from text)
+pieces_from sheets here text from [] = text_piece (drop from text)
 pieces_from sheets here text from (placed ∷ later) =
     with_piece (piece_of sheets here placed.token) (slice_range text from (placed.start + 1))
     (pieces_from sheets here text (placed.end + 1) later)
     (pieces_from sheets here text from later)
+
+-- the tokens of a formula text, which begins with = (61): those of what is behind it
+abbrev pub AreTokensOf : List ℕ → List Placed → Type 0
+AreTokensOf text tokens = (behind : List ℕ) × (text ≡ 61 ∷ behind) × AreTokens behind 0 tokens
 
 -- a text that is one piece
 abbrev pub one_text : List ℕ → Formula

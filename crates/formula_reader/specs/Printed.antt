@@ -8,15 +8,15 @@ use Rattle.a1_notation.specs.Title.{printed_title}
 use Rattle.formula_reader.specs.Sheets.{Sheets, HasTitle}
 use Rattle.formula_reader.specs.ReferenceText.{reference_text, HasForm}
 
--- a sheet's title and ! (33)
-abbrev pub behind_title : Option (List ℕ) → List ℕ
-behind_title (Some title) = printed_title title ++ 33 ∷ []
-behind_title None = []
+-- a sheet's title and ! (33), which stand before a reference
+abbrev pub title_and_mark : Option (List ℕ) → List ℕ
+title_and_mark (Some title) = printed_title title ++ 33 ∷ []
+title_and_mark None = []
 
 -- what stands before a reference that is written with its sheet's title
 abbrev pub title_before : Sheets → Ref → List ℕ
 title_before sheets reference =
-    if reference.named then behind_title (sheets.title reference.area.sheet) else []
+    if reference.named then title_and_mark (sheets.title reference.area.sheet) else []
 
 -- the text of a piece; a lost reference is #REF!
 abbrev pub printed_piece : Sheets → Piece → List ℕ

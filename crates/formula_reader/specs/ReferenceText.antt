@@ -42,10 +42,13 @@ is_one_line Whole = false
 is_one_line (From start) = false
 is_one_line (Span start end) = start + 1 == end
 
+abbrev pub is_one_cell : Band → Band → Bool
+is_one_cell rows cols = is_one_line rows && is_one_line cols
+
 -- the first corner and the last with : (58) between them, or the only cell
 abbrev pub reference_text : Band → Band → Marks → List ℕ
 reference_text rows cols marks =
-    if is_one_line rows && is_one_line cols
+    if is_one_cell rows cols
     then first_column cols marks.col1 ++ first_row rows marks.row1
     else first_column cols marks.col1 ++ first_row rows marks.row1
     ++ 58 ∷ last_column cols marks.col2 ++ last_row rows marks.row2
@@ -71,12 +74,6 @@ AreColumnLines cols = AreLines 18278 cols
 
 -- the five forms: a cell or an area, columns, rows, and columns from a row on
 abbrev pub HasForm : Band → Band → Type 0
-HasForm (Span start end) (Span start' end') = AreRows start end × AreColumns start' end'
-HasForm Whole (Span start' end') = AreColumns start' end'
+HasForm rows (Span start end) = AreRowLines rows × AreColumns start end
 HasForm (Span start end) Whole = AreRows start end
-HasForm (From start) (Span start' end') = (start < 9999999) × AreColumns start' end'
-HasForm Whole Whole = ⊥
-HasForm Whole (From start') = ⊥
-HasForm (From start) Whole = ⊥
-HasForm (From start) (From start') = ⊥
-HasForm (Span start end) (From start') = ⊥
+HasForm _ _ = ⊥

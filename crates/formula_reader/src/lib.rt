@@ -3,6 +3,7 @@
 
 mod fault;
 mod grammar;
+mod laws;
 mod limits;
 mod names;
 mod pieces;
@@ -15,6 +16,7 @@ mod tree;
 pub use fault::FormulaFault;
 pub use formula_tokens::Operator;
 pub use grammar::tree_of;
+pub use laws::{changes_may_be, prints_the_same, stays_readable};
 pub use names::SheetNames;
 pub use printing::print_formula;
 pub use reading::read_formula;

@@ -1,6 +1,6 @@
 ghost use Rattle.std.specs.Prelude.{◌≡◌, ◌<◌, max};
 ghost use Rattle.std.specs.List.{count_by};
-ghost use Rattle.formula_reader.specs.Limits.{names_cells, depth_behind, deepest, passed};
+ghost use Rattle.formula_reader.specs.Limits.{is_reference_or_word, depth_behind, deepest, passed};
 
 use crate::fault::FormulaFault;
 use formula_tokens::{Placed, Token};
@@ -31,17 +31,17 @@ pub(crate) fn passed(tokens: &[Placed]) -> Option<FormulaFault>
 
 /// How many of the tokens are references or words.
 fn references(tokens: &[Placed]) -> usize
-    ensures { result ≡ count_by (λ placed. names_cells placed.token) tokens.now }
+    ensures { result ≡ count_by (λ placed. is_reference_or_word placed.token) tokens.now }
 {
     tokens
         .iter()
-        .filter(|placed| names_cells(&placed.token))
+        .filter(|placed| is_reference_or_word(&placed.token))
         .count()
 }
 
 /// Whether the token is a reference or a word.
-fn names_cells(token: &Token) -> bool
-    ensures { result ≡ names_cells token.now }
+fn is_reference_or_word(token: &Token) -> bool
+    ensures { result ≡ is_reference_or_word token.now }
 {
     match token {
         Token::Reference(_) | Token::Elsewhere(_, _) | Token::Word(_) => true,
@@ -59,7 +59,7 @@ fn names_cells(token: &Token) -> bool
 
 /// How many brackets are open at once at most.
 fn deepest(tokens: &[Placed]) -> usize
-    ensures { result ≡ deepest 0 tokens.now }
+    ensures { result ≡ deepest (λ placed. depth_behind placed.token) 0 tokens.now }
 {
     let mut depth = 0;
     let mut deepest = 0;

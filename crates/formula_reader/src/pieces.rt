@@ -1,7 +1,7 @@
 ghost use Rattle.std.specs.Prelude.{◌≡◌, ◌≤◌, ◌++◌, ◌+◌, List, IfOk, OnOk, slice_range, All};
 ghost use Rattle.grid_range.specs.Band.{IsNonEmpty};
 ghost use Rattle.formula_tokens.specs.Boundaries.{HasCells};
-ghost use Rattle.formula_reader.specs.Pieces.{area_on, reference_to, elsewhere, piece_of, kept, pieces_from};
+ghost use Rattle.formula_reader.specs.Pieces.{area_on, reference_to, elsewhere, piece_of, text_piece, pieces_from};
 ghost use Rattle.formula_reader.specs.Cuts.{Cuts};
 
 use crate::names::SheetNames;
@@ -37,7 +37,7 @@ pub(crate) fn pieces_of<S: SheetNames>(
 
 /// Puts a text behind the pieces, unless it is empty.
 fn push_text(alloc: Global, pieces: &mut Vec<Piece>, text: &str) -> Result<(), NoMemory>
-    ensures { OnOk result (pieces.new.items ≡ pieces.old.items ++ kept text.now) }
+    ensures { OnOk result (pieces.new.items ≡ pieces.old.items ++ text_piece text.now) }
 {
     if !text.is_empty() {
         pieces.push(Piece::Text(Text::of(String::from_str(alloc, text)?)))?;

@@ -1,6 +1,8 @@
-ghost use Rattle.std.specs.Prelude.{◌≡◌, ◌++◌, IfOk, OnOk, string_bytes};
+ghost use Rattle.std.specs.Prelude.{◌≡◌, ℕ, ◌++◌, IfOk, OnOk, string_bytes};
 ghost use Rattle.formula_reader.specs.ReferenceText.{reference_text, HasForm};
 ghost use Rattle.formula_reader.specs.Printed.{title_before, printed_piece, printed, IsPrintableReference, IsPrintable, ArePrintable};
+ghost use Rattle.formula_reader.specs.Bytes.{Spells};
+ghost use Rattle.formula_reader.specs.ReadBack.{IsReadable, IsReadAs, as_printed};
 
 use crate::names::SheetNames;
 use crate::reference_text::reference_text;
@@ -12,6 +14,7 @@ use std::alloc::Global;
 /// The text of a formula at the present sizes and titles: a reference as canonical A1 notation with
 /// its `$`s, behind its sheet's title where it was written with one, a lost one as `#REF!`, and the
 /// other pieces as they are (the `formulaValue` of the Google Sheets API v4; its A1 notation guide).
+/// Each byte of a piece that is no reference stands in the text, in the pieces' order.
 ///
 /// # Errors
 ///
@@ -22,7 +25,10 @@ pub fn print_formula<S: SheetNames>(
     names: &S,
 ) -> Result<Text, NoMemory>
     requires { ArePrintable (S.sheets names.now) formula.now.pieces }
-    ensures { IfOk result (λ text. text ≡ printed (S.sheets names.now) formula.now.pieces) }
+    ensures printed { IfOk result (λ text. text ≡ printed (S.sheets names.now) formula.now.pieces) }
+    ensures bytes { IfOk result (λ text. Spells text formula.now.pieces) }
+    ensures again { IfOk result (λ text. (here : ℕ) → IsReadable (S.sheets names.now) here formula.now
+        → IsReadAs (S.sheets names.now) here text (as_printed formula.now)) }
 {
     let mut text = String::new(alloc);
     for piece in formula.pieces.as_slice() {

@@ -1,8 +1,12 @@
-ghost use Rattle.std.specs.Prelude.{◌≡◌, ◌⊎◌, ℕ, List, ◌∷◌, Ok, Err, IfOk};
+ghost use Rattle.std.specs.Prelude.{◌≡◌, ◌⊎◌, List, Ok, Err, IfOk, All};
 ghost use Rattle.formula_tokens.specs.declared.token.Placed.{Placed};
-ghost use Rattle.formula_tokens.specs.Tokens.{AreTokens};
-ghost use Rattle.formula_reader.specs.Pieces.{one_text, formula_of};
+ghost use Rattle.formula_reader.specs.Pieces.{AreTokensOf, one_text, formula_of};
 ghost use Rattle.formula_reader.specs.Cuts.{Cuts};
+ghost use Rattle.formula_reader.specs.Bytes.{Spells};
+ghost use Rattle.formula_reader.specs.Symbols.{IsTreeOf};
+ghost use Rattle.formula_reader.specs.Tree.{Expression};
+ghost use Rattle.formula_reader.specs.Printed.{ArePrintable};
+ghost use Rattle.formula_reader.specs.ReadBack.{AreKnown, IsPresent, IsReadable};
 
 use crate::fault::FormulaFault;
 use crate::limits::passed;
@@ -17,21 +21,31 @@ use std::alloc::Global;
 /// references to cells that are there, lost references, words, and what stands between them as typed.
 /// A text that doesn't begin with `=`, and one at one of whose places no token fits, is one piece.
 ///
+/// Each byte of the text outside its references stands in a piece, in the text's order. In a reference's
+/// place stands a reference's text, and in a lost one's such a text or `#REF!`. Where each sheet has a
+/// title that names it, the formula can be printed, and if it has a tree, what is printed is read again
+/// as the same formula, with the `$`s that are printed ([`print_formula`](crate::print_formula)).
+///
 /// # Errors
 ///
 /// [`FormulaFault::Tokens`], [`FormulaFault::References`] and [`FormulaFault::Depth`], exactly where
-/// the text has more than 512 tokens, more than 64 references and words, or more than 32 brackets
-/// open at once, and none of those before comes; [`FormulaFault::NoMemory`] where memory runs out.
+/// the text has more than 512 tokens, more than 64 references and words (names of functions, truth
+/// values and `#REF!` aside), or more than 32 brackets open at once, and none of those before comes; [`FormulaFault::NoMemory`] where memory runs out.
 pub fn read_formula<S: SheetNames>(
     alloc: Global,
     text: &str,
     names: &S,
     here: u32,
 ) -> Result<Formula, FormulaFault>
-    ensures tokens { (behind : List ℕ) (tokens : List Placed) → text.now ≡ 61 ∷ behind → AreTokens behind 0 tokens
+    ensures tokens { (tokens : List Placed) → AreTokensOf text.now tokens
         → (result ≡ formula_of (S.sheets names.now) here text.now tokens) ⊎ (result ≡ Err FormulaFault.NoMemory) }
-    ensures text { ((behind : List ℕ) (tokens : List Placed) → text.now ≡ 61 ∷ behind → ¬ (AreTokens behind 0 tokens))
+    ensures text { ((tokens : List Placed) → ¬ (AreTokensOf text.now tokens))
         → (result ≡ Ok (one_text text.now)) ⊎ (result ≡ Err FormulaFault.NoMemory) }
+    ensures bytes { IfOk result (λ formula. Spells text.now formula.pieces) }
+    ensures references { IfOk result (λ formula. AreKnown (S.sheets names.now) here
+        → ArePrintable (S.sheets names.now) formula.pieces × All (IsPresent (S.sheets names.now) here) formula.pieces) }
+    ensures again { IfOk result (λ formula. AreKnown (S.sheets names.now) here → (tree : Expression) → IsTreeOf formula tree
+        → IsReadable (S.sheets names.now) here formula) }
 {
     match text.strip_prefix('=') {
         Some(behind) => match tokens_of(alloc, behind)? {

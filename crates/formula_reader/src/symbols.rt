@@ -11,8 +11,7 @@ use formula_tokens::{Operator, Token};
 use grid_range::Area;
 pub(crate) use pieces::symbols_of_formula;
 
-/// A symbol of a formula: what stands between blanks in its text, where a reference is the cells
-/// that it names.
+/// A token of a formula, where a reference is the cells that it names.
 #[derive(Debug, Drop)]
 pub(crate) enum Symbol {
     /// A whole number within 2^53.

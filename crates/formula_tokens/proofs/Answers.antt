@@ -1,6 +1,6 @@
 -- What a reader's answer says of whatever else stands at the front of the text.
 use Rattle.std.proofs.Common.{◌≡◌, ℕ, List, ap}
-use Rattle.std.specs.Prelude.{Some, None}
+use Rattle.std.specs.Prelude.{Option, Some, None, IfNone}
 use Rattle.formula_tokens.specs.Reading.{Stands, Reads}
 
 pub same_pair : {X Y : Type 0} (p q : X × Y) → Some p ≡ Some q → (p.0 ≡ q.0) × (p.1 ≡ q.1)
@@ -18,3 +18,8 @@ pub none_read : {X : Type 0} {grammar : List ℕ → X → List ℕ → Type 0} 
     → Reads grammar text None → Stands grammar text v r → ⊥
 none_read {X} {grammar} {text} {v} {r} reads stands =
     let none = reads.only v r stands in cc
+
+-- what a None says implies more
+pub none_says : {X : Type 0} (answer : Option X) (P Q : Type 0) → (P → Q) → IfNone answer P → IfNone answer Q
+none_says None P Q more none = more none
+none_says (Some value) P Q more none = none

@@ -7,6 +7,7 @@ use Rattle.std.proofs.lemmas.Bool.{and_parts, false≢true}
 use Rattle.std.proofs.lemmas.Bool.Decides.{nat_tests}
 use Rattle.a1_notation.specs.Column.{IsColumn}
 use Rattle.a1_notation.specs.Area.{IsRow}
+use Rattle.a1_notation.proofs.Corners.{digit_no_letter}
 use Rattle.formula_tokens.specs.declared.corner.Coordinate.{Coordinate}
 use Rattle.formula_tokens.specs.declared.corner.Corner.{Corner}
 use Rattle.formula_tokens.specs.declared.corner.Corner.TheVariants.{Cell, Column, Row}
@@ -18,10 +19,7 @@ use Rattle.formula_tokens.specs.Reading.{Stands, Reads}
 use Rattle.formula_tokens.proofs.Answers.{one_read, none_read}
 use Rattle.formula_tokens.proofs.Marks.{letters_all, letters_some, digits_all, digits_some, marked-append}
 
--- a letter isn't a digit, and what doesn't go on with a corner is none of them
-digit_no_letter : (b : ℕ) → is_ascii_digit b ≡ true → is_ascii_alphabetic b ≡ false
-digit_no_letter b h = grind (arith, nat_tests)
-
+-- what doesn't go on with a corner is no letter and no digit
 alone_no_letter : (b : ℕ) → is_joined b ≡ false → is_ascii_alphabetic b ≡ false
 alone_no_letter b h = grind (arith, nat_tests)
 
@@ -80,7 +78,7 @@ NoRow text = (row : Coordinate) (rest : List ℕ) → ¬ (Stands IsWholeRow text
 abbrev pub NoColumn : List ℕ → Type 0
 NoColumn text = (column : Coordinate) (rest : List ℕ) → ¬ (Stands IsWholeColumn text column rest)
 
-cell_parts : (text : List ℕ) (row column : Coordinate) (rest : List ℕ)
+pub cell_parts : (text : List ℕ) (row column : Coordinate) (rest : List ℕ)
     → Stands IsStandingCorner text (Cell row column) rest
     → (behind : List ℕ) × Stands IsWholeColumn text column behind × Stands IsWholeRow behind row rest
 cell_parts text row column rest stands =
@@ -101,7 +99,7 @@ cell_parts text row column rest stands =
       },
     )
 
-column_parts : (text : List ℕ) (column : Coordinate) (rest : List ℕ)
+pub column_parts : (text : List ℕ) (column : Coordinate) (rest : List ℕ)
     → Stands IsStandingCorner text (Column column) rest
     → Stands IsWholeColumn text column rest × NoRow rest
 column_parts text column rest stands = (
@@ -117,7 +115,7 @@ column_parts text column rest stands = (
       ∙ (row_begins other.lexeme row behind other.is.marked).1),
 )
 
-row_parts : (text : List ℕ) (row : Coordinate) (rest : List ℕ)
+pub row_parts : (text : List ℕ) (row : Coordinate) (rest : List ℕ)
     → Stands IsStandingCorner text (Row row) rest
     → Stands IsWholeRow text row rest × NoColumn text
 row_parts text row rest stands = (

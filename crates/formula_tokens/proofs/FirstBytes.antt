@@ -1,15 +1,14 @@
 -- Tokens that begin with a quote, and those that begin with no word and no quote.
 use Rattle.std.proofs.Common.{◌≡◌, ℕ, ◌<◌, true, false, List, [], ◌∷◌, ◌++◌, length, refl, sym, ap, ◌∙◌, arith, inl, inr, subst, append_assoc}
 use Rattle.std.specs.Prelude.{Option, Some, None}
-use Rattle.std.specs.List.{flat_map}
 use Rattle.std.proofs.lemmas.Bool.{false≢true}
-use Rattle.a1_notation.specs.Title.{doubled_quote}
+use Rattle.a1_notation.specs.Quoted.{quoted, IsUpToQuote}
+use Rattle.a1_notation.proofs.Quotes.{up_to_quote_unique, behind_opening, with_opening}
 use Rattle.formula_tokens.specs.declared.token.Token.{Token}
 use Rattle.formula_tokens.specs.declared.token.Token.TheVariants.{Elsewhere, Reference, Text}
 use Rattle.formula_tokens.specs.declared.token.Written.{Written}
 use Rattle.formula_tokens.specs.Run.{begins}
 use Rattle.formula_tokens.specs.Word.{begins_word}
-use Rattle.formula_tokens.specs.Quoted.{IsUpToQuote}
 use Rattle.formula_tokens.specs.Parts.{is_quote, is_double_quote}
 use Rattle.formula_tokens.specs.Reference.{IsReference}
 use Rattle.formula_tokens.specs.Form.{IsBehindTitle, IsTitleBefore, Fits, Titled, FunctionName, OwnReference, AnyWord, Digits, Quoted}
@@ -24,28 +23,23 @@ use Rattle.formula_tokens.proofs.Titles.{own_reference, no_own_reference}
 module _ (inside : List ℕ) where
   abbrev pub QuotedParts : Token → List ℕ → Type 0
   QuotedParts token rest = (title : List ℕ) × (behind : List ℕ) × (w : Written)
-      × Stands (IsUpToQuote 39) inside title behind × (0 < length title)
+      × IsUpToQuote 39 inside title behind × (0 < length title)
       × Stands IsBehindTitle behind w rest × (token ≡ Elsewhere title w)
 
   quoted_title : (sheet title behind rest : List ℕ) (w : Written) (token : Token)
       → IsTitleBefore sheet title (behind ++ rest) → 39 ∷ inside ≡ sheet ++ behind ++ rest
       → IsBehindTitle behind w rest → token ≡ Elsewhere title w → QuotedParts token rest
-  quoted_title sheet title behind rest w token (inl quoted) e is token_is =
-      let both : 39 ∷ inside ≡ 39 ∷ (flat_map doubled_quote title ++ 39 ∷ [] ++ behind ++ rest) =
-      e ∙ ap (λ t. t ++ behind ++ rest) quoted.spelled in
-      let same : inside ≡ flat_map doubled_quote title ++ 39 ∷ [] ++ behind ++ rest = cc in (
-        title,
-        behind ++ rest,
-        w,
-        record {
-          lexeme = flat_map doubled_quote title ++ 39 ∷ [];
-          spelled = same ∙ append_assoc (flat_map doubled_quote title ++ 39 ∷ []) behind rest;
-          is = record { spelled = refl; closed = rw is.spelled (λ e. absurd (omega arith)) };
-        },
-        quoted.some,
-        record { lexeme = behind; spelled = refl; is = is },
-        token_is,
-      )
+  quoted_title sheet title behind rest w token (inl in_quotes) e is token_is = (
+    title,
+    behind ++ rest,
+    w,
+    behind_opening 39 inside title (behind ++ rest)
+        (e ∙ ap (λ t. t ++ behind ++ rest) in_quotes.spelled ∙ append_assoc (quoted 39 title) behind rest)
+        (rw is.spelled (λ e. absurd (omega arith))),
+    in_quotes.some,
+    record { lexeme = behind; spelled = refl; is = is },
+    token_is,
+  )
   quoted_title sheet title behind rest w token (inr named) e is token_is = absurd (no_word sheet named.0.first e)
     where
       no_word : (sheet : List ℕ) → begins begins_word sheet ≡ true → 39 ∷ inside ≡ sheet ++ behind ++ rest → ⊥
@@ -66,47 +60,71 @@ module _ (inside : List ℕ) where
       pass_over Titled behind_titled (39 ∷ inside) None none
       (none_starts behind_titled (39 ∷ inside) refl)
 
-  pub unclosed_title : Reads (IsUpToQuote 39) inside None → Reads (FitsFirst forms) (39 ∷ inside) None
-  unclosed_title none = no_other (λ lexeme token rest e is.
-      none_read none (quoted_parts token rest (record { lexeme = lexeme; spelled = e; is = is })).3)
+  -- where no title is closed, no reference to another sheet stands there
+  pub untitled_unclosed : ((title behind : List ℕ) → ¬ (IsUpToQuote 39 inside title behind)) → FitsNowhere Titled (39 ∷ inside)
+  untitled_unclosed none lexeme token rest e is =
+      let parts = quoted_parts token rest (record { lexeme = lexeme; spelled = e; is = is }) in
+      none parts.0 parts.1 parts.3
 
-  module _ (title behind : List ℕ) (reads : Reads (IsUpToQuote 39) inside (Some (title, behind))) where
-    pub empty_title : length title ≡ 0 → Reads (FitsFirst forms) (39 ∷ inside) None
-    empty_title empty = no_other (λ lexeme token rest e is.
+  pub unclosed_title : ((title behind : List ℕ) → ¬ (IsUpToQuote 39 inside title behind))
+      → Reads (FitsFirst forms) (39 ∷ inside) None
+  unclosed_title none = no_other (untitled_unclosed none)
+
+  module _ (title behind : List ℕ) (title_is : IsUpToQuote 39 inside title behind) where
+    -- the title and what stands behind it are the ones that were read
+    same_title : (token : Token) (rest : List ℕ) (parts : QuotedParts token rest)
+        → (title ≡ parts.0) × (behind ≡ parts.1)
+    same_title token rest parts = up_to_quote_unique 39 inside title behind parts.0 parts.1 title_is parts.3
+
+    -- nor where it is empty, and where no reference stands behind it
+    pub untitled_empty : length title ≡ 0 → FitsNowhere Titled (39 ∷ inside)
+    untitled_empty empty lexeme token rest e is =
         let parts = quoted_parts token rest (record { lexeme = lexeme; spelled = e; is = is }) in
-        let same = one_read reads parts.3 in
-        absurd (omega (arith, ap length same.0, parts.4)))
+        absurd (omega (arith, ap length (same_title token rest parts).0, parts.4))
+
+    pub untitled_behind : Reads IsBehindTitle behind None → FitsNowhere Titled (39 ∷ inside)
+    untitled_behind none lexeme token rest e is =
+        let parts = quoted_parts token rest (record { lexeme = lexeme; spelled = e; is = is }) in
+        let same = same_title token rest parts in
+        none_read none (subst (λ (t : List ℕ). Stands IsBehindTitle t parts.2 rest) (sym same.1) parts.5)
+
+    pub empty_title : length title ≡ 0 → Reads (FitsFirst forms) (39 ∷ inside) None
+    empty_title empty = no_other (untitled_empty empty)
 
     pub no_reference_behind : Reads IsBehindTitle behind None → Reads (FitsFirst forms) (39 ∷ inside) None
-    no_reference_behind none = no_other (λ lexeme token rest e is.
-        let parts = quoted_parts token rest (record { lexeme = lexeme; spelled = e; is = is }) in
-        let same = one_read reads parts.3 in
-        none_read none (subst (λ (t : List ℕ). Stands IsBehindTitle t parts.2 rest) (sym same.1) parts.5))
+    no_reference_behind none = no_other (untitled_behind none)
 
-    pub quoted_title_read : 0 < length title → (w : Written) (rest : List ℕ)
-        → Reads IsBehindTitle behind (Some (w, rest)) → Reads (FitsFirst forms) (39 ∷ inside) (Some (Elsewhere title w, rest))
-    quoted_title_read some w rest reference = fits_here Titled behind_titled (39 ∷ inside) (Elsewhere title w, rest) (record {
+    -- else one does
+    pub quoted_title_here : 0 < length title → (w : Written) (rest : List ℕ)
+        → Reads IsBehindTitle behind (Some (w, rest)) → Reads (Fits Titled) (39 ∷ inside) (Some (Elsewhere title w, rest))
+    quoted_title_here some w rest reference = record {
       found = record {
-        lexeme = 39 ∷ reads.found.lexeme ++ reference.found.lexeme;
-        spelled = ap (λ t. 39 ∷ t) (reads.found.spelled ∙ ap (λ t. reads.found.lexeme ++ t) reference.found.spelled
-            ∙ sym (append_assoc reads.found.lexeme reference.found.lexeme rest));
+        lexeme = quoted 39 title ++ reference.found.lexeme;
+        spelled = with_opening 39 inside title behind title_is
+            ∙ ap (λ t. quoted 39 title ++ t) reference.found.spelled
+            ∙ sym (append_assoc (quoted 39 title) reference.found.lexeme rest);
         is = record {
-          sheet = 39 ∷ reads.found.lexeme;
+          sheet = quoted 39 title;
           title = title;
           behind = reference.found.lexeme;
           written = w;
           spelled = refl;
-          title_is = inl (record { some = some; spelled = ap (λ t. 39 ∷ t) reads.found.is.spelled });
+          title_is = inl (record { some = some; spelled = refl });
           reference = reference.found.is;
           token_is = refl;
         };
       };
       only = λ token rest' stands.
           let parts = quoted_parts token rest' stands in
-          let same = one_read reads parts.3 in
+          let same = same_title token rest' parts in
           let two = one_read reference (subst (λ (t : List ℕ). Stands IsBehindTitle t parts.2 rest') (sym same.1) parts.5) in
           rw (parts.6, same.0, two.0, two.1) refl;
-    })
+    }
+
+    pub quoted_title_read : 0 < length title → (w : Written) (rest : List ℕ)
+        → Reads IsBehindTitle behind (Some (w, rest)) → Reads (FitsFirst forms) (39 ∷ inside) (Some (Elsewhere title w, rest))
+    quoted_title_read some w rest reference =
+        fits_here Titled behind_titled (39 ∷ inside) (Elsewhere title w, rest) (quoted_title_here some w rest reference)
 
   -- a text, from behind its first "
   no_text_before : (answer : Option (Token × List ℕ))
@@ -119,33 +137,40 @@ module _ (inside : List ℕ) where
       (pass_over Digits behind_digits _ _ (cannot_start Digits (34 ∷ inside) refl) reads))))
 
   text_inside : (token : Token) (rest : List ℕ) → Stands (Fits Quoted) (34 ∷ inside) token rest
-      → (text : List ℕ) × Stands (IsUpToQuote 34) inside text rest × (token ≡ Text text)
+      → (text : List ℕ) × IsUpToQuote 34 inside text rest × (token ≡ Text text)
   text_inside token rest stands =
       let is = stands.is in
-      let both : 34 ∷ inside ≡ 34 ∷ (is.inside ++ rest) = stands.spelled ∙ ap (λ t. t ++ rest) is.spelled in
-      let same : inside ≡ is.inside ++ rest = cc in
-      (is.text, record { lexeme = is.inside; spelled = same; is = is.closed }, is.token_is)
+      (is.text, behind_opening 34 inside is.text rest (stands.spelled ∙ ap (λ t. t ++ rest) is.spelled) is.closed, is.token_is)
 
-  pub unclosed_text : Reads (IsUpToQuote 34) inside None → Reads (FitsFirst forms) (34 ∷ inside) None
+  -- a text stands there where it is closed
+  pub no_text_here : ((text rest : List ℕ) → ¬ (IsUpToQuote 34 inside text rest)) → FitsNowhere Quoted (34 ∷ inside)
+  no_text_here none lexeme token rest e is =
+      let parts = text_inside token rest (record { lexeme = lexeme; spelled = e; is = is }) in
+      none parts.0 rest parts.1
+
+  pub unclosed_text : ((text rest : List ℕ) → ¬ (IsUpToQuote 34 inside text rest))
+      → Reads (FitsFirst forms) (34 ∷ inside) None
   unclosed_text none = no_text_before None
-      (pass_over Quoted signs (34 ∷ inside) None
-      (λ lexeme token rest e is. none_read none (text_inside token rest (record { lexeme = lexeme; spelled = e; is = is })).1)
+      (pass_over Quoted signs (34 ∷ inside) None (no_text_here none)
       (none_starts signs (34 ∷ inside) refl))
 
-  pub text_read : (text rest : List ℕ) → Reads (IsUpToQuote 34) inside (Some (text, rest))
-      → Reads (FitsFirst forms) (34 ∷ inside) (Some (Text text, rest))
-  text_read text rest reads = no_text_before (Some (Text text, rest))
-      (fits_here Quoted signs (34 ∷ inside) (Text text, rest) (record {
-        found = record {
-          lexeme = 34 ∷ reads.found.lexeme;
-          spelled = ap (λ t. 34 ∷ t) reads.found.spelled;
-          is = record { inside = reads.found.lexeme; text = text; spelled = refl; closed = reads.found.is; token_is = refl };
-        };
-        only = λ token rest' stands.
-            let parts = text_inside token rest' stands in
-            let same = one_read reads parts.1 in
-            rw (parts.2, same.0, same.1) refl;
-      }))
+  module _ (text rest : List ℕ) (text_is : IsUpToQuote 34 inside text rest) where
+    pub text_here : Reads (Fits Quoted) (34 ∷ inside) (Some (Text text, rest))
+    text_here = record {
+      found = record {
+        lexeme = quoted 34 text;
+        spelled = with_opening 34 inside text rest text_is;
+        is = record { text = text; spelled = refl; closed = text_is.closed; token_is = refl };
+      };
+      only = λ token rest' stands.
+          let parts = text_inside token rest' stands in
+          let same = up_to_quote_unique 34 inside text rest parts.0 rest' text_is parts.1 in
+          rw (parts.2, same.0, same.1) refl;
+    }
+
+    pub text_read : Reads (FitsFirst forms) (34 ∷ inside) (Some (Text text, rest))
+    text_read = no_text_before (Some (Text text, rest))
+        (fits_here Quoted signs (34 ∷ inside) (Text text, rest) text_here)
 
 -- what begins with no word and no quote
 titled_needs : (b : ℕ) → begins_word b ≡ false → is_quote b ≡ false → starts_titled b ≡ false

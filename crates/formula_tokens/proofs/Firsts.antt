@@ -1,10 +1,11 @@
 -- The first of several forms that fits.
-use Rattle.std.proofs.Common.{◌≡◌, ℕ, List, [], ◌∷◌, ◌++◌, refl, sym, ◌∙◌, inl, inr, subst}
+use Rattle.std.proofs.Common.{◌≡◌, ◌≢◌, ℕ, List, [], ◌∷◌, ◌++◌, refl, sym, ap, ◌∙◌, inl, inr, subst}
 use Rattle.std.specs.Prelude.{Option, Some, None, IfSome}
 use Rattle.std.specs.Option.{option_or}
+use Rattle.std.proofs.lemmas.List.{append_cancel_left}
 use denote.Ref.{Bor}
 use Rattle.formula_tokens.specs.declared.token.Token.{Token}
-use Rattle.formula_tokens.specs.Form.{Form, Fits, FunctionName, OwnReference, AnyWord, Digits, Quoted}
+use Rattle.formula_tokens.specs.Form.{Form, Fits, FunctionName, OwnReference, AnyWord, Digits, Quoted, Sign}
 use Rattle.formula_tokens.specs.Tokens.{FitsNowhere, FitsFirst, signs}
 use Rattle.formula_tokens.specs.Reading.{Stands, Reads, seen}
 use Rattle.formula_tokens.proofs.Answers.{none_read}
@@ -29,6 +30,12 @@ behind_titled = FunctionName ∷ behind_function
 pub nothing_fits : (form : Form) (text : List ℕ) → Reads (Fits form) text None → FitsNowhere form text
 nothing_fits form text none lexeme token rest e is =
     none_read none (record { lexeme = lexeme; spelled = e; is = is })
+
+pub reads_nothing : (form : Form) (text : List ℕ) → FitsNowhere form text → Reads (Fits form) text None
+reads_nothing form text none = record {
+  found = tt;
+  only = λ token rest stands. absurd (none stands.lexeme token rest stands.spelled stands.is);
+}
 
 nowhere_at : (form : Form) (text other : List ℕ) → text ≡ other → FitsNowhere form text → FitsNowhere form other
 nowhere_at form text other e none = subst (λ (t : List ℕ). FitsNowhere form t) e none
@@ -68,6 +75,23 @@ fits_here form later text read reads = record {
 
 pub nothing_first : (text : List ℕ) → Reads (FitsFirst []) text None
 nothing_first text = record { found = tt; only = λ token rest stands. absurd stands.is }
+
+-- a spelling that the text begins with is the sign, and there is none where it doesn't
+pub sign_read : (spelling : List ℕ) (sign : Token) (text rest : List ℕ) → text ≡ spelling ++ rest
+    → Reads (Fits (Sign spelling sign)) text (Some (sign, rest))
+sign_read spelling sign text rest e = record {
+  found = record { lexeme = spelling; spelled = e; is = (refl, refl) };
+  only = λ token rest' stands.
+      let same = append_cancel_left spelling rest rest' (sym e ∙ stands.spelled ∙ ap (λ t. t ++ rest') stands.is.0) in
+      rw (stands.is.1, same) refl;
+}
+
+pub no_sign : (spelling : List ℕ) (sign : Token) (text : List ℕ) → ((rest : List ℕ) → text ≢ spelling ++ rest)
+    → Reads (Fits (Sign spelling sign)) text None
+no_sign spelling sign text none = record {
+  found = tt;
+  only = λ token rest stands. absurd (none rest (stands.spelled ∙ ap (λ t. t ++ rest) stands.is.0));
+}
 
 -- one answer after another
 pub or_first : (form : Form) (later : List Form) (text : List ℕ) (a b : Option (Token × Bor (List ℕ)))

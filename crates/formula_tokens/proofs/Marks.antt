@@ -1,16 +1,16 @@
 -- Columns and rows with a $ before them or without one.
-use Rattle.std.proofs.Common.{◌≡◌, ℕ, ◌<◌, Bool, true, false, List, [], ◌∷◌, ◌++◌, length, refl, sym, ap, ◌∙◌, arith, subst}
+use Rattle.std.proofs.Common.{◌≡◌, ℕ, ◌<◌, Bool, true, false, List, [], ◌∷◌, ◌++◌, length, refl, sym, ap, ◌∙◌, arith, subst, append-nil}
 use Rattle.std.specs.Prelude.{Some, None}
 use Rattle.std.specs.List.{list_all}
-use Rattle.std.specs.Char.{is_ascii_alphabetic, is_ascii_digit, digit_value}
-use Rattle.std.specs.Str.Parse.{AllDigits}
-use Rattle.std.proofs.lemmas.Bool.{and_parts, and_from, false≢true}
+use Rattle.std.specs.Char.{is_ascii_alphabetic, is_ascii_digit}
+use Rattle.std.proofs.lemmas.Bool.{and_parts, false≢true}
 use Rattle.std.proofs.lemmas.Bool.Decides.{nat_tests}
 use Rattle.a1_notation.specs.Column.{IsColumn}
 use Rattle.a1_notation.specs.Area.{IsRow}
+use Rattle.a1_notation.proofs.Rows.{all_digits}
 use Rattle.formula_tokens.specs.declared.corner.Coordinate.{Coordinate}
 use Rattle.formula_tokens.specs.Run.{begins, IsRun}
-use Rattle.formula_tokens.specs.Corner.{marked_text}
+use Rattle.formula_tokens.specs.Corner.{marked_text, IsMarked, IsMarkedColumn, IsMarkedRow}
 use Rattle.formula_tokens.specs.Parts.{is_dollar, IsWhole}
 use Rattle.formula_tokens.specs.Reading.{Reads}
 use Rattle.formula_tokens.proofs.Runs.{one_run}
@@ -36,6 +36,13 @@ begins-append : (class other : ℕ → Bool) (name rest : List ℕ) → ((b : �
     → 0 < length name → list_all class name ≡ true → begins other (name ++ rest) ≡ false
 begins-append class other [] rest apart some all = absurd (omega arith)
 begins-append class other (x ∷ xs) rest apart some all = apart x (and_parts (class x) (list_all class xs) all).0
+
+-- and whether it does is told by the mark before a name
+pub mark_is : (class : ℕ → Bool) (m : Bool) (name rest text : List ℕ) → ((b : ℕ) → class b ≡ true → is_dollar b ≡ false)
+    → 0 < length name → list_all class name ≡ true → text ≡ marked_text m (name ++ rest) → m ≡ begins is_dollar text
+mark_is class true name rest text apart some all e = rw e refl
+mark_is class false name rest text apart some all e =
+    rw e (sym (begins-append class is_dollar name rest apart some all))
 
 -- what is said here of columns and of rows: a name is one or more bytes of a class that has no $
 module _ (class : ℕ → Bool) (IsName : List ℕ → ℕ → Type 0)
@@ -92,13 +99,6 @@ letter_no_dollar b h = grind (arith, nat_tests)
 pub one_column : (name : List ℕ) (m n : ℕ) → IsColumn 3 name m → IsColumn 3 name n → m ≡ n
 one_column name m n a b = omega (arith, a.value, b.value)
 
-digit_is_digit : (b : ℕ) → digit_value b < 10 → is_ascii_digit b ≡ true
-digit_is_digit b h = grind (arith, nat_tests)
-
-pub all_digits : (name : List ℕ) → AllDigits 10 name → list_all is_ascii_digit name ≡ true
-all_digits [] all = refl
-all_digits (d ∷ ds) all = and_from (is_ascii_digit d) (list_all is_ascii_digit ds) (digit_is_digit d all.0) (all_digits ds all.1)
-
 pub digits_all : (name : List ℕ) (n : ℕ) → IsRow name n → list_all is_ascii_digit name ≡ true
 digits_all name n is = all_digits name is.digits.1
 
@@ -110,3 +110,25 @@ digit_no_dollar b h = grind (arith, nat_tests)
 
 pub one_row : (name : List ℕ) (m n : ℕ) → IsRow name m → IsRow name n → m ≡ n
 one_row name m n a b = omega (arith, a.value, b.value)
+
+-- what stands behind the mark is the name
+module _ (class : ℕ → Bool) (IsName : List ℕ → ℕ → Type 0)
+    (all_of : (name : List ℕ) (n : ℕ) → IsName name n → list_all class name ≡ true)
+    (some_of : (name : List ℕ) (n : ℕ) → IsName name n → 0 < length name)
+    (no_dollar : (b : ℕ) → class b ≡ true → is_dollar b ≡ false) where
+  pub not_marked : (text behind : List ℕ) (m : Bool) → m ≡ begins is_dollar text → text ≡ marked_text m behind
+      → ((line : ℕ) → ¬ (IsName behind line)) → (value : Coordinate) → ¬ (IsMarked IsName text value)
+  not_marked text behind m mark whole none value is =
+      let all = all_of is.name value.line is.name_is in
+      let some = some_of is.name value.line is.name_is in
+      let undollared : begins is_dollar is.name ≡ false = rw (append-nil is.name) at (begins-append class is_dollar is.name [] no_dollar some all) in
+      let same = one_mark m value.marked behind is.name text mark whole is.spelled undollared in
+      none value.line (subst (λ (n : List ℕ). IsName n value.line) (sym same.1) is.name_is)
+
+pub not_column : (text behind : List ℕ) (m : Bool) → m ≡ begins is_dollar text → text ≡ marked_text m behind
+    → ((line : ℕ) → ¬ (IsColumn 3 behind line)) → (value : Coordinate) → ¬ (IsMarkedColumn text value)
+not_column = not_marked is_ascii_alphabetic (IsColumn 3) letters_all letters_some letter_no_dollar
+
+pub not_row : (text behind : List ℕ) (m : Bool) → m ≡ begins is_dollar text → text ≡ marked_text m behind
+    → ((line : ℕ) → ¬ (IsRow behind line)) → (value : Coordinate) → ¬ (IsMarkedRow text value)
+not_row = not_marked is_ascii_digit IsRow digits_all digits_some digit_no_dollar

@@ -19,7 +19,7 @@ use Rattle.formula_tokens.proofs.Runs.{one_run}
 digit_is : (b : ℕ) → is_ascii_digit b ≡ true → (digit_value b < 10) × (b ≢ 43)
 digit_is b h = (grind (arith, nat_tests), λ e. absurd (false≢true (rw e at h)))
 
-digits_are : (digits : List ℕ) → list_all is_ascii_digit digits ≡ true → AllDigits 10 digits
+pub digits_are : (digits : List ℕ) → list_all is_ascii_digit digits ≡ true → AllDigits 10 digits
 digits_are [] all = tt
 digits_are (d ∷ ds) all =
     let parts = and_parts (is_ascii_digit d) (list_all is_ascii_digit ds) all in

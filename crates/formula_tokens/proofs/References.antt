@@ -2,41 +2,26 @@
 use Rattle.std.proofs.Common.{◌≡◌, ℕ, ◌+◌, ◌<◌, ◌≤◌, List, ◌∷◌, ◌++◌, length, refl, sym, ap, ◌∙◌, arith, inl, inr, subst, append_assoc}
 use Rattle.std.specs.Prelude.{◌⊎◌, ◌≢◌, Some, None}
 use Rattle.std.proofs.lemmas.List.{length-append}
-use Rattle.std.proofs.lemmas.Str.Parse.{digits_value_short}
 use Rattle.grid_range.specs.declared.band.Band.{Band}
 use Rattle.ref_rewrite.specs.declared.reference.Marks.{Marks}
-use Rattle.a1_notation.specs.Column.{IsColumn}
-use Rattle.a1_notation.specs.Area.{IsRow}
-use Rattle.a1_notation.specs.Capped.{HasNext}
-use Rattle.a1_notation.proofs.Letters.{letters_value_bounds}
-use Rattle.a1_notation.proofs.Rows.{numerals}
+use Rattle.a1_notation.specs.Room.{HasRoom}
+use Rattle.a1_notation.proofs.Areas.{row_has_next, column_has_next}
 use Rattle.formula_tokens.specs.declared.corner.Coordinate.{Coordinate}
 use Rattle.formula_tokens.specs.declared.corner.Corner.{Corner}
 use Rattle.formula_tokens.specs.declared.corner.Corner.TheVariants.{Cell, Column, Row}
 use Rattle.formula_tokens.specs.declared.token.Written.{Written}
-use Rattle.formula_tokens.specs.Corner.{IsMarkedCorner, AreCornersOf, IsCellOf}
+use Rattle.formula_tokens.specs.Corner.{IsMarkedCorner, unmarked, AreCornersOf, IsCellOf}
 use Rattle.formula_tokens.specs.Reference.{IsStandingPart, IsPart, IsReference}
-use Rattle.formula_tokens.specs.Parts.{HasRoom, IsStandingCorner, IsSecondOf}
+use Rattle.formula_tokens.specs.Parts.{IsStandingCorner, IsSecondOf}
 use Rattle.formula_tokens.specs.Reading.{Stands, Reads}
 use Rattle.formula_tokens.proofs.Answers.{one_read, none_read, same_pair}
 
 -- each line of a corner has a next one
-column_room : (name : List ℕ) (n : ℕ) → IsColumn 3 name n → HasNext n
-column_room name n is =
-    let bounds = letters_value_bounds name is.letters.all is.letters.some in
-    elim bounds.1 [
-      | inl few ↦ omega (arith, few.1, is.value)
-      | inr many ↦ absurd (omega (arith, many.0, is.letters.few))
-    ]
-
-row_room : (name : List ℕ) (n : ℕ) → IsRow name n → HasNext n
-row_room name n is = omega (arith, is.value, digits_value_short numerals name 7 is.digits.1 is.few)
-
-pub corner_room : (text : List ℕ) (corner : Corner) → IsMarkedCorner text corner → HasRoom corner
+pub corner_room : (text : List ℕ) (corner : Corner) → IsMarkedCorner text corner → HasRoom (unmarked corner)
 corner_room text (Cell row column) is =
-    (row_room is.row_is.name row.line is.row_is.name_is, column_room is.column_is.name column.line is.column_is.name_is)
-corner_room text (Column column) is = column_room is.name column.line is.name_is
-corner_room text (Row row) is = row_room is.name row.line is.name_is
+    (row_has_next is.row_is.name row.line is.row_is.name_is, column_has_next is.column_is.name column.line is.column_is.name_is)
+corner_room text (Column column) is = column_has_next is.name column.line is.name_is
+corner_room text (Row row) is = row_has_next is.name row.line is.name_is
 
 -- corners name one thing, and so does a cell
 made : Band → Band → Marks → Written
@@ -52,7 +37,7 @@ one_named one other w w' a b =
     let area = same_pair (w.rows, w.cols) (w'.rows, w'.cols) (sym a.area ∙ b.area) in
     same_written w w' area.0 area.1 (a.marks ∙ sym b.marks)
 
-one_cell : (row column : Coordinate) (w w' : Written) → IsCellOf row column w → IsCellOf row column w' → w ≡ w'
+pub one_cell : (row column : Coordinate) (w w' : Written) → IsCellOf row column w → IsCellOf row column w' → w ≡ w'
 one_cell row column w w' a b =
     let area = same_pair (w.rows, w.cols) (w'.rows, w'.cols) (sym a.area ∙ b.area) in
     same_written w w' area.0 area.1 (a.marks ∙ sym b.marks)
@@ -62,7 +47,7 @@ abbrev pub SecondParts : Corner → List ℕ → Written → List ℕ → Type 0
 SecondParts one text w rest = (behind : List ℕ) × (other : Corner) × (text ≡ 58 ∷ behind)
     × Stands IsStandingCorner behind other rest × AreCornersOf one other w
 
-second_parts : (one : Corner) (text : List ℕ) (w : Written) (rest : List ℕ)
+pub second_parts : (one : Corner) (text : List ℕ) (w : Written) (rest : List ℕ)
     → Stands (IsSecondOf one) text w rest → SecondParts one text w rest
 second_parts one text w rest stands = (
   stands.is.second ++ rest,
@@ -139,7 +124,7 @@ abbrev pub TwoAt : List ℕ → Written → List ℕ → Type 0
 TwoAt text w rest = (one : Corner) × (behind : List ℕ)
     × Stands IsStandingCorner text one behind × Stands (IsSecondOf one) behind w rest
 
-part_at : (text part : List ℕ) (w : Written) (rest : List ℕ) → text ≡ part ++ rest → IsPart part w
+pub part_at : (text part : List ℕ) (w : Written) (rest : List ℕ) → text ≡ part ++ rest → IsPart part w
     → IsStandingPart part w rest → CellAt text w rest ⊎ TwoAt text w rest
 part_at text part w rest e (inl cell) stands = inl (
   cell.row,

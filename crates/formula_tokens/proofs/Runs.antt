@@ -1,14 +1,14 @@
 -- Runs of bytes of one class: where they end.
-use Rattle.std.proofs.Common.{◌≡◌, ℕ, ◌+◌, ◌-◌, ◌<◌, Bool, true, false, List, [], ◌∷◌, ◌++◌, length, get_or, take, drop, refl, sym, ap, ◌∙◌, arith, inl, inr, drop-cons}
+use Rattle.std.proofs.Common.{◌≡◌, ℕ, ◌<◌, Bool, true, false, List, [], ◌∷◌, ◌++◌, length, get_or, take, drop, refl, sym, arith, inl, inr, drop-cons}
 use Rattle.std.specs.Prelude.{◌≢◌, ◌==◌}
-use Rattle.std.specs.List.{list_all, prefix_len}
+use Rattle.std.specs.List.{prefix_len}
 use Rattle.std.specs.Str.{IsUtf8, IsCharBoundary}
-use Rattle.std.proofs.lemmas.Bool.{and_parts, false≢true, cases_lt, ne_eqb}
+use Rattle.std.proofs.lemmas.Bool.{cases_lt, ne_eqb}
 use Rattle.std.proofs.lemmas.Bool.Decides.{nat_tests}
-use Rattle.std.proofs.lemmas.List.{length-take, get_or-take, drop_all}
-use Rattle.std.proofs.lemmas.List.Recursion.{and_from_places}
-use Rattle.std.proofs.lemmas.List.Sums.{prefix_len_passes, prefix_len_stops, prefix_len-le-length}
-use Rattle.std.proofs.lemmas.Str.{IsCharBoundary-start, IsCharBoundary-end, IsCharBoundary-after_ascii, IsCharBoundary-before_ascii}
+use Rattle.std.proofs.lemmas.List.{drop_all}
+use Rattle.std.proofs.lemmas.List.Sums.{prefix_len_stops, prefix_len-le-length}
+use Rattle.std.proofs.lemmas.Str.{IsCharBoundary-end, IsCharBoundary-before_ascii}
+use Rattle.a1_notation.proofs.Fronts.{front_passes, behind_ascii, BeginsWithout, one_front}
 use Rattle.formula_tokens.specs.declared.class.Class.{Class}
 use Rattle.formula_tokens.specs.declared.class.Class.TheVariants.{Letter, Digit, InWord, Blank}
 use Rattle.formula_tokens.specs.Class.{class_test}
@@ -20,49 +20,25 @@ pub first_run : (class : ℕ → Bool) (text : List ℕ)
 first_run class text =
     let n = prefix_len class text in
     record {
-      all = and_from_places (list_all class) class refl (λ _ _. refl) (take n text) 0
-          (λ i h. let short : i < n = omega (arith, length-take n text) in
-          rw (get_or-take n text i 0 short) (prefix_len_passes class text i 0 short));
+      all = front_passes class text;
       ends = elim (cases_lt n (length text)) [
         | inl less ↦ rw (drop-cons text n 0 less) (prefix_len_stops class text 0 less)
         | inr all ↦ rw (drop_all n text all) refl
       ];
     }
 
--- it has no other one
+-- the same of what ends it
+begins_without : (class : ℕ → Bool) (text : List ℕ) → begins class text ≡ false → BeginsWithout class text
+begins_without class [] ends = tt
+begins_without class (b ∷ text) ends = ends
+
+-- a text has one run
 pub one_run : (class : ℕ → Bool) (xs ys xs' ys' : List ℕ)
     → IsRun class xs ys → IsRun class xs' ys' → xs ++ ys ≡ xs' ++ ys' → (xs ≡ xs') × (ys ≡ ys')
-one_run class [] ys [] ys' a b e = (refl, e)
-one_run class [] ys (x ∷ xs') ys' a b e =
-    let parts = and_parts (class x) (list_all class xs') b.all in
-    let first : begins class ys ≡ class x = ap (begins class) e in
-    absurd (false≢true (sym a.ends ∙ first ∙ parts.0))
-one_run class (x ∷ xs) ys [] ys' a b e =
-    let parts = and_parts (class x) (list_all class xs) a.all in
-    let first : class x ≡ begins class ys' = ap (begins class) e in
-    absurd (false≢true (sym b.ends ∙ sym first ∙ parts.0))
-one_run class (x ∷ xs) ys (x' ∷ xs') ys' a b e =
-    let head : x ≡ x' = cc in
-    let tail : xs ++ ys ≡ xs' ++ ys' = cc in
-    let more = and_parts (class x) (list_all class xs) a.all in
-    let more' = and_parts (class x') (list_all class xs') b.all in
-    let rest = one_run class xs ys xs' ys' (record { all = more.1; ends = a.ends }) (record { all = more'.1; ends = b.ends }) tail in
-    (rw (head, rest.0) refl, rest.1)
+one_run class xs ys xs' ys' a b e =
+    one_front class xs ys xs' ys' a.all b.all (begins_without class ys a.ends) (begins_without class ys' b.ends) e
 
--- a text may be cut behind a run of ASCII bytes, and before a byte that is no part of a word
-behind_ascii : (class : ℕ → Bool) (text : List ℕ) (n : ℕ) → ((b : ℕ) → class b ≡ true → b < 128)
-    → IsUtf8 text → n ≡ prefix_len class text → IsCharBoundary text n
-behind_ascii class text n ascii utf8 e =
-    elim (cases_lt 0 n) [
-      | inl some ↦
-          let last = prefix_len_passes class text (n - 1) 0 (omega arith) in
-          let back : n - 1 + 1 ≡ n = omega arith in
-          rw back at (IsCharBoundary-after_ascii text (n - 1) utf8 (omega (arith, prefix_len-le-length class text)) (ascii (get_or text (n - 1) 0) last))
-      | inr none ↦
-          let zero' : n ≡ 0 = omega arith in
-          rw zero' (IsCharBoundary-start text utf8)
-    ]
-
+-- a text may be cut before a byte that is no part of a word
 before_ascii : (class : ℕ → Bool) (text : List ℕ) (n : ℕ) → ((b : ℕ) → class b ≡ false → b < 128)
     → n ≡ prefix_len class text → IsCharBoundary text n
 before_ascii class text n ascii e =

@@ -7,13 +7,13 @@ use Rattle.std.proofs.lemmas.List.Elements.{All-cons, All-push}
 use Rattle.std.proofs.lemmas.Str.{IsCharBoundary-from_drop}
 use Rattle.grid_range.specs.declared.band.Band.{Band}
 use Rattle.grid_range.specs.Band.{IsNonEmpty}
-use Rattle.a1_notation.specs.Area.{lines_between}
-use Rattle.formula_tokens.specs.declared.corner.Corner.{Corner}
-use Rattle.formula_tokens.specs.declared.corner.Corner.TheVariants.{Cell, Column, Row}
+use Rattle.a1_notation.specs.declared.corner.Corner.{Corner}
+use Rattle.a1_notation.specs.declared.corner.Corner.TheVariants.{Cell, Column, Row}
+use Rattle.a1_notation.specs.Area.{area_between, lines_between}
 use Rattle.formula_tokens.specs.declared.token.Token.{Token}
 use Rattle.formula_tokens.specs.declared.token.Written.{Written}
 use Rattle.formula_tokens.specs.declared.token.Placed.{Placed}
-use Rattle.formula_tokens.specs.Corner.{area_between}
+use Rattle.formula_tokens.specs.Corner.{unmarked}
 use Rattle.formula_tokens.specs.Reference.{IsPart, IsReference}
 use Rattle.formula_tokens.specs.Form.{Form, Fits, Titled, FunctionName, OwnReference, AnyWord, Digits, Quoted, Sign, word_token}
 use Rattle.formula_tokens.specs.Tokens.{FitsFirst, forms, AreTokens}
@@ -29,10 +29,10 @@ IsArea None = ⊤
 IsArea (Some area) = IsNonEmpty area.0 × IsNonEmpty area.1
 
 corners_have_lines : (one other : Corner) → IsArea (area_between one other)
-corners_have_lines (Cell row column) (Cell row' column') = (between_has_lines row.line row'.line, between_has_lines column.line column'.line)
-corners_have_lines (Cell row column) (Column column') = (tt, between_has_lines column.line column'.line)
-corners_have_lines (Column column) (Column column') = (tt, between_has_lines column.line column'.line)
-corners_have_lines (Row row) (Row row') = (between_has_lines row.line row'.line, tt)
+corners_have_lines (Cell row column) (Cell row' column') = (between_has_lines row row', between_has_lines column column')
+corners_have_lines (Cell row column) (Column column') = (tt, between_has_lines column column')
+corners_have_lines (Column column) (Column column') = (tt, between_has_lines column column')
+corners_have_lines (Row row) (Row row') = (between_has_lines row row', tt)
 corners_have_lines (Cell row column) (Row row') = tt
 corners_have_lines (Column column) (Cell row column') = tt
 corners_have_lines (Column column) (Row row) = tt
@@ -40,8 +40,10 @@ corners_have_lines (Row row) (Cell row' column) = tt
 corners_have_lines (Row row) (Column column) = tt
 
 part_names_cells : (part : List ℕ) (written : Written) → IsPart part written → NamesCells written
-part_names_cells part written (inl cell) = subst IsArea cell.named.area (corners_have_lines (Cell cell.row cell.column) (Cell cell.row cell.column))
-part_names_cells part written (inr two) = subst IsArea two.named.area (corners_have_lines two.one two.other)
+part_names_cells part written (inl cell) =
+    let corner = Cell cell.row.line cell.column.line in
+    subst IsArea cell.named.area (corners_have_lines corner corner)
+part_names_cells part written (inr two) = subst IsArea two.named.area (corners_have_lines (unmarked two.one) (unmarked two.other))
 
 reference_names_cells : (part : List ℕ) (written : Written) (rest : List ℕ) → IsReference part written rest → NamesCells written
 reference_names_cells part written rest is = part_names_cells part written is.stands.part_is

@@ -3,7 +3,7 @@ use Rattle.std.proofs.Common.{◌≡◌, ℕ, Bool, true, false, List, [], ◌�
 use Rattle.std.specs.Prelude.{◌||◌, ◌==◌, None}
 use Rattle.std.specs.Char.{is_ascii_alphanumeric, is_ascii_alphabetic, is_ascii_digit}
 use Rattle.std.specs.List.{list_any}
-use Rattle.std.proofs.lemmas.Bool.{false≢true, eq-eqb}
+use Rattle.std.proofs.lemmas.Bool.{false≢true, eq-eqb, or_parts}
 use Rattle.std.proofs.lemmas.Bool.Decides.{nat_tests}
 use Rattle.formula_tokens.specs.declared.corner.Coordinate.{Coordinate}
 use Rattle.formula_tokens.specs.declared.corner.Corner.{Corner}
@@ -114,10 +114,6 @@ fits_starts (Sign (first ∷ spelling) sign) lexeme token rest is = rw is.0 (eq-
 pub cannot_start : (form : Form) (text : List ℕ) → may_start form text ≡ false → FitsNowhere form text
 cannot_start form text none lexeme token rest e is =
     false≢true (sym none ∙ ap (may_start form) e ∙ fits_starts form lexeme token rest is)
-
-or_parts : (a b : Bool) → (a || b) ≡ false → (a ≡ false) × (b ≡ false)
-or_parts true b e = absurd (false≢true (sym e))
-or_parts false b e = (refl, e)
 
 pub none_starts : (forms : List Form) (text : List ℕ) → list_any (λ form. may_start form text) forms ≡ false
     → Reads (FitsFirst forms) text None

@@ -86,7 +86,7 @@ module _ (text word behind : List ℕ) (whole : text ≡ word ++ behind) (is_wor
       (stands.spelled ∙ ap (λ t. t ++ rest) is.spelled) is.reference in
       (is.written, parts.1, is.token_is ∙ ap (λ t. Elsewhere t is.written) (sym parts.0))
 
-  word_title : (w : Written) (rest : List ℕ) → Reads IsBehindTitle behind (Some (w, rest))
+  pub word_title : (w : Written) (rest : List ℕ) → Reads IsBehindTitle behind (Some (w, rest))
       → Reads (Fits Titled) text (Some (Elsewhere word w, rest))
   word_title w rest reads = record {
     found = record {
@@ -109,11 +109,11 @@ module _ (text word behind : List ℕ) (whole : text ≡ word ++ behind) (is_wor
         rw (parts.2, same.0, same.1) refl;
   }
 
-  word_no_title : Reads IsBehindTitle behind None → FitsNowhere Titled text
+  pub word_no_title : Reads IsBehindTitle behind None → FitsNowhere Titled text
   word_no_title none lexeme token rest e is =
       none_read none (titled_parts token rest (record { lexeme = lexeme; spelled = e; is = is })).1
 
-  function_read : slice_index behind 0 ≡ 40 → Reads (Fits FunctionName) text (Some (Function word, behind))
+  pub function_read : slice_index behind 0 ≡ 40 → Reads (Fits FunctionName) text (Some (Function word, behind))
   function_read bracket = record {
     found = record { lexeme = word; spelled = whole; is = record { word = is_word; bracket = bracket; token_is = refl } };
     only = λ token rest stands.
@@ -121,12 +121,12 @@ module _ (text word behind : List ℕ) (whole : text ≡ word ++ behind) (is_wor
         rw (stands.is.token_is, same.0, same.1) refl;
   }
 
-  no_function : slice_index behind 0 ≢ 40 → FitsNowhere FunctionName text
+  pub no_function : slice_index behind 0 ≢ 40 → FitsNowhere FunctionName text
   no_function none lexeme token rest e is =
       let same = one_word lexeme rest is.word e in
       none (rw same.1 is.bracket)
 
-  word_read : Reads (Fits AnyWord) text (Some (word_token word, behind))
+  pub word_read : Reads (Fits AnyWord) text (Some (word_token word, behind))
   word_read = record {
     found = record { lexeme = word; spelled = whole; is = record { word = is_word; token_is = refl } };
     only = λ token rest stands.

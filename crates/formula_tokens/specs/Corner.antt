@@ -1,11 +1,11 @@
 -- The corners of a reference: a cell, or a column or a row alone (Google Sheets API v4, "A1 notation"),
 -- where a $ (36) may stand before each column and each row. Rows and columns are counted from 0.
 use Rattle.std.specs.Prelude.{◌≡◌, ℕ, Bool, false, List, ◌∷◌, ◌++◌, Option, Some, None, nat_le, if◌then◌else◌}
-use Rattle.grid_range.specs.declared.band.Band.{Band}
-use Rattle.grid_range.specs.declared.band.Band.TheVariants.{Whole, From}
 use Rattle.ref_rewrite.specs.declared.reference.Marks.{Marks}
 use Rattle.a1_notation.specs.Column.{IsColumn}
-use Rattle.a1_notation.specs.Area.{IsRow, lines_between}
+use Rattle.a1_notation.specs.Area.{IsRow, area_between}
+use Rattle.a1_notation.specs.declared.corner.Corner.{Corner as Place}
+use Rattle.a1_notation.specs.declared.corner.Corner.TheVariants as place
 use Rattle.formula_tokens.specs.declared.corner.Coordinate.{Coordinate}
 use Rattle.formula_tokens.specs.declared.corner.Corner.{Corner}
 use Rattle.formula_tokens.specs.declared.corner.Corner.TheVariants.{Cell, Column, Row}
@@ -42,20 +42,11 @@ IsMarkedCorner text (Cell row column) = IsMarkedCell text row column
 IsMarkedCorner text (Column column) = IsMarkedColumn text column
 IsMarkedCorner text (Row row) = IsMarkedRow text row
 
--- the rows and the columns between two corners, where they go together
-abbrev pub area_between : Corner → Corner → Option (Band × Band)
-area_between (Cell row column) (Cell row' column') =
-    Some (lines_between row.line row'.line, lines_between column.line column'.line)
-area_between (Cell row column) (Column column') =
-    Some (From row.line, lines_between column.line column'.line)
-area_between (Column column) (Column column') =
-    Some (Whole, lines_between column.line column'.line)
-area_between (Row row) (Row row') = Some (lines_between row.line row'.line, Whole)
-area_between (Cell row column) (Row row') = None
-area_between (Column column) (Cell row column') = None
-area_between (Column column) (Row row) = None
-area_between (Row row) (Cell row' column) = None
-area_between (Row row) (Column column) = None
+-- the corner without its marks
+abbrev pub unmarked : Corner → Place
+unmarked (Cell row column) = place.Cell row.line column.line
+unmarked (Column column) = place.Column column.line
+unmarked (Row row) = place.Row row.line
 
 -- the row and the column that are written
 abbrev pub row_of : Corner → Option Coordinate
@@ -84,13 +75,13 @@ marks_of rows columns =
 
 -- what two corners name: the area between them, and a mark goes with its coordinate
 pub record AreCornersOf (one other : Corner) (written : Written) : Type 0 where
-  pub area : area_between one other ≡ Some (written.rows, written.cols)
+  pub area : area_between (unmarked one) (unmarked other) ≡ Some (written.rows, written.cols)
   pub marks : written.marks
       ≡ marks_of (marks_in_order (row_of one) (row_of other))
       (marks_in_order (column_of one) (column_of other))
 
 -- what one cell names: itself, and its second corner isn't written
 pub record IsCellOf (row column : Coordinate) (written : Written) : Type 0 where
-  pub area : area_between (Cell row column) (Cell row column)
+  pub area : area_between (unmarked (Cell row column)) (unmarked (Cell row column))
       ≡ Some (written.rows, written.cols)
   pub marks : written.marks ≡ marks_of (row.marked, false) (column.marked, false)

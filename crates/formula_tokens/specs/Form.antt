@@ -1,9 +1,10 @@
 -- The forms of tokens in a formula (Google Sheets API v4, `formulaValue`; Google Docs Editors Help, "Add
 -- formulas & functions to a spreadsheet"). A text is the list of its UTF-8 bytes.
-use Rattle.std.specs.Prelude.{◌≡◌, ℕ, ◌≤◌, true, false, List, [], ◌∷◌, ◌++◌, ◌⊎◌, pos, slice_index, if◌then◌else◌}
+use Rattle.std.specs.Prelude.{◌≡◌, ◌≢◌, ℕ, ◌≤◌, true, false, List, [], ◌∷◌, ◌++◌, ◌⊎◌, pos, slice_index, if◌then◌else◌}
 use Rattle.std.specs.Char.{is_ascii_digit}
 use Rattle.std.specs.Str.{str_eq_ignore_ascii_case}
 use Rattle.std.specs.Str.Parse.{digits_value}
+use Rattle.a1_notation.specs.Quoted.{quoted}
 use Rattle.a1_notation.specs.Title.{IsQuoted}
 use Rattle.formula_tokens.specs.declared.token.Token.{Token}
 use Rattle.formula_tokens.specs.declared.token.Token.TheVariants.{Reference, Elsewhere, Function, Word, Truth, Number, Text}
@@ -11,7 +12,6 @@ use Rattle.formula_tokens.specs.declared.token.Written.{Written}
 use Rattle.formula_tokens.specs.Run.{begins, IsRun}
 use Rattle.formula_tokens.specs.Reference.{IsReference}
 use Rattle.formula_tokens.specs.Word.{IsWord}
-use Rattle.formula_tokens.specs.Quoted.{IsUpToQuote}
 
 -- a sheet's title before a reference: in quotes, or a word as it is
 abbrev pub IsTitleBefore : List ℕ → List ℕ → List ℕ → Type 0
@@ -64,12 +64,11 @@ pub record IsNumber (lexeme : List ℕ) (token : Token) (rest : List ℕ) : Type
   pub exact : digits_value 10 lexeme ≤ 9007199254740992
   pub token_is : token ≡ Number (pos (digits_value 10 lexeme))
 
--- a text between two " (34), where a " inside is written twice
+-- a text between two " (34), where a " inside is written twice, and no further " behind
 pub record IsText (lexeme : List ℕ) (token : Token) (rest : List ℕ) : Type 0 where
-  pub inside : List ℕ
   pub text : List ℕ
-  pub spelled : lexeme ≡ 34 ∷ inside
-  pub closed : IsUpToQuote 34 inside text rest
+  pub spelled : lexeme ≡ quoted 34 text
+  pub closed : slice_index rest 0 ≢ 34
   pub token_is : token ≡ Text text
 
 -- the forms; a sign has one spelling

@@ -2,7 +2,6 @@ pub mod Run
 pub mod Corner
 pub mod Reference
 pub mod Word
-pub mod Quoted
 pub mod Form
 pub mod Tokens
 pub mod Parts

@@ -3,10 +3,8 @@ use Rattle.std.specs.Prelude.{◌≡◌, ℕ, Bool, false, List, ◌∷◌, ◌=
 use Rattle.std.specs.Char.{is_ascii_alphabetic, is_ascii_digit}
 use Rattle.a1_notation.specs.Column.{IsColumn}
 use Rattle.a1_notation.specs.Area.{IsRow}
-use Rattle.a1_notation.specs.Capped.{HasNext}
 use Rattle.formula_tokens.specs.declared.corner.Coordinate.{Coordinate}
 use Rattle.formula_tokens.specs.declared.corner.Corner.{Corner}
-use Rattle.formula_tokens.specs.declared.corner.Corner.TheVariants.{Cell, Column, Row}
 use Rattle.formula_tokens.specs.declared.token.Written.{Written}
 use Rattle.formula_tokens.specs.Run.{begins}
 use Rattle.formula_tokens.specs.Corner.{IsMarked, IsMarkedCorner, AreCornersOf}
@@ -33,12 +31,6 @@ IsWholeColumn text column rest = IsWhole is_ascii_alphabetic (IsColumn 3) text c
 
 abbrev pub IsWholeRow : List ℕ → Coordinate → List ℕ → Type 0
 IsWholeRow text row rest = IsWhole is_ascii_digit IsRow text row rest
-
--- each of its lines has a next one
-abbrev pub HasRoom : Corner → Type 0
-HasRoom (Cell row column) = HasNext row.line × HasNext column.line
-HasRoom (Column column) = HasNext column.line
-HasRoom (Row row) = HasNext row.line
 
 -- a corner that stands alone before the rest
 pub record IsStandingCorner (text : List ℕ) (corner : Corner) (rest : List ℕ) : Type 0 where

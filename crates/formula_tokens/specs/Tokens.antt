@@ -1,4 +1,4 @@
--- The tokens of a formula text.
+-- The tokens of a formula text behind its =.
 use Rattle.std.specs.Prelude.{◌≡◌, ℕ, ◌≤◌, Bool, List, [], ◌∷◌, ◌++◌, ◌==◌, ◌||◌, ◌⊎◌, length, drop, slice_range, IsTrue}
 use Rattle.std.specs.List.{list_all}
 use Rattle.formula_tokens.specs.declared.token.Operator.TheVariants.{Equal, NotEqual, Less, AtMost, Greater, AtLeast, Join, Add, Subtract, Multiply, Divide}

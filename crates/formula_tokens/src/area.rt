@@ -1,23 +1,22 @@
 ghost use Rattle.std.specs.Prelude.{◌≡◌, IfSome, IfNone};
-ghost use Rattle.a1_notation.specs.Area.{lines_between};
-ghost use Rattle.a1_notation.specs.Capped.{HasNext};
+ghost use Rattle.a1_notation.specs.Room.{HasNext, HasRoom};
 ghost use Rattle.formula_tokens.specs.declared.token.Written.{Written};
-ghost use Rattle.formula_tokens.specs.Corner.{AreCornersOf, IsCellOf, area_between, marks_in_order, marks_of};
-ghost use Rattle.formula_tokens.specs.Parts.{HasRoom};
+ghost use Rattle.formula_tokens.specs.Corner.{AreCornersOf, IsCellOf, unmarked, marks_in_order, marks_of};
 
 use crate::corner::{Coordinate, Corner};
 use crate::token::Written;
+use a1_notation::area_between;
 use grid_range::Band;
 use ref_rewrite::Marks;
 
 /// What two corners name; None where they don't go together.
 pub(crate) fn written_between(one: Corner, other: Corner) -> Option<Written>
-    requires one { HasRoom one }
-    requires other { HasRoom other }
+    requires one { HasRoom (unmarked one) }
+    requires other { HasRoom (unmarked other) }
     ensures found { IfSome result (AreCornersOf one other) }
     ensures none { IfNone result ((written : Written) → ¬ (AreCornersOf one other written)) }
 {
-    let (rows, cols) = area_between(one, other)?;
+    let (rows, cols) = area_between(one.unmarked(), other.unmarked())?;
     let marks = marks_of(
         marks_in_order(one.row(), other.row()),
         marks_in_order(one.column(), other.column()),
@@ -32,41 +31,10 @@ pub(crate) fn written_cell(row: Coordinate, column: Coordinate) -> Written
     ensures { IsCellOf row column result }
 {
     Written {
-        rows: lines_between(row, row),
-        cols: lines_between(column, column),
+        rows: Band::Span(row.line, row.line + 1),
+        cols: Band::Span(column.line, column.line + 1),
         marks: marks_of((row.marked, false), (column.marked, false)),
     }
-}
-
-/// The rows and the columns between two corners, where the corners go together.
-fn area_between(one: Corner, other: Corner) -> Option<(Band, Band)>
-    requires one { HasRoom one }
-    requires other { HasRoom other }
-    ensures { result ≡ area_between one other }
-{
-    match (one, other) {
-        (Corner::Cell(row, column), Corner::Cell(last_row, last_column)) => Some((
-            lines_between(row, last_row),
-            lines_between(column, last_column),
-        )),
-        (Corner::Cell(row, column), Corner::Column(last)) => {
-            Some((Band::From(row.line), lines_between(column, last)))
-        }
-        (Corner::Column(column), Corner::Column(last)) => {
-            Some((Band::Whole, lines_between(column, last)))
-        }
-        (Corner::Row(row), Corner::Row(last)) => Some((lines_between(row, last), Band::Whole)),
-        _ => None,
-    }
-}
-
-/// The lines from one to another, in either order.
-fn lines_between(one: Coordinate, other: Coordinate) -> Band
-    requires one { HasNext one.line }
-    requires other { HasNext other.line }
-    ensures { result ≡ lines_between one.line other.line }
-{
-    Band::Span(one.line.min(other.line), one.line.max(other.line) + 1)
 }
 
 /// The marks of the first and of the second of two coordinates: the lesser is the first, and of equal

@@ -6,8 +6,7 @@ ghost use Rattle.formula_tokens.specs.Reference.{is_joined};
 ghost use Rattle.formula_tokens.specs.Reading.{Reads, seen};
 
 use crate::class::Class;
-use crate::row::read_row;
-use a1_notation::read_column;
+use a1_notation::{read_column, read_row};
 
 /// A column or a row as it is written, behind a `$` or without one.
 #[derive(Clone, Copy, Debug, PartialEq, Eq)]
@@ -54,7 +53,7 @@ impl Coordinate {
 }
 
 impl Corner {
-    ghost use Rattle.formula_tokens.specs.Corner.{row_of, column_of};
+    ghost use Rattle.formula_tokens.specs.Corner.{unmarked, row_of, column_of};
     ghost use Rattle.formula_tokens.specs.Parts.{IsStandingCorner};
 
     /// The corner that stands alone at the front of a text.
@@ -70,6 +69,17 @@ impl Corner {
                 None => standing(Corner::Column(column), behind),
                 Some((row, rest)) => standing(Corner::Cell(row, column), rest),
             },
+        }
+    }
+
+    /// The corner without its marks.
+    pub(crate) fn unmarked(self) -> a1_notation::Corner
+        ensures { result ≡ unmarked self }
+    {
+        match self {
+            Corner::Cell(row, column) => a1_notation::Corner::Cell(row.line, column.line),
+            Corner::Column(column) => a1_notation::Corner::Column(column.line),
+            Corner::Row(row) => a1_notation::Corner::Row(row.line),
         }
     }
 

@@ -6,9 +6,7 @@ mod class;
 mod corner;
 mod next;
 mod number;
-mod quoted;
 mod reference;
-mod row;
 mod sign;
 mod token;
 mod tokens;
@@ -17,5 +15,7 @@ mod word;
 pub use token::{Operator, Placed, Token, Written};
 pub use tokens::tokens_of;
 
+#[cfg(test)]
+mod plain;
 #[cfg(test)]
 mod tests;

@@ -7,12 +7,12 @@ ghost use Rattle.formula_tokens.specs.Tokens.{FitsFirst, forms};
 ghost use Rattle.formula_tokens.specs.Reading.{Reads, seen};
 
 use crate::number::read_number;
-use crate::quoted::read_quoted;
 use crate::reference::read_reference;
 use crate::sign::read_sign;
 use crate::token::{Token, Written};
 use crate::word::{owned, split_word, word_token};
-use cell_value::NoMemory;
+use a1_notation::read_quoted;
+use cell_value::{NoMemory, Text};
 use std::alloc::Global;
 
 /// The token at the front of a text, and the rest behind it; None where nothing fits there.
@@ -66,30 +66,27 @@ fn read_from_word<'a>(
 fn read_from_title(alloc: Global, inside: &str) -> Result<Option<(Token, &str)>, NoMemory>
     ensures { IfOk result (λ answer. Reads (FitsFirst forms) (39 ∷ inside.now) (seen answer)) }
 {
-    match read_quoted(alloc, inside, '\'') {
-        Err(error) => Err(error),
-        Ok(None) => Ok(None),
-        Ok(Some((title, behind))) => {
-            if title.as_str().is_empty() {
-                return Ok(None);
-            }
-            match read_behind_title(behind) {
-                None => Ok(None),
-                Some((written, rest)) => Ok(Some((Token::Elsewhere(title, written), rest))),
-            }
-        }
+    let Some((title, behind)) = read_quoted(alloc, inside, '\'')? else {
+        return Ok(None);
+    };
+    if title.is_empty() {
+        return Ok(None);
     }
+    let Some((written, rest)) = read_behind_title(behind) else {
+        return Ok(None);
+    };
+    let title = Text::of(title);
+    Ok(Some((Token::Elsewhere(title, written), rest)))
 }
 
 /// The token of a text that begins with a `"`, from behind it: a text.
 fn read_text(alloc: Global, inside: &str) -> Result<Option<(Token, &str)>, NoMemory>
     ensures { IfOk result (λ answer. Reads (FitsFirst forms) (34 ∷ inside.now) (seen answer)) }
 {
-    match read_quoted(alloc, inside, '"') {
-        Err(error) => Err(error),
-        Ok(None) => Ok(None),
-        Ok(Some((text, rest))) => Ok(Some((Token::Text(text), rest))),
-    }
+    let Some((text, rest)) = read_quoted(alloc, inside, '"')? else {
+        return Ok(None);
+    };
+    Ok(Some((Token::Text(Text::of(text)), rest)))
 }
 
 /// The token of a text that begins with no word and no quote: a reference, a number or a sign.

@@ -1,5 +1,7 @@
+ghost use Rattle.a1_notation.specs.Room.{HasRoom};
+ghost use Rattle.formula_tokens.specs.Corner.{unmarked};
 ghost use Rattle.formula_tokens.specs.Reference.{IsReference};
-ghost use Rattle.formula_tokens.specs.Parts.{HasRoom, IsSecondOf};
+ghost use Rattle.formula_tokens.specs.Parts.{IsSecondOf};
 ghost use Rattle.formula_tokens.specs.Reading.{Reads, seen};
 
 use crate::area::{written_between, written_cell};
@@ -24,7 +26,7 @@ pub(crate) fn read_reference(text: &str) -> Option<(Written, &str)>
 
 /// What a corner and the one behind the `:` at the front of a text name.
 fn read_second(one: Corner, text: &str) -> Option<(Written, &str)>
-    requires { HasRoom one }
+    requires { HasRoom (unmarked one) }
     ensures { Reads (IsSecondOf one) text.now (seen result) }
 {
     let second = text.strip_prefix(':')?;

@@ -1,4 +1,5 @@
 use super::*;
+use crate::plain::plain_tokens;
 use grid_range::Band;
 use grid_range::Band::{From, Span, Whole};
 use ref_rewrite::Marks;
@@ -374,6 +375,51 @@ fn blanks_are_no_tokens(rt: HostRuntime) -> Result<(), Fail> {
     for text in ["", " ", "\t\n "] {
         let tokens = tokens_of(rt.alloc(), text)?;
         assert_eq!(&rt; tokens.map(|tokens| tokens.as_slice().len()), Some(0));
+    }
+    Ok(())
+}
+
+/// What short texts are put together from; the empty one makes those of fewer than four.
+const FRAGMENTS: [&str; 13] = [
+    "", "A1", "$", ":", "!", "'x'", "(", ".", "_", "1", "\"", "#REF!", " ",
+];
+
+/// Whether two lists of tokens are the same, with their places.
+fn are_same(one: &[Placed], other: &[Placed]) -> bool {
+    one.len() == other.len()
+        && one.iter().zip(other).all(|(one, other)| {
+            (one.start, one.end) == (other.start, other.end)
+                && lend(&one.token) == lend(&other.token)
+        })
+}
+
+fn reads_plainly(alloc: Global, rt: &impl Abort, text: &str) -> Result<(), Fail> {
+    let tokens = tokens_of(alloc, text)?;
+    let plain = plain_tokens(alloc, text.as_bytes())?;
+    match (&tokens, &plain) {
+        (Some(tokens), Some(plain)) => {
+            assert!(rt; are_same(tokens.as_slice(), plain.as_slice()), "in {text}");
+        }
+        _ => assert!(rt; tokens.is_none() && plain.is_none(), "in {text}"),
+    }
+    Ok(())
+}
+
+fn read_all_plainly(alloc: Global, rt: &impl Abort, front: &str) -> Result<(), Fail> {
+    for third in &FRAGMENTS {
+        for last in &FRAGMENTS {
+            reads_plainly(alloc, rt, &format!(in alloc; "{front}{third}{last}")?)?;
+        }
+    }
+    Ok(())
+}
+
+#[test]
+fn short_texts_have_the_tokens_of_the_definition(rt: HostRuntime) -> Result<(), Fail> {
+    for first in &FRAGMENTS {
+        for second in &FRAGMENTS {
+            read_all_plainly(rt.alloc(), &rt, &format!(in rt.alloc(); "{first}{second}")?)?;
+        }
     }
     Ok(())
 }

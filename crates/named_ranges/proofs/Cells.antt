@@ -1,28 +1,21 @@
 -- Letters and a number behind them, which are a cell in A1 text.
-use Rattle.std.proofs.Common.{◌≡◌, ◌↔◌, ℕ, ◌-◌, ◌<◌, ◌≤◌, Bool, true, false, List, [], ◌∷◌, ◌++◌, Option, None, Some, IsSome, IfSome, Result, Ok, Err, length, get_or, take, drop, refl, sym, ◌∙◌, arith}
-use Rattle.std.specs.Prelude.{is_ok, is_some}
+use Rattle.std.proofs.Common.{◌≡◌, ◌↔◌, ℕ, ◌<◌, true, false, List, [], ◌∷◌, ◌++◌, Option, None, Some, IfSome, length, take, drop, refl, sym, ◌∙◌, arith}
+use Rattle.std.specs.Prelude.{is_some, IfNone}
 use Rattle.std.specs.List.{list_all, prefix_len}
 use Rattle.std.specs.Char.{is_ascii_alphabetic, digit_value}
-use Rattle.std.specs.Str.Parse.{AllDigits, ParsesUnsigned}
+use Rattle.std.specs.Str.Parse.{AllDigits}
 use Rattle.std.proofs.lemmas.Bool.{and_parts, false≢true}
 use Rattle.std.proofs.lemmas.Bool.Decides.{nat_tests}
 use Rattle.std.proofs.lemmas.List.{take_at, drop_at, take-append-drop}
 use Rattle.a1_notation.specs.Column.{IsColumn, AreLetters}
 use Rattle.a1_notation.specs.Area.{IsRow}
-use Rattle.a1_notation.proofs.Rows.{BeginsPositive, row_parsed, row_not_parsed, parsed_some, parsed_none}
 use Rattle.named_ranges.specs.NameRule.{IsCell}
 
--- what `parse` tells of a text that begins with a digit from 1 to 9
-pub row_told : {E : Type 0} (text : List ℕ) (parsed : Result ℕ E) → BeginsPositive text
-    → length text ≤ 7 → ParsesUnsigned 32 10 text parsed
-    → (is_ok parsed ≡ true) ↔ ((row : ℕ) × IsRow text row)
-row_told {E} text (Ok number) begins few given =
-    let row = row_parsed text number begins few (parsed_some {E = E} text number (Ok number) refl given) in
-    (λ _. (number - 1, row.1), λ _. refl)
-row_told {E} text (Err error) begins few given = (
-  λ yes. absurd (false≢true yes),
-  λ is. absurd (row_not_parsed text is.0 (parsed_none {E = E} text (Err error) refl given) begins is.1),
-)
+-- a row is found where the text is the number of one
+pub row_told : (text : List ℕ) (found : Option ℕ) → IfSome found (IsRow text) → IfNone found ((row : ℕ) → ¬ (IsRow text row))
+    → (is_some found ≡ true) ↔ ((row : ℕ) × IsRow text row)
+row_told text (Some row) is none = (λ _. (row, is), λ _. refl)
+row_told text None is none = (λ yes. absurd (false≢true yes), λ row. absurd (none row.0 row.1))
 
 -- the letters in front of digits end where the digits begin
 digit_is_no_letter : (byte : ℕ) → digit_value byte < 10 → is_ascii_alphabetic byte ≡ false

@@ -1,5 +1,5 @@
 -- Entries of a map of named ranges by id, and the list of the ranges.
-use Rattle.std.proofs.Common.{◌≡◌, ◌≢◌, ℕ, suc, zero, ◌+◌, ◌<◌, Bool, true, false, not, cond, ◌&&◌, Option, None, Some, List, [], ◌∷◌, ◌++◌, All, AllPairs, IfSome, map, set, take, length, get_or, refl, sym, ap, ◌∙◌, subst, arith}
+use Rattle.std.proofs.Common.{◌≡◌, ◌≢◌, ℕ, suc, zero, ◌+◌, ◌<◌, Bool, true, false, not, cond, ◌&&◌, Option, None, Some, List, [], ◌∷◌, ◌++◌, All, IfSome, set, take, length, get_or, refl, sym, ap, ◌∙◌, subst, arith}
 use Rattle.std.specs.Prelude.{filter, find, slice_get, is_some, ◌==◌}
 use Rattle.std.specs.List.{filter_map, cons_option, swap}
 use Rattle.named_ranges.proofs.InPlace.{Keeps, Keeps-read, Keeps-lost, Keeps-between, Keeps-swapped}

@@ -1,7 +1,7 @@
 -- What the named ranges of a spreadsheet become when lines of one of its sheets are inserted, deleted
 -- or moved, or when a sheet is deleted: insertDimension, deleteDimension, moveDimension and
 -- deleteSheet of the Google Sheets API v4.
-use Rattle.std.specs.Prelude.{ℕ, ◌≡◌, Bool, not, ◌==◌, List, Option, None, Some, filter, if◌then◌else◌}
+use Rattle.std.specs.Prelude.{ℕ, ◌≡◌, not, ◌==◌, List, Option, Some, filter, if◌then◌else◌}
 use Rattle.std.specs.Option.{option_map}
 use Rattle.grid_range.specs.declared.area.Area.{Area}
 use Rattle.grid_range.specs.declared.axis.Axis.{Axis}

@@ -1,16 +1,12 @@
-ghost use Rattle.std.specs.Prelude.{ℕ, ◌≡◌, ◌↔◌, ◌≤◌, IsTrue, slice_index, take, drop};
+ghost use Rattle.std.specs.Prelude.{◌≡◌, ◌↔◌, IsTrue, slice_index, take, drop};
 ghost use Rattle.std.specs.List.{list_all, prefix_len};
 ghost use Rattle.std.specs.Char.{is_ascii_alphabetic, is_ascii_digit};
-ghost use Rattle.a1_notation.specs.Area.{IsRow};
 ghost use Rattle.named_ranges.specs.NameRule.{IsName, IsCell, is_name_byte};
 
-use a1_notation::read_column;
+use a1_notation::{read_column, read_row};
 
 /// The longest name, in bytes.
 const LONGEST: usize = 250;
-
-/// The longest number of a row, in digits.
-const DIGITS: usize = 7;
 
 /// Whether a text may be the name of a named range.
 pub(crate) fn is_name(text: &str) -> bool
@@ -46,7 +42,7 @@ fn is_cell(text: &str) -> bool
     ensures { IsTrue result ↔ IsCell text.now }
 {
     let (letters, digits) = split_letters(text);
-    read_column(letters).is_some() && is_row(digits)
+    read_column(letters).is_some() && read_row(digits).is_some()
 }
 
 /// The letters that a text begins with, and what stands behind them.
@@ -65,21 +61,4 @@ fn count_letters(bytes: &[u8]) -> usize
         .iter()
         .take_while(|byte| byte.is_ascii_alphabetic())
         .count()
-}
-
-/// Whether the text is a row's number, from 1 to 9,999,999.
-fn is_row(text: &str) -> bool
-    ensures { IsTrue result ↔ ((row : ℕ) × IsRow text.now row) }
-{
-    if text.len() > DIGITS || !begins_positive(text) {
-        return false;
-    }
-    text.parse::<u32>().is_ok()
-}
-
-/// Whether a text begins with a digit from 1 to 9.
-fn begins_positive(text: &str) -> bool
-    ensures { IsTrue result ↔ ((49 ≤ slice_index text.now 0) × (slice_index text.now 0 ≤ 57)) }
-{
-    matches!(text.as_bytes(), [b'1'..=b'9', ..])
 }

@@ -1,6 +1,7 @@
 use Rattle.std.proofs.Common.{◌≡◌, ◌∷◌, lit<}
 use Rattle.std.proofs.lemmas.Str.Pattern.{strip_prefix_char}
-use Rattle.a1_notation.proofs.Readings.{not_first, exact_named, one_reading}
+use Rattle.a1_notation.proofs.Fronts.{not_first}
+use Rattle.a1_notation.proofs.Readings.{exact_named, one_reading}
 use Rattle.a1_notation.proofs.reading.read_a1.Goals as goal
 
 pub read_unquoted-requires : goal.read_unquoted-requires

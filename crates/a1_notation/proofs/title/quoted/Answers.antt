@@ -1,7 +1,7 @@
 use Rattle.std.proofs.Common.{rules, lit<, string_bytes}
 use Rattle.std.specs.List.{flat_map}
 use Rattle.std.proofs.lemmas.Str.Pattern.{split_parts}
-use Rattle.a1_notation.specs.Title.{doubled_quote}
+use Rattle.a1_notation.specs.Quoted.{doubled}
 use Rattle.a1_notation.proofs.Titles.{doubled_more, doubled_end}
 use Rattle.a1_notation.proofs.title.quoted.Goals as goal
 
@@ -16,4 +16,4 @@ loop-plain-preserved c =
 pub returns : goal.returns
 returns c =
     let none = rw c.in_default.is at (split_parts 39 c.loop-plain.rest.now c.split_once.result c.split_once.ensures.cases (lit< tt)) in
-    doubled_end (string_bytes c.loop-plain.text) (string_bytes c.push_str-2.new.self) (string_bytes c.push.new.self) c.loop-plain.rest.now (flat_map doubled_quote c.args.title.now) c.in_ok-push_str-3.ensures.bytes (rw (c.in_ok-push.ensures.ascii (lit< tt)) at c.in_ok-push.ensures.bytes) none c.loop-plain.invariant.written
+    doubled_end (string_bytes c.loop-plain.text) (string_bytes c.push_str-2.new.self) (string_bytes c.push.new.self) c.loop-plain.rest.now (flat_map (doubled 39) c.args.title.now) c.in_ok-push_str-3.ensures.bytes (rw (c.in_ok-push.ensures.ascii (lit< tt)) at c.in_ok-push.ensures.bytes) none c.loop-plain.invariant.written

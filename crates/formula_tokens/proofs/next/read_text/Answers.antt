@@ -1,9 +1,11 @@
+use Rattle.std.proofs.Common.{string_bytes}
 use Rattle.formula_tokens.proofs.FirstBytes.{unclosed_text, text_read}
 use Rattle.formula_tokens.proofs.next.read_text.Goals as goal
 
-pub returns-in-Ok-None : goal.returns-in-Ok-None
-returns-in-Ok-None c = unclosed_text c.args.inside.now (rw c.in-Ok-None.field-0-is at c.in-Ok-None.ensures)
+pub returns-in_default : goal.returns-in_default
+returns-in_default c = unclosed_text c.args.inside.now (rw c.in_default.is at c.in_ok-text.ensures.none)
 
-pub returns-in-Ok-Some : goal.returns-in-Ok-Some
-returns-in-Ok-Some c =
-    text_read c.args.inside.now c.in-Ok-Some.text c.in-Ok-Some.rest.now (rw c.in-Ok-Some.field-0-is at c.in-Ok-Some.ensures)
+pub returns : goal.returns
+returns c =
+    rw c.of.ensures
+    (text_read c.args.inside.now (string_bytes c.in-Some.text) c.in-Some.rest.now (rw c.in-Some.is at c.in_ok-text.ensures.read))

@@ -1,6 +1,7 @@
 use Rattle.std.proofs.Common.{subst}
+use Rattle.a1_notation.specs.Room.{HasRoom}
 use Rattle.formula_tokens.specs.declared.corner.Corner.{Corner}
-use Rattle.formula_tokens.specs.Parts.{HasRoom}
+use Rattle.formula_tokens.specs.Corner.{unmarked}
 use Rattle.formula_tokens.proofs.References.{no_first, two_corners, no_part, one_cell_read, corner_room}
 use Rattle.formula_tokens.proofs.reference.read_reference.Goals as goal
 
@@ -12,12 +13,12 @@ read_second-requires c = corner_room c.in_ok-one.ensures.found.lexeme c.in_ok-on
 
 pub written_cell-requires-clause-row : goal.written_cell-requires-clause-row
 written_cell-requires-clause-row c =
-    (subst (λ (one : Corner). HasRoom one) c.in-Cell.is
+    (subst (λ (one : Corner). HasRoom (unmarked one)) c.in-Cell.is
     (corner_room c.in_ok-one.ensures.found.lexeme c.in_ok-one.one c.in_ok-one.ensures.found.is.corner_is)).0
 
 pub written_cell-requires-clause-column : goal.written_cell-requires-clause-column
 written_cell-requires-clause-column c =
-    (subst (λ (one : Corner). HasRoom one) c.in-Cell.is
+    (subst (λ (one : Corner). HasRoom (unmarked one)) c.in-Cell.is
     (corner_room c.in_ok-one.ensures.found.lexeme c.in_ok-one.one c.in_ok-one.ensures.found.is.corner_is)).1
 
 pub returns-in-Some : goal.returns-in-Some

@@ -1,9 +1,9 @@
-use Rattle.std.proofs.Common.{◌≡◌, ◌<◌, ◌≤◌, ℕ, length, All, arith, sym, subst, ap}
+use Rattle.std.proofs.Common.{◌<◌, length, arith, subst}
 use Rattle.std.proofs.lemmas.List.{length-map}
 use Rattle.indexmap.specs.Layout.{length-set_value_at}
 use Rattle.named_ranges.specs.declared.range.NamedRange.{NamedRange}
 use Rattle.named_ranges.specs.Following.{IsWithinOn}
-use Rattle.named_ranges.specs.Kept.{Entry, ranges_of}
+use Rattle.named_ranges.specs.Kept.{Entry}
 use Rattle.named_ranges.proofs.Entries.{follow_kept, follow_lost, range_before}
 use Rattle.named_ranges.proofs.following.follow_all.Goals as goal
 use Rattle.named_ranges.proofs.following.follow_all.Goals.{then-follow, else-follow}

@@ -1,4 +1,4 @@
-use Rattle.std.proofs.Common.{◌≡◌, ◌∙◌, ap, List, sym, subst}
+use Rattle.std.proofs.Common.{◌∙◌, ap, List, sym, subst}
 use Rattle.std.specs.List.{filter_map}
 use Rattle.named_ranges.specs.Following.{range_followed}
 use Rattle.named_ranges.specs.Kept.{Entry, ranges_of, IsKept}

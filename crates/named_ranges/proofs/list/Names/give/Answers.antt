@@ -1,8 +1,8 @@
-use Rattle.std.proofs.Common.{◌≡◌, ◌∙◌, ap, Bool, false, List, Option, Some, None, IfSome, sym, subst}
+use Rattle.std.proofs.Common.{◌≡◌, ◌∙◌, ap, false, List, IfSome, sym, subst}
 use Rattle.named_ranges.specs.declared.range.NamedRange.{NamedRange}
 use Rattle.named_ranges.specs.Given.{given_range}
 use Rattle.named_ranges.specs.Listed.{with_id, with_changed, is_name_of_other}
-use Rattle.named_ranges.specs.Kept.{Entry, ranges_of, IsKept}
+use Rattle.named_ranges.specs.Kept.{ranges_of}
 use Rattle.indexmap.specs.IndexMap.{set_value_at}
 use Rattle.named_ranges.proofs.Entries.{lookup-with_id, IsKept-given, with_changed_at, with_id_has, unlisted, ranges_of-set_value_at, none_of}
 use Rattle.named_ranges.proofs.list.Names.give.Goals as goal

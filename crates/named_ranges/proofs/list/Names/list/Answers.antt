@@ -1,4 +1,4 @@
-use Rattle.std.proofs.Common.{◌≡◌, ◌∙◌, ap, List, sym, subst}
+use Rattle.std.proofs.Common.{◌∙◌, ap, List, sym, subst}
 use Rattle.std.specs.Prelude.{slice_get}
 use Rattle.std.specs.Option.{option_map}
 use Rattle.named_ranges.specs.declared.range.NamedRange.{NamedRange}

@@ -1,4 +1,4 @@
-use Rattle.std.proofs.Common.{◌≡◌, ◌∙◌, ap, List, sym, subst}
+use Rattle.std.proofs.Common.{◌∙◌, ap, List, sym, subst}
 use Rattle.named_ranges.specs.Following.{ranges_elsewhere}
 use Rattle.named_ranges.specs.Kept.{Entry, ranges_of, IsKept}
 use Rattle.named_ranges.proofs.Entries.{ranges_of-elsewhere, IsKept-elsewhere}

@@ -2,7 +2,6 @@ use Rattle.std.proofs.Common.{◌≡◌, ◌∙◌, ◌++◌, ◌∷◌, [], ap,
 use Rattle.std.specs.String.{string_bytes}
 use Rattle.std.proofs.lemmas.List.{map_push}
 use Rattle.indexmap.proofs.CallerLemmas.{insert_entry-new}
-use Rattle.named_ranges.specs.declared.range.NamedRange.{NamedRange}
 use Rattle.named_ranges.specs.Listed.{with_id, with_name}
 use Rattle.named_ranges.specs.Kept.{Entry, ranges_of, IsKept}
 use Rattle.named_ranges.proofs.Entries.{lookup-with_id, IsKept-push}

@@ -1,4 +1,4 @@
-use Rattle.std.proofs.Common.{◌≡◌, ◌∙◌, ap, List, sym, subst}
+use Rattle.std.proofs.Common.{◌∙◌, ap, List, sym, subst}
 use Rattle.named_ranges.specs.Listed.{with_id, without_id}
 use Rattle.named_ranges.specs.Kept.{Entry, ranges_of, IsKept}
 use Rattle.named_ranges.proofs.Entries.{lookup-with_id, ranges_of-remove_entry, IsKept-remove_entry}

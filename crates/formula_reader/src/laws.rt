@@ -1,0 +1,25 @@
+//! Laws of formulas that are kept: each function does nothing, and its contract is the law. A caller
+//! that has read a formula knows by them that it can still be printed and read again when the sheets
+//! have changed.
+
+ghost use Rattle.formula_reader.specs.Changed.{StaysReadable, PrintsTheSame, MayFollow, MayLoseSheet, MayBeRenamed};
+
+/// A formula that can be read again can be so after its references have followed, its words are
+/// renamed or titles are other, where the cells of its references are in the grid.
+#[tactic(auto, using(crate::proofs::Changed::stays_readable))]
+pub fn stays_readable()
+    ensures { StaysReadable }
+{}
+
+/// A formula as it is read again is printed as the formula itself.
+pub fn prints_the_same()
+    ensures { PrintsTheSame }
+{}
+
+/// What `ref_rewrite` makes of pieces where lines change, a sheet is lost or a name becomes another,
+/// they may become, so that their formula stays readable.
+pub fn changes_may_be()
+    ensures follow { MayFollow }
+    ensures lose_sheet { MayLoseSheet }
+    ensures rename { MayBeRenamed }
+{}
