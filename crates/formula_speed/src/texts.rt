@@ -1,0 +1,44 @@
+ghost use Rattle.std.specs.Prelude.{◌≡◌, ◌+◌, ◌*◌, ◌%◌, ◌<◌, IfOk, length, string_bytes};
+
+use cell_value::NoMemory;
+use std::alloc::Global;
+
+/// What a formula joins by `&`.
+#[derive(Clone, Copy, PartialEq, Eq)]
+pub enum Kind {
+    /// Texts of 247 letters.
+    ManyTexts,
+    /// One text, and nothing else.
+    OneText,
+    /// Texts of 992 letters, with a reference to a cell behind each.
+    References,
+}
+
+/// A formula text of the kind with so many bytes.
+pub fn text_of(alloc: Global, kind: Kind, bytes: usize) -> Result<String, NoMemory>
+    requires { (0 < bytes) × (bytes % 1000 ≡ 0) }
+    ensures { IfOk result (λ text. length (string_bytes text) ≡ bytes) }
+{
+    match kind {
+        Kind::ManyTexts => joined(alloc, 247, "", bytes / 250),
+        Kind::OneText => joined(alloc, bytes - 3, "", 1),
+        Kind::References => joined(alloc, 992, "&$A$1", bytes / 1_000),
+    }
+}
+
+/// A formula that joins so many texts of so many letters, with what stands behind each of them.
+fn joined(alloc: Global, letters: usize, behind: &str, times: usize) -> Result<String, NoMemory>
+    ensures { IfOk result (λ text. length (string_bytes text) ≡ (letters + 3 + length behind.now) * times) }
+{
+    let letters = "a".repeat(alloc, letters)?;
+    let mut text = String::new(alloc);
+    for number in 0..times {
+        let sign = if number == 0 { "=" } else { "&" };
+        text.push_str(sign)?;
+        text.push_str("\"")?;
+        text.push_str(letters.as_str())?;
+        text.push_str("\"")?;
+        text.push_str(behind)?;
+    }
+    Ok(text)
+}
