@@ -1,80 +1,29 @@
 -- Letters as the digits of a column's number.
-use Rattle.std.proofs.Common.{◌≡◌, ℕ, ◌+◌, ◌-◌, ◌*◌, ◌/◌, ◌%◌, ◌<◌, ◌≤◌, min, Bool, true, false, ltb, List, [], ◌∷◌, length, get_or, take, map, refl, arith, inl, inr, subst}
-use Rattle.std.specs.Prelude.{◌⊎◌, Option, Some, IfSome, IsSome, ◌↔◌}
+use Rattle.std.proofs.Common.{◌≡◌, ℕ, ◌+◌, ◌-◌, ◌*◌, ◌<◌, min, Bool, true, false, ltb, List, [], ◌∷◌, length, get_or, take, map, refl, arith, inl, inr}
+use Rattle.std.specs.Prelude.{Option, Some, IfSome, IsSome, ◌↔◌}
 use Rattle.std.specs.Bool.{then_some}
 use Rattle.std.specs.List.{list_all}
 use Rattle.std.specs.Char.{is_ascii_alphabetic, to_ascii_uppercase}
-use Rattle.std.proofs.lemmas.Bool.{and_parts, ltb-true, lt-ltb, cases_lt, false≢true}
-use Rattle.std.proofs.lemmas.Bool.Decides.{nat_tests}
-use Rattle.std.proofs.lemmas.Int.Digits.{number_push, number_after_ge}
+use Rattle.std.proofs.lemmas.Bool.{ltb-true, lt-ltb, false≢true}
+use Rattle.std.proofs.lemmas.Int.Digits.{number_push}
 use Rattle.std.proofs.lemmas.List.{map_more}
 use Rattle.std.proofs.lemmas.List.Recursion.{and_at}
+use Rattle.a1_notation.proofs.ColumnLetters.{letter_value_bounds, first_letter, letters_value_bounds, letters_of_one, letters_of_two, letters_of_three}
 use Rattle.a1_notation.specs.Column.{letter_value, letters_value, IsColumn, AreLetters, column_letters}
 
--- a letter's value is from 1 to 26, and its place behind the @ (64)
-pub letter_value_bounds : (b : ℕ) → is_ascii_alphabetic b ≡ true → (1 ≤ letter_value b) × (letter_value b ≤ 26) × (to_ascii_uppercase b ≡ letter_value b + 64)
-letter_value_bounds b h = grind (arith, nat_tests)
-
 -- each of some letters is one
-pub is_letter_at : (xs : List ℕ) (i : ℕ) → list_all is_ascii_alphabetic xs ≡ true → i < length xs → is_ascii_alphabetic (get_or xs i 0) ≡ true
+pub is_letter_at : (xs : List ℕ) (i : ℕ) → list_all is_ascii_alphabetic xs ≡ true → i < length xs
+    → is_ascii_alphabetic (get_or xs i 0) ≡ true
 is_letter_at xs i all h = and_at (list_all is_ascii_alphabetic) is_ascii_alphabetic refl (λ _ _. refl) xs i 0 h all
 
-pub letters_value-more : (xs : List ℕ) (i : ℕ) → i < length xs → letters_value (take (i + 1) xs) ≡ letters_value (take i xs) * 26 + letter_value (get_or xs i 0)
-letters_value-more xs i h = rw (map_more letter_value xs i 0 h) (number_push 26 (map letter_value (take i xs)) (letter_value (get_or xs i 0)))
-
--- the first of some letters is one, and so are the rest
-pub first_letter : (x : ℕ) (xs : List ℕ) → list_all is_ascii_alphabetic (x ∷ xs) ≡ true → (is_ascii_alphabetic x ≡ true) × (list_all is_ascii_alphabetic xs ≡ true)
-first_letter x xs all = and_parts (is_ascii_alphabetic x) (list_all is_ascii_alphabetic xs) all
-
--- one to three letters are a number up to 18278, and more are a larger one
-pub letters_value_bounds : (xs : List ℕ) → list_all is_ascii_alphabetic xs ≡ true → 0 < length xs → (1 ≤ letters_value xs) × (((length xs ≤ 3) × (letters_value xs ≤ 18278)) ⊎ ((3 < length xs) × (18279 ≤ letters_value xs)))
-letters_value_bounds [] all some = absurd (omega arith)
-letters_value_bounds (a ∷ []) all some =
-    let x = letter_value_bounds a (first_letter a [] all).0 in
-    (omega (arith, x), inl (omega arith, omega (arith, x)))
-letters_value_bounds (a ∷ b ∷ []) all some =
-    let l = first_letter a (b ∷ []) all in
-    let x = letter_value_bounds a l.0 in
-    let y = letter_value_bounds b (first_letter b [] l.1).0 in
-    (omega (arith, x, y), inl (omega arith, omega (arith, x, y)))
-letters_value_bounds (a ∷ b ∷ c ∷ []) all some =
-    let l = first_letter a (b ∷ c ∷ []) all in
-    let m = first_letter b (c ∷ []) l.1 in
-    let x = letter_value_bounds a l.0 in
-    let y = letter_value_bounds b m.0 in
-    let z = letter_value_bounds c (first_letter c [] m.1).0 in
-    (omega (arith, x, y, z), inl (omega arith, omega (arith, x, y, z)))
-letters_value_bounds (a ∷ b ∷ c ∷ d ∷ rest) all some =
-    let l = first_letter a (b ∷ c ∷ d ∷ rest) all in
-    let m = first_letter b (c ∷ d ∷ rest) l.1 in
-    let n = first_letter c (d ∷ rest) m.1 in
-    let x = letter_value_bounds a l.0 in
-    let y = letter_value_bounds b m.0 in
-    let z = letter_value_bounds c n.0 in
-    let w = letter_value_bounds d (first_letter d rest n.1).0 in
-    let e = number_after_ge 26 ((((0 * 26 + letter_value a) * 26 + letter_value b) * 26 + letter_value c) * 26 + letter_value d) (map letter_value rest) (omega arith) in
-    (omega (arith, x, y, z, w, e), inr (omega arith, omega (arith, x, y, z, w, e)))
-
--- the letters of a column of one letter, of two and of three, from their values less one
-letters_of_one : (x : ℕ) → x < 26 → column_letters x ≡ (65 + x) ∷ []
-letters_of_one x h = grind (arith, nat_tests)
-
-letters_of_two : (x y : ℕ) → x < 26 → y < 26 → column_letters (26 + 26 * x + y) ≡ (65 + x) ∷ (65 + y) ∷ []
-letters_of_two x y h k =
-    let a : (26 + 26 * x + y - 26) / 26 ≡ x = omega arith in
-    let b : (26 + 26 * x + y - 26) % 26 ≡ y = omega arith in
-    grind (arith, nat_tests)
-
-letters_of_three : (x y z : ℕ) → x < 26 → y < 26 → z < 26 → column_letters (702 + 676 * x + 26 * y + z) ≡ (65 + x) ∷ (65 + y) ∷ (65 + z) ∷ []
-letters_of_three x y z h k l =
-    let a : (702 + 676 * x + 26 * y + z - 702) / 676 ≡ x = omega arith in
-    let b : (702 + 676 * x + 26 * y + z - 702) / 26 ≡ 26 * x + y = omega arith in
-    let c : (26 * x + y) % 26 ≡ y = omega arith in
-    let d : (702 + 676 * x + 26 * y + z - 702) % 26 ≡ z = omega arith in
-    grind (arith, nat_tests)
+pub letters_value-more : (xs : List ℕ) (i : ℕ) → i < length xs
+    → letters_value (take (i + 1) xs) ≡ letters_value (take i xs) * 26 + letter_value (get_or xs i 0)
+letters_value-more xs i h =
+    rw (map_more letter_value xs i 0 h) (number_push 26 (map letter_value (take i xs)) (letter_value (get_or xs i 0)))
 
 -- a column's letters in upper case are the ones that are written for it
-pub upper_case_letters : (text : List ℕ) (column : ℕ) → IsColumn 3 text column → column_letters column ≡ map to_ascii_uppercase text
+pub upper_case_letters : (text : List ℕ) (column : ℕ) → IsColumn 3 text column
+    → column_letters column ≡ map to_ascii_uppercase text
 upper_case_letters [] column h = absurd (omega (arith, h.letters.some))
 upper_case_letters (a ∷ []) column h =
     let x = letter_value_bounds a (first_letter a [] h.letters.all).0 in
@@ -88,74 +37,40 @@ upper_case_letters (a ∷ b ∷ []) column h =
     let e : column ≡ 26 + 26 * (letter_value a - 1) + (letter_value b - 1) = omega (arith, x, y, h.value) in
     let p : 65 + (letter_value a - 1) ≡ to_ascii_uppercase a = omega (arith, x) in
     let q : 65 + (letter_value b - 1) ≡ to_ascii_uppercase b = omega (arith, y) in
-    rw e (rw (letters_of_two (letter_value a - 1) (letter_value b - 1) (omega (arith, x)) (omega (arith, y)), p, q) refl)
+    rw e
+    (rw (letters_of_two (letter_value a - 1) (letter_value b - 1) (omega (arith, x)) (omega (arith, y)), p, q) refl)
 upper_case_letters (a ∷ b ∷ c ∷ []) column h =
     let l = first_letter a (b ∷ c ∷ []) h.letters.all in
     let m = first_letter b (c ∷ []) l.1 in
     let x = letter_value_bounds a l.0 in
     let y = letter_value_bounds b m.0 in
     let z = letter_value_bounds c (first_letter c [] m.1).0 in
-    let e : column ≡ 702 + 676 * (letter_value a - 1) + 26 * (letter_value b - 1) + (letter_value c - 1) = omega (arith, x, y, z, h.value) in
+    let e : column ≡ 702 + 676 * (letter_value a - 1) + 26 * (letter_value b - 1) + (letter_value c - 1) =
+    omega (arith, x, y, z, h.value) in
     let p : 65 + (letter_value a - 1) ≡ to_ascii_uppercase a = omega (arith, x) in
     let q : 65 + (letter_value b - 1) ≡ to_ascii_uppercase b = omega (arith, y) in
     let r : 65 + (letter_value c - 1) ≡ to_ascii_uppercase c = omega (arith, z) in
-    rw e (rw (letters_of_three (letter_value a - 1) (letter_value b - 1) (letter_value c - 1) (omega (arith, x)) (omega (arith, y)) (omega (arith, z)), p, q, r) refl)
+    rw e
+    (rw (
+      letters_of_three (letter_value a - 1) (letter_value b - 1) (letter_value c - 1) (omega (arith, x))
+          (omega (arith, y)) (omega (arith, z)),
+      p,
+      q,
+      r,
+    ) refl)
 upper_case_letters (a ∷ b ∷ c ∷ d ∷ rest) column h = absurd (omega (arith, h.letters.few))
 
--- an upper-case letter by its place
-upper_letter : (x : ℕ) → x < 26 → (is_ascii_alphabetic (65 + x) ≡ true) × (letter_value (65 + x) ≡ x + 1)
-upper_letter x small = (grind (arith, nat_tests), grind (arith, nat_tests))
-
--- the letters that are written for a column are its text
-column_of_two : (x y : ℕ) → x < 26 → y < 26 → IsColumn 3 (column_letters (26 + 26 * x + y)) (26 + 26 * x + y)
-column_of_two x y h k =
-    let a = upper_letter x h in
-    let b = upper_letter y k in
-    rw (letters_of_two x y h k) (record {
-      letters = record { all = rw (a.0, b.0) refl; some = omega arith; few = omega arith };
-      value = omega (arith, a.1, b.1);
-    })
-
-column_of_three : (x y z : ℕ) → x < 26 → y < 26 → z < 26 → IsColumn 3 (column_letters (702 + 676 * x + 26 * y + z)) (702 + 676 * x + 26 * y + z)
-column_of_three x y z h k l =
-    let a = upper_letter x h in
-    let b = upper_letter y k in
-    let c = upper_letter z l in
-    rw (letters_of_three x y z h k l) (record {
-      letters = record { all = rw (a.0, b.0, c.0) refl; some = omega arith; few = omega arith };
-      value = omega (arith, a.1, b.1, c.1);
-    })
-
-pub column_letters_are : (column : ℕ) → column < 18278 → IsColumn 3 (column_letters column) column
-column_letters_are column small =
-    elim (cases_lt column 26) [
-      | inl one ↦ let a = upper_letter column one in
-          rw (letters_of_one column one) (record {
-            letters = record { all = rw a.0 refl; some = omega arith; few = omega arith };
-            value = omega (arith, a.1);
-          })
-      | inr more ↦ elim (cases_lt column 702) [
-        | inl two ↦
-            let e : 26 + 26 * ((column - 26) / 26) + (column - 26) % 26 ≡ column = omega arith in
-            let P : ℕ → Type 0 = λ n. IsColumn 3 (column_letters n) n in
-            subst P e (column_of_two ((column - 26) / 26) ((column - 26) % 26) (omega arith) (omega arith))
-        | inr three ↦
-            let place = column - 702 in
-            let e : 702 + 676 * (place / 26 / 26) + 26 * (place / 26 % 26) + place % 26 ≡ column = omega arith in
-            let P : ℕ → Type 0 = λ n. IsColumn 3 (column_letters n) n in
-            subst P e (column_of_three (place / 26 / 26) (place / 26 % 26) (place % 26) (omega arith) (omega arith) (omega arith))
-      ]
-    ]
-
 -- what `capped_column` counts of some letters is their column, where it is below 18278
-pub column_from_capped : (text : List ℕ) (capped : ℕ) → list_all is_ascii_alphabetic text ≡ true → 0 < length text → capped + 1 ≡ min (letters_value text) 18279 → capped < 18278 → IsColumn 3 text capped
+pub column_from_capped : (text : List ℕ) (capped : ℕ) → list_all is_ascii_alphabetic text ≡ true → 0 < length text
+    → capped + 1 ≡ min (letters_value text) 18279 → capped < 18278 → IsColumn 3 text capped
 column_from_capped text capped all some counted small =
     elim (letters_value_bounds text all some).1 [
       | inl few ↦ record { letters = record { all = all; some = some; few = few.0 }; value = omega (arith, few.1) }
       | inr many ↦ absurd (omega (arith, many.1))
     ]
 
-pub capped_from_column : (text : List ℕ) (capped column : ℕ) → capped + 1 ≡ min (letters_value text) 18279 → IsColumn 3 text column → (capped < 18278) × (capped ≡ column)
+pub capped_from_column : (text : List ℕ) (capped column : ℕ) → capped + 1 ≡ min (letters_value text) 18279
+    → IsColumn 3 text column → (capped < 18278) × (capped ≡ column)
 capped_from_column text capped column counted is =
     elim (letters_value_bounds text is.letters.all is.letters.some).1 [
       | inl few ↦ (omega (arith, few.1), omega (arith, few.1, is.value))
@@ -163,14 +78,17 @@ capped_from_column text capped column counted is =
     ]
 
 -- the counting itself
-pub capped_more : (text : List ℕ) (i number upper : ℕ) → list_all is_ascii_alphabetic text ≡ true → i < length text → number ≡ min (letters_value (take i text)) 18279 → upper ≡ to_ascii_uppercase (get_or text i 0) → min (26 * number + (upper - 65 + 1)) 18279 ≡ min (letters_value (take (i + 1) text)) 18279
+pub capped_more : (text : List ℕ) (i number upper : ℕ) → list_all is_ascii_alphabetic text ≡ true → i < length text
+    → number ≡ min (letters_value (take i text)) 18279 → upper ≡ to_ascii_uppercase (get_or text i 0)
+    → min (26 * number + (upper - 65 + 1)) 18279 ≡ min (letters_value (take (i + 1) text)) 18279
 capped_more text i number upper all h so_far e =
     let more = letters_value-more text i h in
     let bounds = letter_value_bounds (get_or text i 0) (is_letter_at text i all h) in
     omega (arith, more, bounds)
 
 -- what `then_some` gives of a test's answer
-IfSome_then_some : (b : Bool) (x : ℕ) (r : Option ℕ) (P : ℕ → Type 0) → r ≡ then_some b x → (b ≡ true → P x) → IfSome r P
+IfSome_then_some : (b : Bool) (x : ℕ) (r : Option ℕ) (P : ℕ → Type 0) → r ≡ then_some b x → (b ≡ true → P x)
+    → IfSome r P
 IfSome_then_some true x r P e h = rw e (h refl)
 IfSome_then_some false x r P e h = rw e tt
 
@@ -185,9 +103,13 @@ pub record AnswersColumn (text : List ℕ) (answer : Option ℕ) : Type 0 where
   pub only : (column : ℕ) → IsColumn 3 text column → answer ≡ Some column
   pub upper_case : IfSome answer (λ column. column_letters column ≡ map to_ascii_uppercase text)
 
-pub answers_column : (text : List ℕ) (capped : ℕ) (answer : Option ℕ) → list_all is_ascii_alphabetic text ≡ true → 0 < length text → capped + 1 ≡ min (letters_value text) 18279 → answer ≡ then_some (ltb capped 18278) capped → AnswersColumn text answer
+pub answers_column : (text : List ℕ) (capped : ℕ) (answer : Option ℕ) → list_all is_ascii_alphabetic text ≡ true
+    → 0 < length text → capped + 1 ≡ min (letters_value text) 18279 → answer ≡ then_some (ltb capped 18278) capped
+    → AnswersColumn text answer
 answers_column text capped answer all some counted e = record {
-  column = IfSome_then_some (ltb capped 18278) capped answer (IsColumn 3 text) e (λ h. column_from_capped text capped all some counted (ltb-true capped 18278 h));
+  column =
+      IfSome_then_some (ltb capped 18278) capped answer (IsColumn 3 text) e
+      (λ h. column_from_capped text capped all some counted (ltb-true capped 18278 h));
   letters = let test = some_then_some (ltb capped 18278) capped answer e in (
     λ found. record {
       all = all;
@@ -201,6 +123,8 @@ answers_column text capped answer all some counted e = record {
   );
   only = λ column is. let found = capped_from_column text capped column counted is in
       rw (e, lt-ltb capped 18278 found.0, found.1) refl;
-  upper_case = IfSome_then_some (ltb capped 18278) capped answer (λ column. column_letters column ≡ map to_ascii_uppercase text) e
+  upper_case =
+      IfSome_then_some (ltb capped 18278) capped answer
+      (λ column. column_letters column ≡ map to_ascii_uppercase text) e
       (λ h. upper_case_letters text capped (column_from_capped text capped all some counted (ltb-true capped 18278 h)));
 }

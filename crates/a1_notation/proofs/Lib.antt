@@ -1,8 +1,12 @@
-pub mod Fronts
+pub mod ColumnLetters
+pub mod RowNumbers
+pub mod CanonicalTexts
+pub mod QuoteEnds
+pub mod OneRun
+pub mod Runs
 pub mod Quotes
 pub mod Letters
 pub mod Titles
-pub mod Written
 pub mod Readings
 pub mod Areas
 pub mod Rows

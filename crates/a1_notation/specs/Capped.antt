@@ -1,15 +1,16 @@
--- What is kept of a corner or an area that may lie past column ZZZ: there a column counts as 18278, the
--- number of the columns from A to ZZZ.
-use Rattle.std.specs.Prelude.{◌≡◌, ℕ, ◌<◌, List, length, min}
+-- What is kept of a corner or an area that may lie past column ZZZ: there a column counts as the number of
+-- the columns from A to ZZZ.
+use Rattle.std.specs.Prelude.{◌≡◌, ℕ, ◌+◌, ◌<◌, List, length, min}
 use Rattle.grid_range.specs.declared.band.Band.{Band}
 use Rattle.grid_range.specs.declared.band.Band.TheVariants.{Whole, From, Span}
+use Rattle.a1_notation.specs.declared.column.TheConstants.{NAMED_COLUMNS}
 use Rattle.a1_notation.specs.declared.corner.Corner.{Corner}
 use Rattle.a1_notation.specs.declared.corner.Corner.TheVariants.{Cell, Column, Row}
 use Rattle.a1_notation.specs.Area.{IsCorner, IsBetween, IsArea}
 
 abbrev pub capped_corner : Corner → Corner
-capped_corner (Cell row column) = Cell row (min column 18278)
-capped_corner (Column column) = Column (min column 18278)
+capped_corner (Cell row column) = Cell row (min column NAMED_COLUMNS)
+capped_corner (Column column) = Column (min column NAMED_COLUMNS)
 capped_corner (Row row) = Row row
 
 -- the text is a corner, and this is kept of it
@@ -21,7 +22,7 @@ pub record IsCappedCorner (text : List ℕ) (corner : Corner) : Type 0 where
 abbrev pub capped_band : Band → Band
 capped_band Whole = Whole
 capped_band (From start) = From start
-capped_band (Span start end) = Span (min start 18278) (min end 18279)
+capped_band (Span start end) = Span (min start NAMED_COLUMNS) (min end (NAMED_COLUMNS + 1))
 
 -- the texts are two corners, and this is kept of the area between them
 pub record IsCappedBetween (first second : List ℕ) (rows columns : Band) : Type 0 where
@@ -41,4 +42,4 @@ pub record IsCappedArea (text : List ℕ) (rows columns : Band) : Type 0 where
 abbrev pub ArePastZZZ : Band → Type 0
 ArePastZZZ Whole = ⊥
 ArePastZZZ (From start) = ⊥
-ArePastZZZ (Span start end) = 18278 < end
+ArePastZZZ (Span start end) = NAMED_COLUMNS < end

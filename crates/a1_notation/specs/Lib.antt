@@ -1,3 +1,6 @@
+pub mod Run
+pub mod Word
+pub mod Class
 pub mod Column
 pub mod Quoted
 pub mod Title
@@ -6,3 +9,4 @@ pub mod Room
 pub mod Range
 pub mod Canonical
 pub mod Capped
+pub mod Laws

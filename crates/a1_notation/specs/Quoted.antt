@@ -10,8 +10,8 @@ doubled quote byte = if byte == quote then quote ∷ quote ∷ [] else byte ∷ 
 abbrev pub quoted : ℕ → List ℕ → List ℕ
 quoted quote content = quote ∷ flat_map (doubled quote) content ++ quote ∷ []
 
--- behind an opening quote stands this content, up to the closing one, and the rest behind that: no
+-- an opening quote and what is inside are this content in quotes, and the rest behind the closing one: no
 -- further quote
 pub record IsUpToQuote (quote : ℕ) (inside content rest : List ℕ) : Type 0 where
-  pub parts : inside ≡ flat_map (doubled quote) content ++ quote ∷ rest
+  pub parts : quote ∷ inside ≡ quoted quote content ++ rest
   pub closed : slice_index rest 0 ≢ quote

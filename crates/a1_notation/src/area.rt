@@ -5,7 +5,7 @@ ghost use Rattle.a1_notation.specs.Room.{HasNext, HasRoom};
 ghost use Rattle.a1_notation.specs.Capped.{IsCappedArea, IsCappedBetween, ArePastZZZ};
 
 use crate::a1::A1Fault;
-use crate::column::COLUMNS;
+use crate::column::NAMED_COLUMNS;
 use crate::corner::Corner;
 use grid_range::Band;
 
@@ -27,7 +27,7 @@ pub(crate) fn read_area(text: &str) -> Result<(Band, Band), A1Fault>
     Ok((rows, columns))
 }
 
-/// The area that a text is; a column past `ZZZ` counts as `COLUMNS`.
+/// The area that a text is; a column past `ZZZ` counts as `NAMED_COLUMNS`.
 fn read_capped(text: &str) -> Option<(Band, Band)>
     ensures area { IfSome result (λ area. IsCappedArea text.now area.0 area.1) }
     ensures none { IfNone result ((most : ℕ) (rows columns : Band) → ¬ (IsArea most text.now rows columns)) }
@@ -38,7 +38,7 @@ fn read_capped(text: &str) -> Option<(Band, Band)>
     }
 }
 
-/// The area between two corners; a column past `ZZZ` counts as `COLUMNS`.
+/// The area between two corners; a column past `ZZZ` counts as `NAMED_COLUMNS`.
 fn read_between(first: &str, second: &str) -> Option<(Band, Band)>
     ensures area { IfSome result (λ area. IsCappedBetween first.now second.now area.0 area.1) }
     ensures none { IfNone result ((most : ℕ) (rows columns : Band) →
@@ -49,7 +49,7 @@ fn read_between(first: &str, second: &str) -> Option<(Band, Band)>
     area_between(one, other)
 }
 
-/// The area of one cell; a column past `ZZZ` counts as `COLUMNS`.
+/// The area of one cell; a column past `ZZZ` counts as `NAMED_COLUMNS`.
 fn read_cell(text: &str) -> Option<(Band, Band)>
     ensures area { IfSome result (λ area. IsCappedArea text.now area.0 area.1) }
     ensures none { IfNone result ((most : ℕ) (rows columns : Band) →
@@ -98,5 +98,5 @@ fn lines_between(one: u32, other: u32) -> Band
 fn is_past_zzz(columns: Band) -> bool
     ensures { IsTrue result ↔ ArePastZZZ columns }
 {
-    matches!(columns, Band::Span(_, end) if end > COLUMNS)
+    matches!(columns, Band::Span(_, end) if end > NAMED_COLUMNS)
 }

@@ -7,7 +7,7 @@ use cell_value::{NoMemory, Text};
 use std::alloc::Global;
 
 /// The number of columns that have a name: `A` to `ZZZ`.
-pub(crate) const COLUMNS: u32 = 18_278;
+pub const NAMED_COLUMNS: u32 = 18_278;
 
 /// The letters of a column, in upper case.
 ///
@@ -15,7 +15,7 @@ pub(crate) const COLUMNS: u32 = 18_278;
 ///
 /// [`NoMemory`] where memory runs out.
 pub fn column_text(alloc: Global, column: u32) -> Result<Text, NoMemory>
-    requires { column < 18278 }
+    requires { column < NAMED_COLUMNS }
     ensures letters { IfOk result (λ text. text ≡ column_letters column) }
     ensures reads_back { IfOk result (λ text. IsColumn 3 text column) }
 {
@@ -45,7 +45,7 @@ pub fn read_column(text: &str) -> Option<u32>
         return None;
     }
     let column = capped_column(letters);
-    (column < COLUMNS).then_some(column)
+    (column < NAMED_COLUMNS).then_some(column)
 }
 
 /// Whether each byte is an ASCII letter.
@@ -55,16 +55,16 @@ fn are_letters(bytes: &[u8]) -> bool
     bytes.iter().all(|byte| byte.is_ascii_alphabetic())
 }
 
-/// The column of the letters; a column past `ZZZ` is `COLUMNS`.
+/// The column of the letters; a column past `ZZZ` is `NAMED_COLUMNS`.
 pub(crate) fn capped_column(letters: &[u8]) -> u32
     requires some { 0 < length letters.now }
     requires letters { IsTrue (list_all is_ascii_alphabetic letters.now) }
-    ensures { result + 1 ≡ min (letters_value letters.now) 18279 }
+    ensures { result + 1 ≡ min (letters_value letters.now) (NAMED_COLUMNS + 1) }
 {
     let mut number = 0;
     for letter in letters {
         let value = u32::from(letter.to_ascii_uppercase() - b'A') + 1;
-        number = (26 * number + value).min(COLUMNS + 1);
+        number = (26 * number + value).min(NAMED_COLUMNS + 1);
     }
     number - 1
 }

@@ -1,7 +1,6 @@
-ghost use Rattle.std.specs.Prelude.{◌≡◌, ℕ, ◌≤◌, IfSome, IfNone, length, take, drop};
-ghost use Rattle.std.specs.List.{prefix_len};
-ghost use Rattle.std.specs.Char.{is_ascii_alphabetic};
+ghost use Rattle.std.specs.Prelude.{ℕ, IfSome, IfNone};
 
+use crate::class::Class;
 use crate::column::capped_column;
 use crate::row::read_row;
 
@@ -20,12 +19,12 @@ impl Corner {
     ghost use Rattle.a1_notation.specs.Area.{IsCorner};
     ghost use Rattle.a1_notation.specs.Capped.{IsCappedCorner};
 
-    /// The corner that a text is; a column past `ZZZ` is `COLUMNS`.
+    /// The corner that a text is; a column past `ZZZ` is `NAMED_COLUMNS`.
     pub(crate) fn read(text: &str) -> Option<Corner>
         ensures corner { IfSome result (IsCappedCorner text.now) }
         ensures none { IfNone result ((most : ℕ) (corner : Corner) → ¬ (IsCorner most text.now corner)) }
     {
-        let (letters, digits) = split_letters(text);
+        let (letters, digits) = Class::Letter.split(text);
         if letters.is_empty() {
             return Some(Corner::Row(read_row(digits)?));
         }
@@ -35,22 +34,4 @@ impl Corner {
         }
         Some(Corner::Cell(read_row(digits)?, column))
     }
-}
-
-/// The letters that a text begins with, and what stands behind them.
-fn split_letters(text: &str) -> (&str, &str)
-    ensures letters { result.0.now ≡ take (prefix_len is_ascii_alphabetic text.now) text.now }
-    ensures behind { result.1.now ≡ drop (prefix_len is_ascii_alphabetic text.now) text.now }
-{
-    text.split_at(count_letters(text.as_bytes()))
-}
-
-/// How many letters a text begins with.
-fn count_letters(bytes: &[u8]) -> usize
-    ensures { result ≡ prefix_len is_ascii_alphabetic bytes.now }
-{
-    bytes
-        .iter()
-        .take_while(|byte| byte.is_ascii_alphabetic())
-        .count()
 }

@@ -5,23 +5,29 @@
 
 mod a1;
 mod area;
+mod class;
 mod column;
 mod corner;
+mod laws;
 mod quoted;
 mod reading;
 mod row;
 mod title;
+mod word;
 mod writing;
 
 pub use a1::{A1, A1Fault, Part};
 pub use area::area_between;
-pub use column::{column_text, read_column};
+pub use class::Class;
+pub use column::{NAMED_COLUMNS, column_text, read_column};
 pub use corner::Corner;
+pub use laws::a1_laws;
 pub use quoted::read_quoted;
 pub use reading::read_a1;
-pub use row::read_row;
+pub use row::{NUMBERED_ROWS, read_row};
 pub use title::quote_name;
-pub use writing::write_a1;
+pub use word::split_word;
+pub use writing::{is_one_line, write_a1};
 
 #[cfg(test)]
 mod tests;

@@ -1,4 +1,4 @@
-ghost use Rattle.std.specs.Prelude.{ℕ, ◌<◌, List, IfOk, IfSome, IfNone, string_bytes};
+ghost use Rattle.std.specs.Prelude.{◌≡◌, ℕ, ◌<◌, List, IfOk, IfSome, IfNone, string_bytes};
 ghost use Rattle.a1_notation.specs.Quoted.{IsUpToQuote};
 
 use cell_value::NoMemory;
@@ -19,6 +19,8 @@ pub fn read_quoted(
     requires ascii { quote < 128 }
     ensures read { IfOk result (λ answer. IfSome answer (λ read.
         IsUpToQuote quote inside.now (string_bytes read.0) read.1.now)) }
+    ensures one { IfOk result (λ answer. IfSome answer (λ read. (content rest : List ℕ) →
+        IsUpToQuote quote inside.now content rest → (content ≡ string_bytes read.0) × (rest ≡ read.1.now))) }
     ensures none { IfOk result (λ answer. IfNone answer ((content rest : List ℕ) →
         ¬ (IsUpToQuote quote inside.now content rest))) }
 {

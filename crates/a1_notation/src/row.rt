@@ -1,6 +1,9 @@
 ghost use Rattle.std.specs.Prelude.{ℕ, ◌↔◌, ◌≤◌, IfSome, IfNone, IsTrue, slice_index};
 ghost use Rattle.a1_notation.specs.Area.{IsRow};
 
+/// The number of rows that have a number: at most seven digits.
+pub const NUMBERED_ROWS: u32 = 9_999_999;
+
 /// The longest number of a row.
 const DIGITS: usize = 7;
 

@@ -5,9 +5,9 @@ use Rattle.std.specs.List.{list_any, zip}
 use Rattle.std.specs.Option.{option_map_or}
 use Rattle.cell_value.specs.declared.cell.Value.{Value}
 use Rattle.cell_value.specs.Shown.{shown_text}
+use Rattle.cell_value.specs.Texts.{is_among}
 use Rattle.basic_filter.specs.declared.types.Criterion.{Criterion}
 use Rattle.basic_filter.specs.Condition.{holds}
-use Rattle.basic_filter.specs.Texts.{is_among}
 
 -- a cell that has the value and shows the text is hidden where the text is one of the hidden values, or
 -- the condition isn't true

@@ -1,11 +1,7 @@
 -- How texts are compared: each is the list of its bytes.
 use Rattle.std.specs.Prelude.{ℕ, Bool, ◌||◌, List, [], ◌∷◌, nat_eq}
-use Rattle.std.specs.List.{list_any, starts_with}
-use Rattle.std.specs.Str.{bytes_eq, str_to_ascii_lowercase}
-
--- the text is one of these, byte by byte
-abbrev pub is_among : List ℕ → List (List ℕ) → Bool
-is_among text texts = list_any (λ other. bytes_eq other text) texts
+use Rattle.std.specs.List.{starts_with}
+use Rattle.std.specs.Str.{str_to_ascii_lowercase}
 
 -- the text with small letters in place of A to Z
 abbrev pub lower_case : List ℕ → List ℕ

@@ -1,9 +1,8 @@
 ghost use Rattle.std.specs.Prelude.{◌≡◌, length, IfOk};
 ghost use Rattle.basic_filter.specs.Hiding.{hides, hides_cell, hides_shown};
 
-use crate::texts::is_among;
 use crate::types::{Criterion, Filter};
-use cell_value::{Items, NoMemory, Value, show};
+use cell_value::{Items, NoMemory, Value, is_among, show};
 use std::alloc::Global;
 
 impl Filter {

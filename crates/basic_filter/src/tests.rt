@@ -397,7 +397,7 @@ fn change_lines(
         && filter.area.cols.within(count)
         && are_below(filter.criteria.as_slice(), axis, count)
     {
-        Some(filter.change(alloc, axis, count, change))
+        Some(filter.change(axis, count, change))
     } else {
         None
     }

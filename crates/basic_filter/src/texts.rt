@@ -1,16 +1,9 @@
 ghost use Rattle.std.specs.Prelude.{◌≡◌, IfOk, nat_eq};
 ghost use Rattle.std.specs.List.{starts_with, ends_with};
-ghost use Rattle.basic_filter.specs.Texts.{is_among, lower_case, contains};
+ghost use Rattle.basic_filter.specs.Texts.{lower_case, contains};
 
-use cell_value::{NoMemory, Text};
+use cell_value::NoMemory;
 use std::alloc::Global;
-
-/// Whether the text is one of these, byte by byte.
-pub(crate) fn is_among(text: &str, texts: &[Text]) -> bool
-    ensures { result ≡ is_among text.now texts.now }
-{
-    texts.iter().any(|other| other.as_str() == text)
-}
 
 /// Whether the text contains the part, ignoring ASCII case.
 #[tactic(auto, using(crate::proofs::Parts::contains_is))]

@@ -15,7 +15,8 @@ module _ {T : Type 0} where
   -- with the rest of the entries put into it the tree has what all of them make
   abbrev pub FillsTo : List ((ℕ × ℕ) × T) → List ((ℕ × ℕ) × T) → List ((ℕ × ℕ) × T) → Type 0
   FillsTo items rest all = (place : ℕ × ℕ)
-      → update_all (eq_by_cmp by_rows) (entry_at items) rest place ≡ update_all (eq_by_cmp by_rows) (λ _. None) all place
+      → update_all (eq_by_cmp by_rows) (entry_at items) rest place ≡ update_all (eq_by_cmp by_rows) (λ _. None) all
+      place
 
   pub fills_first : (items : List ((ℕ × ℕ) × T)) (all : List ((ℕ × ℕ) × T)) → items ≡ [] → FillsTo items all all
   fills_first items all empty place =
@@ -27,8 +28,10 @@ module _ {T : Type 0} where
       ap (λ f. update_all (eq_by_cmp by_rows) f rest q) (λ i p. updates p i) ∙ fills q
 
   -- the entries of a tree make what the tree has
-  pub filled_same : (items made : List ((ℕ × ℕ) × T)) → IsStrictlySortedBy by_rows (keys_of items) → FillsTo made [] items
+  pub filled_same : (items made : List ((ℕ × ℕ) × T)) → IsStrictlySortedBy by_rows (keys_of items)
+      → FillsTo made [] items
       → (place : ℕ × ℕ) → entry_at made place ≡ entry_at items place
   filled_same items made ordered fills place =
       fills place
-      ∙ update_all_none (eq_by_cmp_equiv by_rows_total) (eq_by_cmp by_rows) (λ _ _. refl) items place (IsDistinct-from_sorted by_rows (keys_of items) ordered)
+      ∙ update_all_none (eq_by_cmp_equiv by_rows_total) (eq_by_cmp by_rows) (λ _ _. refl) items place
+      (IsDistinct-from_sorted by_rows (keys_of items) ordered)

@@ -1,7 +1,10 @@
 pub mod Cells
 pub mod Tables
+pub mod Elements
+pub mod Ordered
+pub mod ByItems
 pub mod Filling
 pub mod Listed
-pub mod Injective
+pub mod Going
 pub mod Moving
 pub mod Scanned

@@ -1,6 +1,7 @@
 -- The filled places of an area, as a part of a tree's keys.
 use native.Mathlib.Omega.{arith}
-use Rattle.std.proofs.Common.{inl, inr, ◌≡◌, ℕ, refl, sym, ap, subst, ◌∙◌, List, [], ◌∷◌, ◌++◌, Bool, ◌&&◌, nat_le, nat_lt, true, false, cond, not, ◌<◌, ◌≤◌}
+use Rattle.std.proofs.Common.{inl, inr, ◌≡◌, ℕ, refl, sym, ap, subst, ◌∙◌, List, [], ◌∷◌, ◌++◌, Bool, ◌&&◌, nat_le}
+use Rattle.std.proofs.Common.{nat_lt, true, false, cond, not, ◌<◌, ◌≤◌}
 use Rattle.std.specs.Prelude.{None, Contains}
 use Rattle.std.specs.Option.{IsSome}
 use Rattle.std.specs.Ordering.{eq_by_cmp, is_le}
@@ -59,17 +60,25 @@ each_true false b e = absurd (false≢true e)
 pub holds_true : (area : Area) (place : ℕ × ℕ) → Holds area place.0 place.1 → holds_place area place ≡ true
 holds_true area place h = both_true _ _ (has_line_true area.rows place.0 h.0) (has_line_true area.cols place.1 h.1)
 
-Holds-from : (area : Area) (row col : ℕ) → holds_place area (row, col) ≡ true → Holds area row col
+pub Holds-from : (area : Area) (row col : ℕ) → holds_place area (row, col) ≡ true → Holds area row col
 Holds-from area row col h =
     let each = each_true (has_line area.rows row) (has_line area.cols col) h in
     (HasLine-from area.rows row each.0, HasLine-from area.cols col each.1)
 
 -- where a test of the cell failed
-pub holds_false : (area : Area) (place : ℕ × ℕ) (b : Bool) → (Holds area place.0 place.1 → b ≡ true) → b ≡ false → holds_place area place ≡ false
+pub holds_false : (area : Area) (place : ℕ × ℕ) (b : Bool) → (Holds area place.0 place.1 → b ≡ true) → b ≡ false
+    → holds_place area place ≡ false
 holds_false area place b told failed = elim (cases_Bool (holds_place area place)) [
   | inl held ↦ absurd (false≢true (sym failed ∙ told (Holds-from area place.0 place.1 held)))
   | inr fails ↦ fails
 ]
+
+-- a test that tells whether the area holds a place
+pub told : (area : Area) (place : ℕ × ℕ) (b : Bool)
+    → ((b ≡ true → Holds area place.0 place.1) × (Holds area place.0 place.1 → b ≡ true))
+    → b ≡ holds_place area place
+told area place true tells = sym (holds_true area place (tells.0 refl))
+told area place false tells = sym (holds_false area place false tells.1 refl)
 
 -- a place of a row from the first to the last is between these two places
 from_start : (start row col : ℕ) → start ≤ row → is_le (by_rows (start, 0) (row, col)) ≡ true
@@ -82,24 +91,12 @@ past_end stop row col h = grind (arith, nat_tests)
 alike : (p : ℕ × ℕ → Bool) (place k : ℕ × ℕ) → eq_by_cmp by_rows place k ≡ true → p k ≡ p place
 alike p place k same = ap p (sym (tells_apart by_rows_exact place k same))
 
--- keys that differ still do where some are left out
-IsDistinct-filter : (p : ℕ × ℕ → Bool) (ks : List (ℕ × ℕ)) → IsDistinct (eq_by_cmp by_rows) ks → IsDistinct (eq_by_cmp by_rows) (filter p ks)
-IsDistinct-filter p [] apart = apart
-IsDistinct-filter p (k ∷ ks) apart =
-    let rest = IsDistinct-filter p ks (IsDistinct-tail (eq_by_cmp by_rows) k ks apart) in
-    elim (p k) as (λ b. IsDistinct (eq_by_cmp by_rows) (cond b (k ∷ filter p ks) (filter p ks))) [
-      | true ↦ IsDistinct-cons (eq_by_cmp by_rows) k (filter p ks)
-          (recursion_from_All (λ y. eq_by_cmp by_rows k y ≡ false) (filter p ks)
-          (All-filter p (λ y. eq_by_cmp by_rows k y ≡ false) ks
-          (All-from_recursion (λ y. eq_by_cmp by_rows k y ≡ false) ks (IsDistinct-head (eq_by_cmp by_rows) k ks apart)))) rest
-      | false ↦ rest
-    ]
-
 module _ {T : Type 0} where
   keys_filter : (p : ℕ × ℕ → Bool) (es : List ((ℕ × ℕ) × T)) → keys_of (filter (λ e. p e.0) es) ≡ filter p (keys_of es)
   keys_filter p [] = refl
   keys_filter p (e ∷ es) =
-      elim (p e.0) as (λ b. keys_of (cond b (e ∷ filter (λ e. p e.0) es) (filter (λ e. p e.0) es)) ≡ cond b (e.0 ∷ filter p (keys_of es)) (filter p (keys_of es))) [
+      elim (p e.0) as (λ b. keys_of (cond b (e ∷ filter (λ e. p e.0) es) (filter (λ e. p e.0) es)) ≡ cond b
+      (e.0 ∷ filter p (keys_of es)) (filter p (keys_of es))) [
         | true ↦ ap (λ ks. e.0 ∷ ks) (keys_filter p es)
         | false ↦ keys_filter p es
       ]
@@ -108,20 +105,25 @@ module _ {T : Type 0} where
   abbrev pub held_places : Area → List ((ℕ × ℕ) × T) → List (ℕ × ℕ)
   held_places area entries = keys_of (filter (λ e. holds_place area e.0) entries)
 
-  pub held_more : (area : Area) (places after : List (ℕ × ℕ)) (entries rest : List ((ℕ × ℕ) × T)) (place : ℕ × ℕ) (item : T) (all : List (ℕ × ℕ))
+  pub held_more : (area : Area) (places after : List (ℕ × ℕ)) (entries rest : List ((ℕ × ℕ) × T)) (place : ℕ × ℕ)
+      (item : T) (all : List (ℕ × ℕ))
       → entries ≡ (place, item) ∷ rest → after ≡ places ++ place ∷ [] → Holds area place.0 place.1
       → places ++ held_places area entries ≡ all → after ++ held_places area rest ≡ all
   held_more area places after entries rest place item all steps pushed holds so_far =
       let head : held_places area entries ≡ place ∷ held_places area rest =
       ap (held_places area) steps
-      ∙ ap (λ b. keys_of (cond b ((place, item) ∷ filter (λ e. holds_place area e.0) rest) (filter (λ e. holds_place area e.0) rest))) (holds_true area place holds) in
-      ap (λ ps. ps ++ held_places area rest) pushed ∙ append_assoc places (place ∷ []) (held_places area rest) ∙ sym (ap (λ ps. places ++ ps) head) ∙ so_far
+      ∙ ap (λ b. keys_of (cond b ((place, item) ∷ filter (λ e. holds_place area e.0) rest)
+      (filter (λ e. holds_place area e.0) rest))) (holds_true area place holds) in
+      ap (λ ps. ps ++ held_places area rest) pushed ∙ append_assoc places (place ∷ []) (held_places area rest)
+      ∙ sym (ap (λ ps. places ++ ps) head) ∙ so_far
 
   keys_sorted : (p q : ℕ × ℕ → Bool) (es : List ((ℕ × ℕ) × T)) → IsStrictlySortedBy by_rows (keys_of es)
       → IsStrictlySortedBy by_rows (keys_of (filter (λ e. p e.0) (filter (λ e. q e.0) es)))
   keys_sorted p q es sorted =
-      subst (IsStrictlySortedBy by_rows) (sym (keys_filter p (filter (λ e. q e.0) es) ∙ ap (filter p) (keys_filter q es)))
-      (IsStrictlySortedBy-filter by_rows p (filter q (keys_of es)) (IsStrictlySortedBy-filter by_rows q (keys_of es) sorted))
+      subst (IsStrictlySortedBy by_rows) (sym (keys_filter p (filter (λ e. q e.0) es)
+      ∙ ap (filter p) (keys_filter q es)))
+      (IsStrictlySortedBy-filter by_rows p (filter q (keys_of es))
+      (IsStrictlySortedBy-filter by_rows q (keys_of es) sorted))
 
   lookup_both : (p q : ℕ × ℕ → Bool) (place : ℕ × ℕ) (es : List ((ℕ × ℕ) × T))
       → lookup (eq_by_cmp by_rows place) (filter (λ e. p e.0) (filter (λ e. q e.0) es))
@@ -143,7 +145,8 @@ module _ {T : Type 0} where
   pub are_filled_places : (area : Area) (rows cols : ℕ) (items : List ((ℕ × ℕ) × T)) {table : Table T} (start stop : ℕ)
       → table_of rows cols items ≡ table → HasEntriesInside rows cols items → IsStrictlySortedBy by_rows (keys_of items)
       → ((row : ℕ) → row < rows → HasLine area.rows row → (start ≤ row) × (row < stop))
-      → AreFilledPlaces area table (held_places area (entries_between by_rows (Included (start, 0)) (Excluded (stop, 0)) items))
+      → AreFilledPlaces area table (held_places area
+      (entries_between by_rows (Included (start, 0)) (Excluded (stop, 0)) items))
   are_filled_places area rows cols items start stop view inside ordered covers =
       let between = range_contains by_rows (Included (start, 0)) (Excluded (stop, 0)) in
       let found = λ (row col : ℕ). lookup_both (holds_place area) between (row, col) items in
@@ -152,10 +155,12 @@ module _ {T : Type 0} where
         exactly = λ row col. (
           (λ listed.
               let both = both_some (holds_place area (row, col)) (between (row, col)) (entry_at items (row, col))
-              (subst IsSome (found row col) (IsSome-lookup_from_Contains (eq_by_cmp_equiv by_rows_total) (row, col) _ listed)) in
+              (subst IsSome (found row col) (IsSome-lookup_from_Contains (eq_by_cmp_equiv by_rows_total) (row, col)
+              _ listed)) in
               (Holds-from area row col both.0, subst IsSome (item-view rows cols items view row col) both.1)),
           (λ held.
-              let some : IsSome (entry_at items (row, col)) = subst IsSome (sym (item-view rows cols items view row col)) held.1 in
+              let some : IsSome (entry_at items (row, col)) = subst IsSome
+              (sym (item-view rows cols items view row col)) held.1 in
               let rows_are = covers row (inside (row, col) some).0 held.0.0 in
               Contains-keys_from_lookup (tells_apart by_rows_exact) (row, col) _
               (subst IsSome (sym (found row col))
@@ -163,29 +168,3 @@ module _ {T : Type 0} where
               (both_true _ _ (from_start start row col rows_are.0) (ap not (past_end stop row col rows_are.1))) some))),
         );
       }
-
-  -- the places of the entries that an area holds
-  held_lookup : (area : Area) (es : List ((ℕ × ℕ) × T)) (place : ℕ × ℕ)
-      → lookup (eq_by_cmp by_rows place) (filter (λ e. holds_place area e.0) es) ≡ cond (holds_place area place) (entry_at es place) None
-  held_lookup area es place = lookup-filter-keys (eq_by_cmp by_rows place) (holds_place area) (holds_place area place) (alike (holds_place area) place) es
-
-  one_some : (b : Bool) (o : _) → IsSome {T = T} (cond b o None) → (b ≡ true) × IsSome o
-  one_some true o h = (refl, h)
-  one_some false o h = absurd (false≢true h)
-
-  pub held_is : (area : Area) (es : List ((ℕ × ℕ) × T)) (place : ℕ × ℕ) → Contains (held_places area es) place
-      → Holds area place.0 place.1 × IsSome (entry_at es place)
-  held_is area es place listed =
-      let both = one_some (holds_place area place) (entry_at es place)
-      (subst IsSome (held_lookup area es place) (IsSome-lookup_from_Contains (eq_by_cmp_equiv by_rows_total) place _ listed)) in
-      (Holds-from area place.0 place.1 both.0, both.1)
-
-  pub is_held : (area : Area) (es : List ((ℕ × ℕ) × T)) (place : ℕ × ℕ) → Holds area place.0 place.1 → IsSome (entry_at es place)
-      → Contains (held_places area es) place
-  is_held area es place holds some =
-      Contains-keys_from_lookup (tells_apart by_rows_exact) place _
-      (subst IsSome (sym (held_lookup area es place)) (subst (λ b. IsSome (cond b (entry_at es place) None)) (sym (holds_true area place holds)) some))
-
-  pub distinct_held : (area : Area) (es : List ((ℕ × ℕ) × T)) → IsDistinct (eq_by_cmp by_rows) (keys_of es)
-      → IsDistinct (eq_by_cmp by_rows) (held_places area es)
-  distinct_held area es apart = subst (IsDistinct (eq_by_cmp by_rows)) (sym (keys_filter (holds_place area) es)) (IsDistinct-filter (holds_place area) (keys_of es) apart)

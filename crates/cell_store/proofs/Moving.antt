@@ -1,5 +1,6 @@
 -- The entries of a tree after a change: what a place then holds.
-use Rattle.std.proofs.Common.{◌≡◌, ℕ, refl, sym, ap, subst, ◌∙◌, ◌⊎◌, inl, inr, List, [], ◌∷◌, false, ◌<◌, arith}
+use Rattle.std.proofs.Common.{◌≡◌, ℕ, suc, length, refl, sym, ap, subst, ◌∙◌, ◌⊎◌, inl, inr, List, [], ◌∷◌, true}
+use Rattle.std.proofs.Common.{false, cond, ◌<◌, ◌≤◌, arith}
 use Rattle.std.specs.Prelude.{Option, Some, None, Contains}
 use Rattle.std.specs.Option.{option_map, unwrap_or, IsSome, is_some}
 use Rattle.std.specs.Ordering.{eq_by_cmp}
@@ -7,7 +8,8 @@ use Rattle.std.specs.List.{filter_map, cons_option, AllByRecursion, IsDistinct}
 use Rattle.std.specs.Map.{lookup, keys_of}
 use Rattle.std.proofs.lemmas.Bool.{false≢true, cases_Bool}
 use Rattle.std.proofs.lemmas.Cmp.{eq_by_cmp_equiv}
-use Rattle.std.proofs.lemmas.List.Elements.{Contains-append_left, Contains-append_right, Contains-append_cases, Contains-push, Contains-push_cases}
+use Rattle.std.proofs.lemmas.List.Elements.{Contains-append_left, Contains-append_right, Contains-append_cases}
+use Rattle.std.proofs.lemmas.List.Elements.{Contains-push, Contains-push_cases}
 use Rattle.std.proofs.lemmas.Map.Keys.{IsDistinct-head, IsDistinct-tail, IsDistinct-cons}
 use Rattle.std.proofs.lemmas.Map.Made.{update_all_none}
 use Rattle.std.proofs.lemmas.Map.Views.{tells_apart, Contains-from_lookup, lookup-from_Contains}
@@ -19,52 +21,52 @@ use Rattle.cell_store.specs.Entries.{entry_at, HasEntriesInside, table_of}
 use Rattle.cell_store.specs.Moved.{place_after, lines_on, size_after, GoesWithLines}
 use Rattle.cell_store.proofs.Cells.{SetsPlace, by_rows_total, by_rows_exact, get-cells}
 use Rattle.cell_store.proofs.Tables.{item-view}
+use Rattle.cell_store.proofs.Elements.{nothing_in, head_cases, head_in, tail_in}
 use Rattle.cell_store.proofs.Filling.{FillsTo, fills_on}
-use Rattle.cell_store.proofs.Injective.{place_apart, place_within}
-
--- the elements of a list, from its first on
-module _ {X : Type 0} where
-  nothing_in : (x : X) → Contains [] x → ⊥
-  nothing_in x (k, l, _) = omega arith
-
-  head_cases : (x : X) (xs : List X) (y : X) → Contains (x ∷ xs) y → (x ≡ y) ⊎ Contains xs y
-  head_cases x xs y c = elim (Contains-append_cases (x ∷ []) xs y c) [
-    | inl one ↦ elim (Contains-push_cases [] x y one) [ inl none ↦ absurd (nothing_in y none) | inr same ↦ inl same ]
-    | inr rest ↦ inr rest
-  ]
-
-  head_in : (x : X) (xs : List X) → Contains (x ∷ xs) x
-  head_in x xs = Contains-append_left (x ∷ []) xs x (Contains-push [] x)
-
-  tail_in : (x : X) (xs : List X) (y : X) → Contains xs y → Contains (x ∷ xs) y
-  tail_in x xs y c = Contains-append_right (x ∷ []) xs y c
+use Rattle.cell_store.proofs.Going.{place_apart, place_within}
+use Rattle.grid_range.specs.TrackingLaws.{PlacesStayApart, PlacesStayBelow}
 
 module _ {X Y : Type 0} (h : X → Option Y) where
   -- what `filter_map` gives of an element is in its list
   kept_in : (xs : List X) (x : X) (y : Y) → Contains xs x → h x ≡ Some y → Contains (filter_map h xs) y
   kept_in [] x y c e = absurd (nothing_in x c)
   kept_in (z ∷ zs) x y c e = elim (head_cases z zs x c) [
-    | inl same ↦ subst (λ o. Contains (cons_option o (filter_map h zs)) y) (sym (ap h same ∙ e)) (head_in y (filter_map h zs))
+    | inl same ↦ subst (λ o. Contains (cons_option o (filter_map h zs)) y) (sym (ap h same ∙ e))
+        (head_in y (filter_map h zs))
     | inr rest ↦ elim (h z) as (λ o. Contains (cons_option o (filter_map h zs)) y) [
       | None ↦ kept_in zs x y rest e
       | Some w ↦ tail_in w (filter_map h zs) y (kept_in zs x y rest e)
     ]
   ]
 
-  came_later : (z : X) (zs : List X) (y : Y) → ((x : X) × Contains zs x × (h x ≡ Some y)) → (x : X) × Contains (z ∷ zs) x × (h x ≡ Some y)
+  came_later : (z : X) (zs : List X) (y : Y) → ((x : X) × Contains zs x × (h x ≡ Some y))
+      → (x : X) × Contains (z ∷ zs) x × (h x ≡ Some y)
   came_later z zs y (x, held, is) = (x, tail_in z zs x held, is)
 
   -- and each of its list came of one
   came_of : (xs : List X) (y : Y) → Contains (filter_map h xs) y → (x : X) × Contains xs x × (h x ≡ Some y)
   came_of [] y c = absurd (nothing_in y c)
   came_of (z ∷ zs) y c =
-      elim (h z) as (λ o. h z ≡ o → Contains (cons_option o (filter_map h zs)) y → (x : X) × Contains (z ∷ zs) x × (h x ≡ Some y)) [
+      elim (h z) as (λ o. h z ≡ o → Contains (cons_option o (filter_map h zs)) y
+      → (x : X) × Contains (z ∷ zs) x × (h x ≡ Some y)) [
         | None ↦ λ _ d. came_later z zs y (came_of zs y d)
         | Some w ↦ λ is d. elim (head_cases w (filter_map h zs) y d) [
           | inl same ↦ (z, head_in z zs, is ∙ ap Some same)
           | inr rest ↦ came_later z zs y (came_of zs y rest)
         ]
       ] refl c
+
+-- the places of entries are places of the sheet
+pub keys_inside : {T : Type 0} (rows cols : ℕ) (es : List ((ℕ × ℕ) × T)) → HasEntriesInside rows cols es
+    → AllByRecursion (λ (k : ℕ × ℕ). (k.0 < rows) × (k.1 < cols)) (keys_of es)
+keys_inside rows cols [] inside = tt
+keys_inside rows cols (e ∷ es) inside = (
+  inside e.0 (subst (λ b. IsSome (cond b (Some e.1) (entry_at es e.0)))
+      (sym ((eq_by_cmp_equiv by_rows_total).refl e.0)) refl),
+  keys_inside rows cols es (λ place some. inside place (
+      elim (eq_by_cmp by_rows place e.0) as (λ b. IsSome (cond b (Some e.1) (entry_at es place)))
+      [ true ↦ refl | false ↦ some ])),
+)
 
 module _ {T : Type 0} (axis : Axis) (change : Change) where
   -- an entry with the place where the change brings it
@@ -74,70 +76,95 @@ module _ {T : Type 0} (axis : Axis) (change : Change) where
   abbrev pub moved : List ((ℕ × ℕ) × T) → List ((ℕ × ℕ) × T)
   moved entries = filter_map moves entries
 
-  pub fills_moved : (items after : List ((ℕ × ℕ) × T)) (place now : ℕ × ℕ) (item copy : T) (entries rest all : List ((ℕ × ℕ) × T))
+  pub length-moved : (entries : List ((ℕ × ℕ) × T)) → length (moved entries) ≤ length entries
+  length-moved [] = omega arith
+  length-moved (e ∷ es) = elim (moves e) as (λ o. length (cons_option o (moved es)) ≤ suc (length es)) [
+    | None ↦ omega (arith, length-moved es)
+    | Some x ↦ omega (arith, length-moved es)
+  ]
+
+  pub fills_moved : (items after : List ((ℕ × ℕ) × T)) (place now : ℕ × ℕ) (item copy : T)
+      (entries rest all : List ((ℕ × ℕ) × T))
       → entries ≡ (place, item) ∷ rest → place_after axis change place.0 place.1 ≡ Some now → copy ≡ item
       → SetsPlace items after now (Some copy) → FillsTo items (moved entries) all → FillsTo after (moved rest) all
   fills_moved items after place now item copy entries rest all steps goes same updates fills =
       fills_on items after now copy (moved rest) all updates
       (subst (λ es. FillsTo items es all)
-      (ap moved steps ∙ ap (λ o. cons_option (option_map (λ p. (p, item)) o) (moved rest)) goes ∙ ap (λ x. (now, x) ∷ moved rest) (sym same))
+      (ap moved steps ∙ ap (λ o. cons_option (option_map (λ p. (p, item)) o) (moved rest)) goes
+      ∙ ap (λ x. (now, x) ∷ moved rest) (sym same))
       fills)
 
   pub fills_dropped : (items : List ((ℕ × ℕ) × T)) (place : ℕ × ℕ) (item : T) (entries rest all : List ((ℕ × ℕ) × T))
       → entries ≡ (place, item) ∷ rest → place_after axis change place.0 place.1 ≡ None
       → FillsTo items (moved entries) all → FillsTo items (moved rest) all
   fills_dropped items place item entries rest all steps goes fills =
-      subst (λ es. FillsTo items es all) (ap moved steps ∙ ap (λ o. cons_option (option_map (λ p. (p, item)) o) (moved rest)) goes) fills
+      subst (λ es. FillsTo items es all) (ap moved steps
+      ∙ ap (λ o. cons_option (option_map (λ p. (p, item)) o) (moved rest)) goes) fills
 
   -- the places of the entries stay apart
-  apart_moved : (rows cols : ℕ) → Fits change (lines_on axis rows cols) → (place now : ℕ × ℕ) → place_after axis change place.0 place.1 ≡ Some now
-      → (es : List ((ℕ × ℕ) × T)) → AllByRecursion (λ k. eq_by_cmp by_rows place k ≡ false) (keys_of es)
+  apart_moved : PlacesStayApart → (rows cols : ℕ) → Fits change (lines_on axis rows cols) → (place now : ℕ × ℕ)
+      → place_after axis change place.0 place.1 ≡ Some now
+      → (place.0 < rows) × (place.1 < cols) → (es : List ((ℕ × ℕ) × T))
+      → AllByRecursion (λ (k : ℕ × ℕ). (k.0 < rows) × (k.1 < cols)) (keys_of es)
+      → AllByRecursion (λ k. eq_by_cmp by_rows place k ≡ false) (keys_of es)
       → AllByRecursion (λ k. eq_by_cmp by_rows now k ≡ false) (keys_of (moved es))
-  apart_moved rows cols fits place now goes [] h = tt
-  apart_moved rows cols fits place now goes (e ∷ es) h =
+  apart_moved law rows cols fits place now goes here [] inside h = tt
+  apart_moved law rows cols fits place now goes here (e ∷ es) inside h =
       elim (place_after axis change e.0.0 e.0.1) as (λ o. place_after axis change e.0.0 e.0.1 ≡ o
-      → AllByRecursion (λ k. eq_by_cmp by_rows now k ≡ false) (keys_of (cons_option (option_map (λ p. (p, e.1)) o) (moved es)))) [
-        | None ↦ λ _. apart_moved rows cols fits place now goes es h.1
-        | Some p ↦ λ is. (differs p is, apart_moved rows cols fits place now goes es h.1)
+      → AllByRecursion (λ k. eq_by_cmp by_rows now k ≡ false)
+      (keys_of (cons_option (option_map (λ p. (p, e.1)) o) (moved es)))) [
+        | None ↦ λ _. apart_moved law rows cols fits place now goes here es inside.1 h.1
+        | Some p ↦ λ is. (differs p is, apart_moved law rows cols fits place now goes here es inside.1 h.1)
       ] refl
     where
       differs : (p : ℕ × ℕ) → place_after axis change e.0.0 e.0.1 ≡ Some p → eq_by_cmp by_rows now p ≡ false
       differs p is = elim (cases_Bool (eq_by_cmp by_rows now p)) [
         | inl same ↦
-            let one : place ≡ e.0 = place_apart axis change rows cols place e.0 p fits (goes ∙ ap Some (tells_apart by_rows_exact now p same)) is in
-            absurd (false≢true (sym h.0 ∙ ap (eq_by_cmp by_rows place) (sym one) ∙ (eq_by_cmp_equiv by_rows_total).refl place))
+            let one : place ≡ e.0 = place_apart law axis change rows cols place e.0 p fits here inside.0
+            (goes ∙ ap Some (tells_apart by_rows_exact now p same)) is in
+            absurd (false≢true (sym h.0 ∙ ap (eq_by_cmp by_rows place) (sym one)
+            ∙ (eq_by_cmp_equiv by_rows_total).refl place))
         | inr apart ↦ apart
       ]
 
-  pub distinct_moved : (rows cols : ℕ) → Fits change (lines_on axis rows cols) → (es : List ((ℕ × ℕ) × T))
+  pub distinct_moved : PlacesStayApart → (rows cols : ℕ) → Fits change (lines_on axis rows cols)
+      → (es : List ((ℕ × ℕ) × T))
+      → AllByRecursion (λ (k : ℕ × ℕ). (k.0 < rows) × (k.1 < cols)) (keys_of es)
       → IsDistinct (eq_by_cmp by_rows) (keys_of es) → IsDistinct (eq_by_cmp by_rows) (keys_of (moved es))
-  distinct_moved rows cols fits [] d = d
-  distinct_moved rows cols fits (e ∷ es) d =
-      let rest = distinct_moved rows cols fits es (IsDistinct-tail (eq_by_cmp by_rows) e.0 (keys_of es) d) in
+  distinct_moved law rows cols fits [] inside d = d
+  distinct_moved law rows cols fits (e ∷ es) inside d =
+      let rest = distinct_moved law rows cols fits es inside.1
+      (IsDistinct-tail (eq_by_cmp by_rows) e.0 (keys_of es) d) in
       elim (place_after axis change e.0.0 e.0.1) as (λ o. place_after axis change e.0.0 e.0.1 ≡ o
       → IsDistinct (eq_by_cmp by_rows) (keys_of (cons_option (option_map (λ p. (p, e.1)) o) (moved es)))) [
         | None ↦ λ _. rest
         | Some p ↦ λ is. IsDistinct-cons (eq_by_cmp by_rows) p (keys_of (moved es))
-            (apart_moved rows cols fits e.0 p is es (IsDistinct-head (eq_by_cmp by_rows) e.0 (keys_of es) d)) rest
+            (apart_moved law rows cols fits e.0 p is inside.0 es inside.1
+            (IsDistinct-head (eq_by_cmp by_rows) e.0 (keys_of es) d)) rest
       ] refl
 
   -- what an entry became
-  moved_parts : (o : Option (ℕ × ℕ)) (item x : T) (q : ℕ × ℕ) → option_map {U = (ℕ × ℕ) × T} (λ p. (p, item)) o ≡ Some (q, x) → (o ≡ Some q) × (item ≡ x)
+  moved_parts : (o : Option (ℕ × ℕ)) (item x : T) (q : ℕ × ℕ)
+      → option_map {U = (ℕ × ℕ) × T} (λ p. (p, item)) o ≡ Some (q, x) → (o ≡ Some q) × (item ≡ x)
   moved_parts None item x q e = absurd (false≢true (ap is_some e))
   moved_parts (Some p) item x q e =
       let same : ◌≡◌ {A = (ℕ × ℕ) × T} (p, item) (q, x) = ap (λ o. unwrap_or o (p, item)) e in
       (ap (λ y. Some y.0) same, ap (λ y. y.1) same)
 
-  module _ (rows cols : ℕ) (items made : List ((ℕ × ℕ) × T)) (fits : Fits change (lines_on axis rows cols))
-      (apart : IsDistinct (eq_by_cmp by_rows) (keys_of items)) (fills : FillsTo made [] (moved items)) where
+  module _ (law : PlacesStayApart) (rows cols : ℕ) (items made : List ((ℕ × ℕ) × T))
+      (fits : Fits change (lines_on axis rows cols))
+      (apart : IsDistinct (eq_by_cmp by_rows) (keys_of items)) (inside : HasEntriesInside rows cols items)
+      (fills : FillsTo made [] (moved items)) where
     get-made : (q : ℕ × ℕ) → entry_at made q ≡ lookup (eq_by_cmp by_rows q) (moved items)
     get-made q = fills q
-        ∙ update_all_none (eq_by_cmp_equiv by_rows_total) (eq_by_cmp by_rows) (λ _ _. refl) (moved items) q (distinct_moved rows cols fits items apart)
+        ∙ update_all_none (eq_by_cmp_equiv by_rows_total) (eq_by_cmp by_rows) (λ _ _. refl) (moved items) q
+        (distinct_moved law rows cols fits items (keys_inside rows cols items inside) apart)
 
     came_from : (q : ℕ × ℕ) (x : T) → entry_at made q ≡ Some x
         → (old : ℕ × ℕ) × (place_after axis change old.0 old.1 ≡ Some q) × (entry_at items old ≡ Some x)
     came_from q x is =
-        let (e, held, went) = came_of moves items (q, x) (Contains-from_lookup (tells_apart by_rows_exact) q x (moved items) (sym (get-made q) ∙ is)) in
+        let (e, held, went) = came_of moves items (q, x)
+        (Contains-from_lookup (tells_apart by_rows_exact) q x (moved items) (sym (get-made q) ∙ is)) in
         let parts = moved_parts (place_after axis change e.0.0 e.0.1) e.1 x q went in
         (e.0, parts.0, lookup-from_Contains (eq_by_cmp_equiv by_rows_total) e.0 e.1 items apart held ∙ ap Some parts.1)
 
@@ -145,29 +172,40 @@ module _ {T : Type 0} (axis : Axis) (change : Change) where
         → entry_at made q ≡ Some x
     goes_to old q x goes held =
         get-made q
-        ∙ lookup-from_Contains (eq_by_cmp_equiv by_rows_total) q x (moved items) (distinct_moved rows cols fits items apart)
+        ∙ lookup-from_Contains (eq_by_cmp_equiv by_rows_total) q x (moved items)
+        (distinct_moved law rows cols fits items (keys_inside rows cols items inside) apart)
         (kept_in moves items (old, x) (q, x) (Contains-from_lookup (tells_apart by_rows_exact) old x items held)
         (ap (option_map (λ p. (p, x))) goes))
 
-    pub inside-moved : HasEntriesInside rows cols items → HasEntriesInside (size_after axis change rows cols).0 (size_after axis change rows cols).1 made
-    inside-moved inside q there =
-        elim (entry_at made q) as (λ o. entry_at made q ≡ o → IsSome o → (q.0 < (size_after axis change rows cols).0) × (q.1 < (size_after axis change rows cols).1)) [
+    pub inside-moved : PlacesStayBelow → HasEntriesInside (size_after axis change rows cols).0
+        (size_after axis change rows cols).1 made
+    inside-moved below q there =
+        elim (entry_at made q) as (λ o. entry_at made q ≡ o → IsSome o
+        → (q.0 < (size_after axis change rows cols).0) × (q.1 < (size_after axis change rows cols).1)) [
           | None ↦ λ _ none. absurd (false≢true none)
           | Some x ↦ λ is _.
               let (old, goes, held) = came_from q x is in
-              place_within axis change rows cols old q fits (inside old (ap is_some held)) goes
+              place_within below axis change rows cols old q fits (inside old (ap is_some held)) goes
         ] refl there
 
     pub goes_with_lines : {table : Table T} → table_of rows cols items ≡ table
-        → GoesWithLines axis change table (table_of (size_after axis change rows cols).0 (size_after axis change rows cols).1 made)
+        → GoesWithLines axis change table (table_of (size_after axis change rows cols).0
+        (size_after axis change rows cols).1 made)
     goes_with_lines {table} view = record {
       size = ap (λ t. size_after axis change t.rows t.cols) view;
       items = λ row col x. (
         (λ is.
             let (old, goes, held) = came_from (row, col) x (sym (get-cells made (row, col)) ∙ is) in
-            record { old_row = old.0; old_col = old.1; goes = goes; held = sym (item-view rows cols items view old.0 old.1) ∙ held }),
+            record {
+              old_row = old.0;
+              old_col = old.1;
+              goes = goes;
+              held = sym
+                  (item-view rows cols items view old.0 old.1) ∙ held;
+            }),
         (λ came.
             get-cells made (row, col)
-            ∙ goes_to (came.old_row, came.old_col) (row, col) x came.goes (item-view rows cols items view came.old_row came.old_col ∙ came.held)),
+            ∙ goes_to (came.old_row, came.old_col) (row, col) x came.goes
+            (item-view rows cols items view came.old_row came.old_col ∙ came.held)),
       );
     }

@@ -1,5 +1,6 @@
 -- A list of entries that is scanned: what is found in it, and what it has after its calls.
-use Rattle.std.proofs.Common.{◌≡◌, ℕ, zero, suc, ◌+◌, ◌<◌, refl, sym, ap, subst, ◌∙◌, List, [], ◌∷◌, ◌++◌, length, get_or, take, set, Bool, true, false, cond, nat_lt, arith}
+use Rattle.std.proofs.Common.{◌≡◌, ℕ, zero, suc, ◌+◌, ◌<◌, refl, sym, ap, subst, ◌∙◌, List, [], ◌∷◌, ◌++◌, length}
+use Rattle.std.proofs.Common.{get_or, take, set, Bool, true, false, cond, nat_lt, arith}
 use Rattle.std.specs.Prelude.{Option, Some, None, ◌==◌, ◌&&◌}
 use Rattle.std.specs.Option.{IsSome, is_some}
 use Rattle.std.specs.Ordering.{eq_by_cmp, is_lt, is_eq, ordering_reverse}
@@ -18,8 +19,10 @@ use Rattle.std.proofs.lemmas.List.MinMax.{ranks_by}
 use Rattle.std.proofs.lemmas.List.Quantifiers.{position-Some}
 use Rattle.std.proofs.lemmas.List.Sorted.{Contains-permutation, IsPermutation-sym, sorted_far}
 use Rattle.std.proofs.lemmas.List.Sums.{fails_before_first}
-use Rattle.std.proofs.lemmas.Map.{lookup-none, none_passes_from_lookup, lookup-insert, lookup-set_value, lookup-remove_entry, keys-set_value}
-use Rattle.std.proofs.lemmas.Map.Keys.{IsDistinct-head, IsDistinct-tail, IsDistinct-cons, IsDistinct-push, IsDistinct-IsPermutation, apart_from_distinct, sorted_from_all_adjacent}
+use Rattle.std.proofs.lemmas.Map.{lookup-none, none_passes_from_lookup, lookup-insert, lookup-set_value}
+use Rattle.std.proofs.lemmas.Map.{lookup-remove_entry, keys-set_value}
+use Rattle.std.proofs.lemmas.Map.Keys.{IsDistinct-head, IsDistinct-tail, IsDistinct-cons, IsDistinct-push}
+use Rattle.std.proofs.lemmas.Map.Keys.{IsDistinct-IsPermutation, apart_from_distinct, sorted_from_all_adjacent}
 use Rattle.std.proofs.lemmas.Map.Made.{is_some-lookup, update_all_none}
 use Rattle.std.proofs.lemmas.Map.Views.{tells_apart, All-map-remove_entry}
 use Rattle.std.specs.Option.{option_map}
@@ -33,7 +36,6 @@ use Rattle.cell_store.specs.Entries.{entry_at, HasEntriesInside, table_of}
 use Rattle.cell_store.specs.Places.{AreFilledPlaces}
 use Rattle.cell_store.proofs.Tables.{item-view}
 use Rattle.cell_store.proofs.Filling.{FillsTo}
-use Rattle.cell_store.proofs.Listed.{holds_place, held_places, distinct_held, held_is, is_held}
 use Rattle.cell_store.proofs.Moving.{moves, moved}
 use Rattle.cell_store.proofs.Cells.{by_rows_total, by_rows_exact}
 
@@ -44,7 +46,8 @@ laws = eq_by_cmp_equiv by_rows_total
 same_place : (row col : ℕ) (place : ℕ × ℕ) → (place.0 == row && place.1 == col) ≡ eq_by_cmp by_rows (row, col) place
 same_place row col place = grind (arith, nat_tests)
 
-position_missed : {X : Type 0} (p : X → Bool) (xs : List X) → position p xs ≡ None → (k : ℕ) (d : X) → k < length xs → p (get_or xs k d) ≡ false
+position_missed : {X : Type 0} (p : X → Bool) (xs : List X) → position p xs ≡ None → (k : ℕ) (d : X)
+    → k < length xs → p (get_or xs k d) ≡ false
 position_missed p xs none k d l =
     elim (nat_lt (position_or_len p xs) (length xs)) as (λ b. nat_lt (position_or_len p xs) (length xs) ≡ b
     → cond b (Some (position_or_len p xs)) None ≡ None → p (get_or xs k d) ≡ false) [
@@ -56,7 +59,8 @@ module _ {T : Type 0} where
   abbrev pub at_place : ℕ → ℕ → (ℕ × ℕ) × T → Bool
   at_place row col item = item.0.0 == row && item.0.1 == col
 
-  first_found : (test : ℕ × ℕ → Bool) (es : List ((ℕ × ℕ) × T)) (i : ℕ) (d : (ℕ × ℕ) × T) → i < length es → test (get_or es i d).0 ≡ true
+  first_found : (test : ℕ × ℕ → Bool) (es : List ((ℕ × ℕ) × T)) (i : ℕ) (d : (ℕ × ℕ) × T) → i < length es
+      → test (get_or es i d).0 ≡ true
       → ((k : ℕ) → k < i → test (get_or es k d).0 ≡ false)
       → (lookup test es ≡ Some (get_or es i d).1) × (remove es i ≡ remove_entry test es)
       × ((w : T) → set es i ((get_or es i d).0, w) ≡ set_value test es w)
@@ -87,14 +91,16 @@ module _ {T : Type 0} where
 
     -- none was
     pub missed : position (at_place row col) es ≡ None → lookup (eq_by_cmp by_rows (row, col)) es ≡ None
-    missed none = lookup-none (eq_by_cmp by_rows (row, col)) es (recursion_from_All (λ e. eq_by_cmp by_rows (row, col) e.0 ≡ false) es
+    missed none = lookup-none (eq_by_cmp by_rows (row, col)) es
+        (recursion_from_All (λ e. eq_by_cmp by_rows (row, col) e.0 ≡ false) es
         (λ k d l. sym (same_place row col (get_or es k d).0) ∙ position_missed (at_place row col) es none k d l))
 
     -- what is at a place after an entry's item is changed, an entry is added, or taken
     pub get-set : (item : T) (q : ℕ × ℕ) → IsSome (lookup (eq_by_cmp by_rows (row, col)) es)
         → lookup (eq_by_cmp by_rows q) (set_value (eq_by_cmp by_rows (row, col)) es item)
         ≡ cond (eq_by_cmp by_rows (row, col) q) (Some item) (lookup (eq_by_cmp by_rows q) es)
-    get-set item q there = lookup-set_value laws (eq_by_cmp by_rows (row, col)) (λ x y h. laws.congr (row, col) x y h) q item es there
+    get-set item q there = lookup-set_value laws (eq_by_cmp by_rows (row, col))
+        (λ x y h. laws.congr (row, col) x y h) q item es there
 
     pub get-push : (item : T) (q : ℕ × ℕ) → lookup (eq_by_cmp by_rows (row, col)) es ≡ None
         → lookup (eq_by_cmp by_rows q) (es ++ ((row, col), item) ∷ [])
@@ -102,13 +108,16 @@ module _ {T : Type 0} where
     get-push item q none =
         let all : insert es (length es) ((row, col), item) ≡ es ++ ((row, col), item) ∷ [] =
         rw (take_all (length es) es (omega arith), drop_all (length es) es (omega arith)) refl in
-        subst (λ xs. lookup (eq_by_cmp by_rows q) xs ≡ cond (eq_by_cmp by_rows (row, col) q) (Some item) (lookup (eq_by_cmp by_rows q) es)) all
-        (lookup-insert laws (row, col) item q es (length es) (none_passes_from_lookup (eq_by_cmp by_rows (row, col)) es none))
+        subst (λ xs. lookup (eq_by_cmp by_rows q) xs ≡ cond (eq_by_cmp by_rows (row, col) q) (Some item)
+        (lookup (eq_by_cmp by_rows q) es)) all
+        (lookup-insert laws (row, col) item q es (length es)
+        (none_passes_from_lookup (eq_by_cmp by_rows (row, col)) es none))
 
     pub get-taken : (q : ℕ × ℕ) → IsDistinct (eq_by_cmp by_rows) (keys_of es)
         → lookup (eq_by_cmp by_rows q) (remove_entry (eq_by_cmp by_rows (row, col)) es)
         ≡ cond (eq_by_cmp by_rows (row, col) q) None (lookup (eq_by_cmp by_rows q) es)
-    get-taken q apart = lookup-remove_entry laws (eq_by_cmp by_rows (row, col)) (λ x y h. laws.congr (row, col) x y h) q es apart
+    get-taken q apart = lookup-remove_entry laws (eq_by_cmp by_rows (row, col))
+        (λ x y h. laws.congr (row, col) x y h) q es apart
 
     -- where there is none, nothing is taken
     pub same-taken : lookup (eq_by_cmp by_rows (row, col)) es ≡ None → (q : ℕ × ℕ)
@@ -116,19 +125,25 @@ module _ {T : Type 0} where
     same-taken none q =
         elim (eq_by_cmp by_rows (row, col) q) as (λ b. eq_by_cmp by_rows (row, col) q ≡ b
         → lookup (eq_by_cmp by_rows q) es ≡ cond b None (lookup (eq_by_cmp by_rows q) es)) [
-          | true ↦ λ same. ap (λ k. lookup (eq_by_cmp by_rows k) es) (sym (tells_apart by_rows_exact (row, col) q same)) ∙ none
+          | true ↦ λ same. ap (λ k. lookup (eq_by_cmp by_rows k) es)
+              (sym (tells_apart by_rows_exact (row, col) q same)) ∙ none
           | false ↦ λ _. refl
         ] refl
 
+    pub keys-set : (item : T) → keys_of (set_value (eq_by_cmp by_rows (row, col)) es item) ≡ keys_of es
+    keys-set = keys-set_value (eq_by_cmp by_rows (row, col)) es
+
     pub distinct-set : (item : T) → IsDistinct (eq_by_cmp by_rows) (keys_of es)
         → IsDistinct (eq_by_cmp by_rows) (keys_of (set_value (eq_by_cmp by_rows (row, col)) es item))
-    distinct-set item apart = subst (IsDistinct (eq_by_cmp by_rows)) (sym (keys-set_value (eq_by_cmp by_rows (row, col)) es item)) apart
+    distinct-set item apart = subst (IsDistinct (eq_by_cmp by_rows)) (sym (keys-set item)) apart
 
-    pub distinct-push : (item : T) → lookup (eq_by_cmp by_rows (row, col)) es ≡ None → IsDistinct (eq_by_cmp by_rows) (keys_of es)
+    pub distinct-push : (item : T) → lookup (eq_by_cmp by_rows (row, col)) es ≡ None
+        → IsDistinct (eq_by_cmp by_rows) (keys_of es)
         → IsDistinct (eq_by_cmp by_rows) (keys_of (es ++ ((row, col), item) ∷ []))
     distinct-push item none apart =
         subst (IsDistinct (eq_by_cmp by_rows)) (sym (map-append (λ e. e.0) es (((row, col), item) ∷ [])))
-        (IsDistinct-push laws (keys_of es) (row, col) apart (sym (is_some-lookup (eq_by_cmp by_rows (row, col)) es) ∙ ap is_some none))
+        (IsDistinct-push laws (keys_of es) (row, col) apart
+        (sym (is_some-lookup (eq_by_cmp by_rows (row, col)) es) ∙ ap is_some none))
 
   pub distinct-taken : (test : ℕ × ℕ → Bool) (es : List ((ℕ × ℕ) × T)) → IsDistinct (eq_by_cmp by_rows) (keys_of es)
       → IsDistinct (eq_by_cmp by_rows) (keys_of (remove_entry test es))
@@ -140,30 +155,16 @@ module _ {T : Type 0} where
         | false ↦ IsDistinct-cons (eq_by_cmp by_rows) e.0 (keys_of (remove_entry test es))
             (recursion_from_All (λ k. eq_by_cmp by_rows e.0 k ≡ false) (keys_of (remove_entry test es))
             (All-map-remove_entry test (λ x. x.0) (λ k. eq_by_cmp by_rows e.0 k ≡ false) es
-            (All-from_recursion (λ k. eq_by_cmp by_rows e.0 k ≡ false) (keys_of es) (IsDistinct-head (eq_by_cmp by_rows) e.0 (keys_of es) apart))))
+            (All-from_recursion (λ k. eq_by_cmp by_rows e.0 k ≡ false) (keys_of es)
+            (IsDistinct-head (eq_by_cmp by_rows) e.0 (keys_of es) apart))))
             (distinct-taken test es rest)
       ]
 
--- places in order that differ rise
-less_from : (one other : ℕ × ℕ) → is_lt (by_rows other one) ≡ false → eq_by_cmp by_rows one other ≡ false → by_rows one other ≡ Less
-less_from one other low apart = elim (by_rows one other) as (λ o. by_rows one other ≡ o → by_rows one other ≡ Less) [
-  | Less ↦ λ is. is
-  | Equal ↦ λ is. absurd (false≢true (sym apart ∙ ap is_eq is))
-  | Greater ↦ λ is. absurd (false≢true (sym low ∙ ap is_lt (by_rows_total.antisymm other one ∙ ap ordering_reverse is)))
-] refl
-
-pub strictly_sorted : (before after : List (ℕ × ℕ)) → IsPermutation before after → IsSorted by_rows after
-    → IsDistinct (eq_by_cmp by_rows) before → IsStrictlySortedBy by_rows after
-strictly_sorted before after moved sorted apart =
-    let distinct = IsDistinct-IsPermutation (eq_by_cmp by_rows) laws.symm before after moved apart in
-    sorted_from_all_adjacent by_rows_total after (0, 0) (λ k l.
-    less_from (get_or after k (0, 0)) (get_or after (k + 1) (0, 0))
-    (sorted_far (λ x y. is_lt (by_rows x y)) (ranks_by by_rows_total (λ x. x)) after sorted k (k + 1) (0, 0) (omega arith) l)
-    (apart_from_distinct (eq_by_cmp by_rows) after k (k + 1) (0, 0) distinct (omega arith) l))
-
 -- one more of the first entries: what a loop over them has collected
-pub moved_more : {T : Type 0} (axis : Axis) (change : Change) (es : List ((ℕ × ℕ) × T)) (i : ℕ) (d : (ℕ × ℕ) × T) (made : List ((ℕ × ℕ) × T))
-    (now : Option (ℕ × ℕ)) → i < length es → d ≡ get_or es i d → now ≡ place_after axis change d.0.0 d.0.1 → made ≡ moved axis change (take i es)
+pub moved_more : {T : Type 0} (axis : Axis) (change : Change) (es : List ((ℕ × ℕ) × T)) (i : ℕ) (d : (ℕ × ℕ) × T)
+    (made : List ((ℕ × ℕ) × T))
+    (now : Option (ℕ × ℕ)) → i < length es → d ≡ get_or es i d → now ≡ place_after axis change d.0.0 d.0.1
+    → made ≡ moved axis change (take i es)
     → made ++ cons_option (option_map (λ place. (place, d.1)) now) [] ≡ moved axis change (take (i + 1) es)
 moved_more {T} axis change es i d made now l is goes so_far =
     ap (λ xs. xs ++ cons_option (option_map (λ place. (place, d.1)) now) []) so_far
@@ -172,38 +173,10 @@ moved_more {T} axis change es i d made now l is goes so_far =
     ∙ sym (filter_map-append (moves axis change) (take i es) (get_or es i d ∷ []))
     ∙ sym (ap (moved axis change) (take_more es i d l))
 
-pub held_next : {T : Type 0} (area : Area) (es : List ((ℕ × ℕ) × T)) (i : ℕ) (d : (ℕ × ℕ) × T) (places : List (ℕ × ℕ)) (b : Bool)
-    → i < length es → d ≡ get_or es i d → b ≡ holds_place area d.0 → places ≡ held_places area (take i es)
-    → places ++ cond b (d.0 ∷ []) [] ≡ held_places area (take (i + 1) es)
-held_next {T} area es i d places b l is test so_far =
-    ap (λ xs. xs ++ cond b (d.0 ∷ []) []) so_far
-    ∙ ap (λ t. held_places area (take i es) ++ cond t (d.0 ∷ []) []) test
-    ∙ sym (keys_cond (holds_place area d.0) d)
-    ∙ ap (λ (e : (ℕ × ℕ) × T). held_places area (take i es) ++ keys_of (cond (holds_place area e.0) (e ∷ []) [])) is
-    ∙ sym (map-append (λ e. e.0) (filter (λ e. holds_place area e.0) (take i es)) (cond (holds_place area (get_or es i d).0) (get_or es i d ∷ []) []))
-    ∙ sym (ap keys_of (filter_more (λ e. holds_place area e.0) es i d l))
-  where
-    keys_cond : (t : Bool) (e : (ℕ × ℕ) × T) → held_places area (take i es) ++ keys_of (cond t (e ∷ []) []) ≡ held_places area (take i es) ++ cond t (e.0 ∷ []) []
-    keys_cond true e = refl
-    keys_cond false e = refl
-
 -- the entries of a list with distinct places, as a loop fills them in
-pub fills_itself : {T : Type 0} (es : List ((ℕ × ℕ) × T)) → IsDistinct (eq_by_cmp by_rows) (keys_of es) → FillsTo es [] es
+pub fills_itself : {T : Type 0} (es : List ((ℕ × ℕ) × T)) → IsDistinct (eq_by_cmp by_rows) (keys_of es)
+    → FillsTo es [] es
 fills_itself es apart place = sym (update_all_none laws (eq_by_cmp by_rows) (λ _ _. refl) es place apart)
-
-pub sorted_places : {T : Type 0} (area : Area) (rows cols : ℕ) (es : List ((ℕ × ℕ) × T)) {table : Table T} (places : List (ℕ × ℕ))
-    → table_of rows cols es ≡ table → IsDistinct (eq_by_cmp by_rows) (keys_of es)
-    → IsPermutation (held_places area es) places → IsSorted by_rows places → AreFilledPlaces area table places
-sorted_places area rows cols es places view apart moved sorted = record {
-  in_order = strictly_sorted (held_places area es) places moved sorted (distinct_held area es apart);
-  exactly = λ row col. (
-    (λ listed.
-        let held = held_is area es (row, col) (Contains-permutation places (held_places area es) (row, col) (IsPermutation-sym (held_places area es) places moved) listed) in
-        (held.0, subst IsSome (item-view rows cols es view row col) held.1)),
-    (λ held. Contains-permutation (held_places area es) places (row, col) moved
-        (is_held area es (row, col) held.0 (subst IsSome (sym (item-view rows cols es view row col)) held.1))),
-  );
-}
 
 no_entries : IsDistinct (eq_by_cmp by_rows) []
 unfolding IsDistinct
@@ -212,14 +185,17 @@ no_entries = tt
 pub nothing_inside : {T : Type 0} (rows cols : ℕ) (es : List ((ℕ × ℕ) × T)) → es ≡ []
     → IsDistinct (eq_by_cmp by_rows) (keys_of es) × HasEntriesInside rows cols es
 nothing_inside {T} rows cols es none =
-    subst (λ (xs : List ((ℕ × ℕ) × T)). IsDistinct (eq_by_cmp by_rows) (keys_of xs) × HasEntriesInside rows cols xs) (sym none)
+    subst (λ (xs : List ((ℕ × ℕ) × T)). IsDistinct (eq_by_cmp by_rows) (keys_of xs) × HasEntriesInside rows cols
+    xs) (sym none)
     (no_entries, (λ place some. absurd (false≢true some)))
 
 -- the place of each entry has an item
-pub listed : {T : Type 0} (es : List ((ℕ × ℕ) × T)) (i : ℕ) (d : (ℕ × ℕ) × T) → i < length es → IsSome (entry_at es (get_or es i d).0)
+pub listed : {T : Type 0} (es : List ((ℕ × ℕ) × T)) (i : ℕ) (d : (ℕ × ℕ) × T) → i < length es
+    → IsSome (entry_at es (get_or es i d).0)
 listed [] i d l = absurd (omega arith)
 listed (e ∷ es) zero d l = subst (λ b. IsSome (cond b (Some e.1) (entry_at es e.0))) (sym (laws.refl e.0)) refl
-listed (e ∷ es) (suc i) d l = elim (eq_by_cmp by_rows (get_or es i d).0 e.0) as (λ b. IsSome (cond b (Some e.1) (entry_at es (get_or es i d).0))) [
-  | true ↦ refl
-  | false ↦ listed es i d (omega arith)
-]
+listed (e ∷ es) (suc i) d l = elim (eq_by_cmp by_rows (get_or es i d).0 e.0) as (λ b. IsSome
+    (cond b (Some e.1) (entry_at es (get_or es i d).0))) [
+      | true ↦ refl
+      | false ↦ listed es i d (omega arith)
+    ]

@@ -7,7 +7,7 @@ use Rattle.grid_range.specs.declared.axis.Axis.TheVariants.{Rows, Columns}
 use Rattle.grid_range.specs.declared.change.Change.{Change}
 use Rattle.grid_range.specs.Change.{count_after}
 use Rattle.grid_range.specs.Tracking.{place_of}
-use Rattle.cell_store.specs.Table.{Table, item_at}
+use Rattle.cell_store.specs.Table.{Table, item_at, most_lines}
 
 -- how many lines a sheet of that size has on the axis
 abbrev pub lines_on : Axis → ℕ → ℕ → ℕ
@@ -19,10 +19,10 @@ abbrev pub size_after : Axis → Change → ℕ → ℕ → ℕ × ℕ
 size_after Rows change rows cols = (count_after change rows, cols)
 size_after Columns change rows cols = (rows, count_after change cols)
 
--- it has at most 2,000,000,000 rows and columns together then
+-- the sheet can have as many rows and columns
 abbrev pub IsRoomAfter : {T : Type 0} → Axis → Change → Table T → Type 0
 IsRoomAfter axis change table =
-    let size = size_after axis change table.rows table.cols in size.0 + size.1 ≤ 2000000000
+    let size = size_after axis change table.rows table.cols in size.0 + size.1 ≤ most_lines
 
 -- where a place is after the change, or None where its line is deleted
 abbrev pub place_after : Axis → Change → ℕ → ℕ → Option (ℕ × ℕ)
@@ -30,7 +30,8 @@ place_after Rows change row col = option_map (λ line. (line, col)) (place_of ch
 place_after Columns change row col = option_map (λ line. (row, line)) (place_of change col)
 
 -- a place that the change brings to that one held the item
-pub record CameFrom {T : Type 0} (axis : Axis) (change : Change) (before : Table T) (row col : ℕ) (item : T) : Type 0 where
+pub record CameFrom {T : Type 0} (axis : Axis) (change : Change) (before : Table T) (row col : ℕ) (item : T) : Type
+    0 where
   pub old_row : ℕ
   pub old_col : ℕ
   pub goes : place_after axis change old_row old_col ≡ Some (row, col)

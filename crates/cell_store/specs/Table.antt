@@ -30,6 +30,14 @@ item_at table row col = map.get table.cells (row, col)
 abbrev pub filled_places : {T : Type 0} → Table T → ℕ
 filled_places table = map.len table.cells
 
+-- how many rows and columns together a sheet can have
+abbrev pub most_lines : ℕ
+most_lines = 2000000000
+
+-- with fewer filled places an item can be put at an empty one
+abbrev pub most_filled : ℕ
+most_filled = 1000000000
+
 -- the sheet has the place
 abbrev pub HasPlace : {T : Type 0} → Table T → ℕ → ℕ → Type 0
 HasPlace table row col = (row < table.rows) × (col < table.cols)

@@ -2,9 +2,13 @@
 #![tactic(auto)]
 
 mod grid;
+mod laws;
+mod places;
 mod tree;
 
-pub use grid::Grid;
+pub use grid::{Grid, MOST_FILLED, MOST_LINES};
+pub use laws::tables_by_items;
+pub use places::held_by_rows;
 pub use tree::TreeGrid;
 
 #[cfg(test)]

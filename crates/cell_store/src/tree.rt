@@ -1,12 +1,12 @@
 ghost use Rattle.std.specs.Prelude.{◌≡◌, ℕ, IfOk, ◌+◌, ◌<◌, ◌≤◌};
 ghost use Rattle.grid_range.specs.Band.{HasLine};
 ghost use Rattle.grid_range.specs.Change.{Fits};
-ghost use Rattle.cell_store.specs.Table.{empty_table};
+ghost use Rattle.cell_store.specs.Table.{empty_table, filled_places, most_lines};
 ghost use Rattle.cell_store.specs.Moved.{GoesWithLines, lines_on, size_after, place_after};
 
 use crate::grid::Grid;
 use cell_value::{Duplicate, Items, NoMemory};
-use grid_range::{Area, Axis, Band, Change, place};
+use grid_range::{Area, Axis, Band, Change, place, places_stay_apart, places_stay_below};
 use std::alloc::Global;
 use std::collections::BTreeMap;
 use std::marker::Model;
@@ -36,7 +36,7 @@ impl<T> Model for TreeGrid<T> {
 impl<T> TreeGrid<T> {
     /// A sheet of that size with nothing in it. It takes no memory.
     pub fn new(alloc: Global, rows: u32, cols: u32) -> TreeGrid<T>
-        requires { rows + cols ≤ 2000000000 }
+        requires { rows + cols ≤ most_lines }
         ensures { result ≡ empty_table rows cols }
     {
         TreeGrid {
@@ -52,8 +52,11 @@ impl<T: Duplicate + Drop> TreeGrid<T> {
     /// The grid after the change, with copies of the items that stay.
     fn moved(&self, axis: Axis, change: &Change) -> Result<TreeGrid<T>, NoMemory>
         requires { Fits change.now (lines_on axis self.now.rows self.now.cols) }
-        ensures { IfOk result (GoesWithLines axis change.now self.now) }
+        ensures moved { IfOk result (GoesWithLines axis change.now self.now) }
+        ensures filled { IfOk result (λ moved. filled_places moved ≤ filled_places self.now) }
     {
+        places_stay_apart();
+        places_stay_below();
         let mut items = BTreeMap::new(self.alloc);
         for (place, item) in &self.items {
             if let Some(now) = place_after(axis, change, (self.rows, self.cols), *place) {
@@ -73,8 +76,20 @@ impl<T: Duplicate + Drop> TreeGrid<T> {
 impl<T: Duplicate + Drop> Grid<T> for TreeGrid<T> {
     ghost table = { λ g. g };
 
+    fn rows(&self) -> u32 {
+        self.rows
+    }
+
+    fn cols(&self) -> u32 {
+        self.cols
+    }
+
     fn get(&self, row: u32, column: u32) -> Option<&T> {
         self.items.get(&(row, column))
+    }
+
+    fn get_mut(&mut self, row: u32, column: u32) -> Option<&mut T> {
+        self.items.get_mut(&(row, column))
     }
 
     fn put(&mut self, row: u32, column: u32, item: T) -> Result<Option<T>, (T, NoMemory)> {

@@ -6,6 +6,7 @@ use Rattle.std.specs.Str.Parse.{AllDigits, IsNumeral}
 use Rattle.std.proofs.lemmas.Bool.{and_parts}
 use Rattle.std.proofs.lemmas.Bool.Decides.{nat_tests}
 use Rattle.std.proofs.lemmas.Int.{fits_signed_from_abs}
+use Rattle.cell_value.specs.Limits.{largest}
 use Rattle.cell_value.specs.Typed.{are_digits}
 
 digit_is_small : (c : ℕ) → is_ascii_digit c ≡ true → digit_value c < 10
@@ -22,5 +23,5 @@ digits_are_numeral ds are =
     let parts = and_parts (nat_lt 0 (length ds)) (list_all is_ascii_digit ds) are in
     (grind (arith, nat_tests), all_digits ds parts.1)
 
-pub small_fits : (z : ℤ) → unsigned_abs z ≤ 9007199254740992 → FitsSigned w64 z
+pub small_fits : (z : ℤ) → unsigned_abs z ≤ largest → FitsSigned w64 z
 small_fits z small = fits_signed_from_abs w64 z (omega (arith, small))

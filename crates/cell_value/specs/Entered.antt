@@ -1,4 +1,5 @@
--- What a JSON value means that is entered into a cell (Google Sheets API v4 reference, ValueRange and ValueInputOption).
+-- What a JSON value means that is entered into a cell (Google Sheets API v4 reference, ValueRange and
+-- ValueInputOption).
 use Rattle.std.specs.Prelude.{ℕ, List, Result, Ok, Err}
 use Rattle.serde_json.specs.Data.{Num, Data, null, boolean, number, string, array, object}
 use Rattle.serde_json.specs.Find.{as_i64}

@@ -1,5 +1,10 @@
+pub mod Limits
 pub mod Stored
 pub mod Typed
 pub mod Entered
 pub mod Shown
+pub mod Texts
+pub mod Ids
+pub mod Entries
+pub mod FaultCount
 pub mod formers

@@ -9,6 +9,8 @@ use crate::Text;
 use crate::typed::{is_decimal, is_formula, is_whole, is_word, marked_text};
 use serde_json::{Number, Value as Json};
 use std::alloc::{AllocError, Global};
+use std::error::Error;
+use std::fmt;
 
 /// How an entered value is taken (Sheets API v4 reference, ValueInputOption).
 #[derive(Clone, Copy, Debug, PartialEq, Eq)]
@@ -48,6 +50,19 @@ pub enum Bad {
     /// Memory ran out.
     NoMemory,
 }
+
+impl fmt::Display for Bad {
+    fn fmt<W: fmt::Write>(&self, f: &mut fmt::Formatter<W>) -> fmt::Result {
+        f.write_str(match self {
+            Bad::NotWhole => "not a whole number within 2^53 either way",
+            Bad::TooLong => "a text of more than 50,000 bytes",
+            Bad::NotScalar => "a list or an object",
+            Bad::NoMemory => "no memory",
+        })
+    }
+}
+
+impl Error for Bad {}
 
 impl From<AllocError> for Bad {
     ghost use Rattle.std.specs.Prelude.{◌≡◌};

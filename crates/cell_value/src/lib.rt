@@ -7,16 +7,26 @@ mod cell;
 mod duplicate;
 mod entered;
 mod failure;
+mod follow;
+mod follow_map;
+mod given;
 mod sequence;
 mod shown;
+mod texts;
 mod typed;
+mod update;
 
 pub use cell::{Block, Cell, Kind, Render, SheetProperties, Value};
 pub use duplicate::Duplicate;
 pub use entered::{Bad, Input, LARGEST, LONGEST, Mode, read_entered};
 pub use failure::{Failed, NoMemory};
+pub use follow::Follow;
+pub use follow_map::follow_values;
+pub use given::put_given;
 pub use sequence::{Bytes, Items, Text};
 pub use shown::show;
+pub use texts::is_among;
+pub use update::Update;
 
 #[cfg(test)]
 mod tests;

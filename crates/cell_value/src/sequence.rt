@@ -1,7 +1,11 @@
-ghost use Rattle.std.specs.Prelude.{◌≡◌, ◌++◌, [], string_bytes, OnOk, OnErr};
+ghost use Rattle.std.specs.Prelude.{◌≡◌, ◌++◌, [], All, map, string_bytes, OnOk, OnErr};
+ghost use Rattle.std.specs.List.{filter_map, AllZip};
 
+use crate::follow::{Follow, follow_all};
+use crate::update::{Update, update_all};
 use crate::{Duplicate, NoMemory};
 use std::marker::Model;
+use std::mem;
 
 /// A text. Contracts see the list of its UTF-8 bytes.
 #[derive(Debug, Drop)]
@@ -30,6 +34,13 @@ impl Text {
         ensures { result.now ≡ self.now }
     {
         self.text.as_str()
+    }
+
+    /// The text, in the memory that it has.
+    pub fn into_string(self) -> String
+        ensures { string_bytes result ≡ self }
+    {
+        self.text
     }
 }
 
@@ -126,11 +137,46 @@ impl<T> Items<T> {
         self.items.as_slice()
     }
 
-    /// The items as a vector, in the memory that they have, for a change in place.
+    /// The items as a vector, in the memory that they have.
     pub fn into_vec(self) -> Vec<T>
         ensures { result.items ≡ self }
     {
         self.items
+    }
+
+    /// Takes all items out, in the memory that they have; none is left.
+    pub fn take(&mut self) -> Items<T>
+        ensures taken { result ≡ self.old }
+        ensures left { self.new ≡ [] }
+    {
+        let empty = Vec::new(*self.items.allocator());
+        Items {
+            items: mem::replace(&mut self.items, empty),
+        }
+    }
+
+    /// Has each item follow the change, and drops those that are lost; the others keep their order. It
+    /// takes no memory.
+    pub fn follow<C>(&mut self, change: &C)
+    where
+        T: Follow<C> + Drop,
+        requires { All (T.can_follow change.now) self.old }
+        ensures followed { self.new ≡ filter_map (T.becomes change.now) self.old }
+        ensures has_followed { All (T.has_followed change.now) self.new }
+    {
+        follow_all(&mut self.items, change);
+    }
+
+    /// Changes each item in its place. It takes no memory.
+    pub fn update<C>(&mut self, change: &C)
+    where
+        T: Update<C>,
+        requires { All (T.can_update change.now) self.old }
+        ensures updated { self.new ≡ map (T.becomes change.now) self.old }
+        ensures is_updated { AllZip (T.is_updated change.now) self.old self.new }
+        ensures has_updated { All (T.has_updated change.now) self.new }
+    {
+        update_all(&mut self.items, change);
     }
 }
 

@@ -1,3 +1,3 @@
-pub mod InPlace
 pub mod OwnIds
+pub mod Entries
 pub mod Patching

@@ -1,26 +1,20 @@
 -- The ids of a list of items: no two are one, whatever is put in, changed or taken out.
-use Rattle.std.proofs.Common.{◌≡◌, ◌≢◌, ℕ, suc, ◌+◌, ◌<◌, ◌≤◌, Bool, true, false, cond, Option, None, Some, List, [], ◌∷◌, ◌++◌, All, Contains, take, length, get_or, refl, sym, ap, ◌∙◌, subst, ⊎_elim, arith}
-use Rattle.std.specs.Prelude.{◌==◌, filter}
+use Rattle.std.proofs.Common.{◌≡◌, ◌≢◌, ℕ, zero, suc, ◌+◌, ◌<◌, ◌≤◌, Bool, true, false, cond, Option, None, Some, List, [], ◌∷◌, ◌++◌, All, take, set, length, get_or, refl, sym, ap, ◌∙◌, subst, arith}
+use Rattle.std.specs.Prelude.{◌==◌, ◌&&◌, filter, is_some, AllPairs}
 use Rattle.std.specs.List.{filter_map, cons_option}
-use Rattle.std.specs.List.Sorted.{IsPermutation, IsNonDecreasing}
 use Rattle.std.specs.Option.{option_map}
-use Rattle.std.proofs.lemmas.Bool.{ne_eqb, eq-eqb, false≢true, cases_lt, or_parts}
-use Rattle.std.proofs.lemmas.List.{map_push, get_or-map, get_or-take, get_or_default, length-take-le, length-map}
+use Rattle.std.proofs.lemmas.Bool.{ne_eqb, eq-eqb, eqb-true, false≢true}
+use Rattle.std.proofs.lemmas.List.{map_push, get_or-map, length-map}
 use Rattle.std.proofs.lemmas.List.Elements.{All-nil, All-cons, All-head, All-tail}
-use Rattle.std.proofs.lemmas.List.Folds.{list_any_none}
 use Rattle.std.proofs.lemmas.List.Kept.{AllPairs-cons}
 use Rattle.std.proofs.lemmas.List.Quantifiers.{all_pairs_push}
-use Rattle.std.proofs.lemmas.List.Sorted.{All-permutation, Contains-permutation, IsPermutation-sym}
 use Rattle.grid_range.specs.declared.axis.Axis.{Axis}
 use Rattle.grid_range.specs.declared.change.Change.{Change}
 use Rattle.dev_metadata.specs.declared.types.Item.{Item}
-use Rattle.dev_metadata.specs.declared.types.ItemPatch.{ItemPatch}
-use Rattle.dev_metadata.specs.declared.types.Lookup.{Lookup}
 use Rattle.dev_metadata.specs.declared.types.Spot.{Spot}
 use Rattle.dev_metadata.specs.Following.{spot_followed, item_followed}
-use Rattle.dev_metadata.specs.Listed.{HaveOwnIds, IsLeastUnused, ids_of, has_id}
-use Rattle.dev_metadata.specs.Lookup.{finds_some}
-use Rattle.dev_metadata.specs.Patch.{patched, with_patched}
+use Rattle.dev_metadata.specs.Listed.{HaveOwnIds, ids_of, has_id, with_id, seen_with_id}
+use Rattle.dev_metadata.specs.Lookup.{sees}
 
 -- none of the ids is that one
 abbrev pub AreOthers : ℕ → List Item → Type 0
@@ -99,91 +93,106 @@ followed_id : (one other : Item) (spot : Option Spot)
 followed_id one other None is = cc
 followed_id one other (Some spot) is = cc
 
-pub HaveOwnIds-followed : (sheet : ℕ) (axis : Axis) (change : Change) (items : List Item)
-    → HaveOwnIds items → HaveOwnIds (filter_map (item_followed sheet axis change) items)
-HaveOwnIds-followed sheet axis change items own =
-    HaveOwnIds-filter_map (item_followed sheet axis change) items
-    (λ one other is. followed_id one other (spot_followed sheet axis change one.spot) is) own
+pub KeepsId-followed : (sheet : ℕ) (axis : Axis) (change : Change) → KeepsId (item_followed sheet axis change)
+KeepsId-followed sheet axis change one other is =
+    followed_id one other (spot_followed sheet axis change one.spot) is
 
 -- one more
-pub unused_others : (id : ℕ) (items : List Item) → has_id id items ≡ false
+unused_first : (id : ℕ) (first : Item) (found : Option Item) (same : Bool) → (id == first.id) ≡ same
+    → is_some (cond same (Some first) found) ≡ false → (id ≢ first.id) × (is_some found ≡ false)
+unused_first id first found true is none = cc
+unused_first id first found false is none =
+    (λ (equal : id ≡ first.id). false≢true (sym is ∙ eq-eqb id first.id equal), none)
+
+pub unused_others : (id : ℕ) (items : List Item) → has_id items id ≡ false
     → All (λ other. other ≢ id) (ids_of items)
 unused_others id [] unused = All-nil (λ other. other ≢ id)
 unused_others id (first ∷ rest) unused =
-    let parts = or_parts (first.id == id) (has_id id rest) unused in
-    All-cons (λ other. other ≢ id) first.id (ids_of rest)
-    (λ same. false≢true (sym parts.0 ∙ eq-eqb first.id id same))
+    let parts = unused_first id first (with_id id rest) (id == first.id) refl unused in
+    All-cons (λ other. other ≢ id) first.id (ids_of rest) (λ same. parts.0 (sym same))
     (unused_others id rest parts.1)
 
-pub HaveOwnIds-push : (item : Item) (items : List Item) → has_id item.id items ≡ false → HaveOwnIds items
+pub HaveOwnIds-push : (item : Item) (items : List Item) → has_id items item.id ≡ false → HaveOwnIds items
     → HaveOwnIds (items ++ item ∷ [])
 HaveOwnIds-push item items unused own =
-    subst (λ (ids : List ℕ). Rattle.std.specs.Prelude.AllPairs (λ one other. one ≢ other) ids)
+    subst (λ (ids : List ℕ). AllPairs (λ one other. one ≢ other) ids)
     (sym (map_push (λ (item : Item). item.id) items item))
     (all_pairs_push (λ one other. one ≢ other) (ids_of items) item.id own (unused_others item.id items unused))
 
--- a patched item keeps its id
-patched_id : (project : List ℕ) (patch : ItemPatch) (item : Item) (finds : Bool)
-    → (cond finds (patched project patch item) item).id ≡ item.id
-patched_id project patch item true = refl
-patched_id project patch item false = refl
+-- an item with the id of the one in whose place it is put
+pub ids_of-set : (items : List Item) (at : ℕ) (item d : Item) → at < length items
+    → item.id ≡ (get_or items at d).id → ids_of (set items at item) ≡ ids_of items
+ids_of-set [] at item d there same = refl
+ids_of-set (first ∷ rest) zero item d there same = ap (λ id. id ∷ ids_of rest) same
+ids_of-set (first ∷ rest) (suc at) item d there same =
+    ap (λ ids. first.id ∷ ids) (ids_of-set rest at item d (omega arith) same)
 
-pub ids_of-with_patched : (lookups : List Lookup) (project : List ℕ) (patch : ItemPatch) (items : List Item)
-    → ids_of (with_patched lookups project patch items) ≡ ids_of items
-ids_of-with_patched lookups project patch [] = refl
-ids_of-with_patched lookups project patch (first ∷ rest) =
-    ap (λ id. id ∷ ids_of (with_patched lookups project patch rest))
-    (patched_id project patch first (finds_some lookups project first))
-    ∙ ap (λ ids. first.id ∷ ids) (ids_of-with_patched lookups project patch rest)
+pub HaveOwnIds-set : (items : List Item) (at : ℕ) (item d : Item) → at < length items
+    → item.id ≡ (get_or items at d).id → HaveOwnIds items → HaveOwnIds (set items at item)
+HaveOwnIds-set items at item d there same own =
+    subst (λ (ids : List ℕ). AllPairs (λ one other. one ≢ other) ids)
+    (sym (ids_of-set items at item d there same)) own
 
-pub HaveOwnIds-with_patched : (lookups : List Lookup) (project : List ℕ) (patch : ItemPatch)
-    (items : List Item) → HaveOwnIds items → HaveOwnIds (with_patched lookups project patch items)
-HaveOwnIds-with_patched lookups project patch items own =
-    subst (λ (ids : List ℕ). Rattle.std.specs.Prelude.AllPairs (λ one other. one ≢ other) ids)
-    (sym (ids_of-with_patched lookups project patch items)) own
+-- an item has another id than those before it
+pub new_id_before : (items : List Item) (at : ℕ) (d : Item) → HaveOwnIds items → at < length items
+    → has_id (take at items) (get_or items at d).id ≡ false
+new_id_before [] at d own there = absurd (omega arith)
+new_id_before (first ∷ rest) zero d own there = refl
+new_id_before (first ∷ rest) (suc at) d own there =
+    let long = length-map rest (λ (item : Item). item.id) in
+    let other = own_head first rest own at d.id (omega arith) in
+    rw (ne_eqb (get_or rest at d).id first.id
+    (λ same. other (sym same ∙ sym (get_or-map (λ (item : Item). item.id) rest at d d.id (omega arith)))))
+    (new_id_before rest at d (own_tail first rest own) (omega arith))
 
--- what is said of ids in order is said of the ids
-pub IsLeastUnused-sorted : (ids sorted : List ℕ) (id : ℕ) → IsPermutation ids sorted
-    → IsLeastUnused sorted id → IsLeastUnused ids id
-IsLeastUnused-sorted ids sorted id same least =
-    let back = IsPermutation-sym ids sorted same in
-    record {
-      positive = least.positive;
-      unused = All-permutation (λ other. other ≢ id) sorted ids back least.unused;
-      least = λ lesser positive below.
-          Contains-permutation sorted ids lesser back (least.least lesser positive below);
-    }
+-- the item with an id, as a project sees it
+unfound_first : (id : ℕ) (project : List ℕ) (first : Item) (found : Option Item) (same : Bool)
+    → cond same (Some first) found ≡ None → (same && sees project first ≡ false) × (found ≡ None)
+unfound_first id project first found true none = cc
+unfound_first id project first found false none = (refl, none)
 
--- an unused id is one that no item has
-unused_none : (id : ℕ) (items : List Item) → All (λ other. other ≢ id) (ids_of items)
-    → All (λ item. (item.id == id) ≡ false) items
-unused_none id items unused = λ k d there.
-    ne_eqb (get_or items k d).id id
-    (subst (λ (other : ℕ). other ≢ id) (get_or-map (λ (item : Item). item.id) items k d d.id there)
-    (unused k d.id (rw (length-map items (λ (item : Item). item.id)) there)))
+pub none_seen : (id : ℕ) (project : List ℕ) (items : List Item) → with_id id items ≡ None
+    → seen_with_id id project items ≡ None
+none_seen id project [] none = refl
+none_seen id project (first ∷ rest) none =
+    let parts = unfound_first id project first (with_id id rest) (id == first.id) none in
+    rw parts.0 (none_seen id project rest parts.1)
 
-pub has_id-unused : (id : ℕ) (items : List Item) → IsLeastUnused (ids_of items) id
-    → has_id id items ≡ false
-has_id-unused id items least =
-    list_any_none (λ item. item.id == id) items (unused_none id items least.unused)
+seen_first : (id : ℕ) (project : List ℕ) (first item : Item) (found seen : Option Item) (same : Bool)
+    → cond same (Some first) found ≡ Some item → sees project item ≡ true → (found ≡ Some item → seen ≡ Some item)
+    → cond (same && sees project first) (Some first) seen ≡ Some item
+seen_first id project first item found seen true is sees rest =
+    let one : first ≡ item = cc in rw (one, sees) refl
+seen_first id project first item found seen false is sees rest = rest is
 
--- the step of a search for the least number that is missing
-pub unused_next : (ids : List ℕ) (i id : ℕ) → IsNonDecreasing ids → i < length ids
-    → get_or ids i 0 ≡ id → All (λ other. other ≢ id + 1) (take (i + 1) ids)
-unused_next ids i id ordered there is = λ k d below same.
-    let long = length-take-le (i + 1) ids (omega arith) in
-    let bound : k < i + 1 = omega arith in
-    let upto : get_or ids k d ≤ get_or ids i d = ordered k i d (omega arith) there in
-    let here : get_or ids i d ≡ id = get_or_default ids i d 0 there ∙ is in
-    let next : get_or ids k d ≡ id + 1 = sym (get_or-take (i + 1) ids k d bound) ∙ same in
-    omega arith
+pub found_seen : (id : ℕ) (project : List ℕ) (items : List Item) (item : Item) → with_id id items ≡ Some item
+    → sees project item ≡ true → seen_with_id id project items ≡ Some item
+found_seen id project [] item is sees = cc
+found_seen id project (first ∷ rest) item is sees =
+    seen_first id project first item (with_id id rest) (seen_with_id id project rest) (id == first.id) is sees
+    (λ is. found_seen id project rest item is sees)
 
-pub used_next : (ids : List ℕ) (i id : ℕ) → i < length ids → get_or ids i 0 ≡ id
-    → ((lesser : ℕ) → 1 ≤ lesser → lesser < id → Contains ids lesser)
-    → (lesser : ℕ) → 1 ≤ lesser → lesser < id + 1 → Contains ids lesser
-used_next ids i id there is used lesser positive below = ⊎_elim
-    (λ (less : lesser < id). used lesser positive less)
-    (λ (more : id ≤ lesser).
-    let same : id ≡ lesser = omega arith in
-    (i, there, get_or_default ids i lesser 0 there ∙ is ∙ same))
-    (cases_lt lesser id)
+others_unfound : (id : ℕ) (items : List Item) → AreOthers id items → with_id id items ≡ None
+others_unfound id [] others = refl
+others_unfound id (first ∷ rest) others =
+    rw (ne_eqb id first.id (All-head (λ other. id ≢ other) first.id (ids_of rest) others))
+    (others_unfound id rest (All-tail (λ other. id ≢ other) first.id (ids_of rest) others))
+
+unseen_first : (id : ℕ) (project : List ℕ) (first item : Item) (rest : List Item) (same : Bool)
+    → (id == first.id) ≡ same → cond same (Some first) (with_id id rest) ≡ Some item
+    → sees project item ≡ false → AreOthers first.id rest
+    → (with_id id rest ≡ Some item → seen_with_id id project rest ≡ None)
+    → cond (same && sees project first) (Some first) (seen_with_id id project rest) ≡ None
+unseen_first id project first item rest true told is unseen others behind =
+    let one : first ≡ item = cc in
+    let same : id ≡ first.id = eqb-true id first.id told in
+    rw (one, unseen) (none_seen id project rest
+    (others_unfound id rest (subst (λ (id : ℕ). AreOthers id rest) (sym same) others)))
+unseen_first id project first item rest false told is unseen others behind = behind is
+
+pub found_unseen : (id : ℕ) (project : List ℕ) (items : List Item) (item : Item) → HaveOwnIds items
+    → with_id id items ≡ Some item → sees project item ≡ false → seen_with_id id project items ≡ None
+found_unseen id project [] item own is unseen = refl
+found_unseen id project (first ∷ rest) item own is unseen =
+    unseen_first id project first item rest (id == first.id) refl is unseen (own_head first rest own)
+    (λ is. found_unseen id project rest item (own_tail first rest own) is unseen)

@@ -1,17 +1,15 @@
 -- What is left to be put into the items of a list, one after another.
-use Rattle.std.proofs.Common.{◌≡◌, ℕ, ◌+◌, ◌<◌, Bool, true, false, cond, Option, None, Some, List, [], ◌∷◌, map, set, drop, length, get_or, refl, sym, ap, ◌∙◌, subst, arith}
-use Rattle.std.specs.List.{filter_map}
-use Rattle.std.proofs.lemmas.List.{set-get_or, drop_more, drop-drop, drop-set-lt, get_or-map, length-map}
+use Rattle.std.proofs.Common.{◌≡◌, ℕ, ◌+◌, ◌<◌, ◌≤◌, Bool, true, false, cond, Option, None, Some, List, [], ◌∷◌, ◌++◌, map, set, take, drop, length, get_or, refl, sym, ap, ◌∙◌, subst, arith}
+use Rattle.std.proofs.lemmas.List.{take_more, take_more_set, take_all, length-set, map-append, set-get_or, drop_more, drop-drop, drop-set-lt, get_or-map, length-map}
 use Rattle.dev_metadata.specs.declared.types.Item.{Item}
 use Rattle.dev_metadata.specs.declared.types.ItemPatch.{ItemPatch}
 use Rattle.dev_metadata.specs.declared.types.Lookup.{Lookup}
 use Rattle.dev_metadata.specs.declared.types.Sight.TheVariants.{Document}
 use Rattle.dev_metadata.specs.declared.types.Spot.TheVariants.{Spreadsheet}
 use Rattle.dev_metadata.specs.Lookup.{finds_some}
-use Rattle.dev_metadata.proofs.InPlace.{Keeps, Keeps-item, Keeps-put}
 use Rattle.dev_metadata.specs.declared.updating.Given.{Given}
 use Rattle.dev_metadata.specs.Given.{given_of, given_to, with_given}
-use Rattle.dev_metadata.specs.Patch.{patched, with_patched}
+use Rattle.dev_metadata.specs.Patch.{patched}
 
 -- some item
 abbrev pub any_item : Item
@@ -21,14 +19,6 @@ any_item = record { id = 0; key = []; value = []; spot = Spreadsheet; sight = Do
 abbrev pub patched_item : List Lookup → List ℕ → ItemPatch → Item → Item
 patched_item lookups project patch item =
     cond (finds_some lookups project item) (patched project patch item) item
-
-pub with_patched_is : (lookups : List Lookup) (project : List ℕ) (patch : ItemPatch) (items : List Item)
-    → filter_map (λ item. Some (patched_item lookups project patch item)) items
-    ≡ with_patched lookups project patch items
-with_patched_is lookups project patch [] = refl
-with_patched_is lookups project patch (first ∷ rest) =
-    ap (λ rest. patched_item lookups project patch first ∷ rest)
-    (with_patched_is lookups project patch rest)
 
 -- two lists that are one from a place on have one item there
 pub same_item : {X : Type 0} (xs ys : List X) (at : ℕ) (d : X) → at < length xs → at < length ys
@@ -84,12 +74,41 @@ pub patched_none : (lookups : List Lookup) (project : List ℕ) (patch : ItemPat
 patched_none lookups project patch item is =
     stays project patch item (finds_some lookups project item) is
 
--- an item that becomes itself stays where it is
-pub Keeps-same : {X : Type 0} (becomes : X → Option X) (before now : List X) (at : ℕ) (d : X)
-    → at < length before → becomes (get_or before at d) ≡ Some (get_or before at d)
-    → Keeps becomes before now at at → Keeps becomes before now (at + 1) (at + 1)
-Keeps-same {X} becomes before now at d there is keeps =
-    let here = Keeps-item becomes before now at at d there keeps in
-    subst (λ (list : List X). Keeps becomes before list (at + 1) (at + 1))
+-- the first `at` items are patched, and the rest is as it was
+pub record Patches (f : Item → Item) (before now : List Item) (at : ℕ) : Type 0 where
+  pub wide : length now ≡ length before
+  pub done : take at now ≡ map f (take at before)
+  pub behind : drop at now ≡ drop at before
+
+pub Patches-begin : (f : Item → Item) (items : List Item) → Patches f items items 0
+Patches-begin f items = record { wide = refl; done = refl; behind = refl }
+
+-- one more is
+pub Patches-put : (f : Item → Item) (before now : List Item) (at : ℕ) (item d : Item) → at < length before
+    → item ≡ f (get_or before at d) → Patches f before now at → Patches f before (set now at item) (at + 1)
+Patches-put f before now at item d there is patches =
+    let wide = patches.wide in
+    record {
+      wide = length-set now at item ∙ wide;
+      done = take_more_set now at item (omega arith) ∙ ap (λ done. done ++ item ∷ []) patches.done
+          ∙ ap (λ item. map f (take at before) ++ item ∷ []) is
+          ∙ sym (ap (map f) (take_more before at d there) ∙ map-append f (take at before) (get_or before at d ∷ []));
+      behind = same_behind now before at item patches.behind;
+    }
+
+-- and so is one that is already
+pub Patches-same : (f : Item → Item) (before now : List Item) (at : ℕ) (d : Item) → at < length before
+    → f (get_or before at d) ≡ get_or before at d → Patches f before now at → Patches f before now (at + 1)
+Patches-same f before now at d there is patches =
+    let wide = patches.wide in
+    let here = same_item now before at d (omega arith) there patches.behind in
+    subst (λ (list : List Item). Patches f before list (at + 1))
     (ap (set now at) (sym here) ∙ set-get_or now at d)
-    (Keeps-put becomes before now at at (get_or before at d) d there is keeps)
+    (Patches-put f before now at (get_or before at d) d there (sym is) patches)
+
+-- in the end all are
+pub Patches-end : (f : Item → Item) (before now : List Item) (at : ℕ) → length before ≤ at
+    → Patches f before now at → now ≡ map f before
+Patches-end f before now at all patches =
+    let wide = patches.wide in
+    sym (take_all at now (omega arith)) ∙ patches.done ∙ ap (map f) (take_all at before all)

@@ -4,6 +4,7 @@ pub mod Sight
 pub mod SightKind
 pub mod Lookup
 pub mod Listed
+pub mod Kept
 pub mod Following
 pub mod Patch
 pub mod Given

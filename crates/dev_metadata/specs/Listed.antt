@@ -1,8 +1,6 @@
 -- The metadata of a spreadsheet in order of creation: `metadataId` of the Google Sheets API v4.
-use Rattle.std.specs.Prelude.{ℕ, ◌≡◌, ◌≢◌, ◌≤◌, ◌<◌, Bool, false, not, ◌&&◌, ◌==◌, List, [], ◌∷◌, ◌++◌, Option, None, Some, AllPairs, All, Contains, filter, find, map}
-use Rattle.std.specs.List.{list_any}
+use Rattle.std.specs.Prelude.{ℕ, ◌≢◌, Bool, not, ◌&&◌, ◌==◌, List, [], ◌∷◌, ◌++◌, Option, is_some, AllPairs, filter, find, map}
 use Rattle.std.specs.List.Sorted.{IsPermutation, IsNonDecreasingBy}
-use Rattle.std.specs.Option.{option_map_or}
 use Rattle.dev_metadata.specs.declared.types.Item.{Item}
 use Rattle.dev_metadata.specs.declared.types.Lookup.{Lookup}
 use Rattle.dev_metadata.specs.declared.types.Sight.{Sight}
@@ -16,28 +14,17 @@ ids_of items = map (λ item. item.id) items
 abbrev pub HaveOwnIds : List Item → Type 0
 HaveOwnIds items = AllPairs (λ one other. one ≢ other) (ids_of items)
 
+-- the one with the id
+abbrev pub with_id : ℕ → List Item → Option Item
+with_id id items = find (λ item. id == item.id) items
+
 -- one has the id
-abbrev pub has_id : ℕ → List Item → Bool
-has_id id items = list_any (λ item. item.id == id) items
+abbrev pub has_id : List Item → ℕ → Bool
+has_id items id = is_some (with_id id items)
 
 -- the one with the id, if the project sees it
 abbrev pub seen_with_id : ℕ → List ℕ → List Item → Option Item
-seen_with_id id project items = find (λ item. item.id == id && sees project item) items
-
--- the least id from 1 on that none has
-pub record IsLeastUnused (ids : List ℕ) (id : ℕ) : Type 0 where
-  pub positive : 1 ≤ id
-  pub unused : All (λ other. other ≢ id) ids
-  pub least : (lesser : ℕ) → 1 ≤ lesser → lesser < id → Contains ids lesser
-
--- an id that is asked for is one that some item has
-abbrev pub is_taken : Option ℕ → List Item → Bool
-is_taken asked items = option_map_or (λ id. has_id id items) asked false
-
--- a new item has the id that is asked for, or else the least unused one
-abbrev pub IsNewId : Option ℕ → List Item → ℕ → Type 0
-IsNewId (Some asked) items id = id ≡ asked
-IsNewId None items id = IsLeastUnused (ids_of items) id
+seen_with_id id project items = find (λ item. id == item.id && sees project item) items
 
 -- a new item stands last
 abbrev pub with_one_more : ℕ → List ℕ → List ℕ → Spot → Sight → List Item → List Item

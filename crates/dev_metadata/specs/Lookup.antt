@@ -33,13 +33,13 @@ abbrev pub limits_exact : Lookup → Bool
 limits_exact lookup = is_some lookup.kind && is_exact lookup
 
 -- the kind SPREADSHEET is given beside INTERSECTING_LOCATION, or beside another location
-abbrev pub is_elsewhere : Lookup → Bool
-is_elsewhere lookup = option_map_or (λ spot. not (is_spreadsheet spot)) lookup.spot false
+abbrev pub asks_for_sheet_or_line : Lookup → Bool
+asks_for_sheet_or_line lookup = option_map_or (λ spot. not (is_spreadsheet spot)) lookup.spot false
 
 abbrev pub limits_to_spreadsheet : Lookup → Bool
 limits_to_spreadsheet lookup =
     option_map_or is_spreadsheet_kind lookup.kind false
-    && (is_intersecting lookup || is_elsewhere lookup)
+    && (is_intersecting lookup || asks_for_sheet_or_line lookup)
 
 abbrev pub is_bad : Lookup → Bool
 is_bad lookup =

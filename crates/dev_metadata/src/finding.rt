@@ -1,7 +1,7 @@
 ghost use Rattle.std.specs.Prelude.{◌≡◌, IfOk};
-ghost use Rattle.dev_metadata.specs.Listed.{AreInOrderOfId, AreIdsInOrder, found, found_by_some, not_found};
+ghost use Rattle.dev_metadata.specs.Listed.{AreInOrderOfId, AreIdsInOrder, AreInOrder, found, found_by_some};
 
-use crate::ids::sort;
+use crate::by_id::ById;
 use crate::types::{Item, Lookup};
 use cell_value::{Duplicate, NoMemory};
 use std::alloc::Global;
@@ -9,7 +9,7 @@ use std::alloc::Global;
 /// The ids of the items that one of the look-ups finds, in order.
 pub(crate) fn found_ids(
     alloc: Global,
-    items: &[Item],
+    items: &ById,
     lookups: &[Lookup],
     project: &str,
 ) -> Result<Vec<u32>, NoMemory>
@@ -17,7 +17,8 @@ pub(crate) fn found_ids(
         (λ ids. AreIdsInOrder (found_by_some lookups.now project.now items.now) ids.items) }
 {
     let mut ids = Vec::new(alloc);
-    for item in items {
+    for at in 0..items.len() {
+        let item = items.at(at);
         if item.is_found(lookups, project) {
             ids.push(item.id)?;
         }
@@ -29,7 +30,7 @@ pub(crate) fn found_ids(
 /// Copies of the items that the look-up finds, in order of id.
 pub(crate) fn found_items(
     alloc: Global,
-    items: &[Item],
+    items: &ById,
     lookup: &Lookup,
     project: &str,
 ) -> Result<Vec<Item>, NoMemory>
@@ -37,7 +38,8 @@ pub(crate) fn found_items(
         (λ copies. AreInOrderOfId (found lookup.now project.now items.now) copies.items) }
 {
     let mut copies = Vec::new(alloc);
-    for item in items {
+    for at in 0..items.len() {
+        let item = items.at(at);
         if lookup.finds(project, item) {
             copies.push(item.duplicate()?)?;
         }
@@ -53,9 +55,9 @@ fn sort_items(items: &mut Vec<Item>)
     items.sort_unstable_by_key(|item| item.id);
 }
 
-/// Takes out the items that the look-up finds.
-pub(crate) fn keep_not_found(items: &mut Vec<Item>, lookup: &Lookup, project: &str)
-    ensures { items.new.items ≡ not_found lookup.now project.now items.old.items }
+/// Puts the numbers in order, from the least on.
+fn sort(ids: &mut Vec<u32>)
+    ensures { AreInOrder (λ id. id) ids.old.items ids.new.items }
 {
-    items.retain(|item| !lookup.finds(project, item));
+    ids.sort_unstable();
 }

@@ -1,45 +1,83 @@
-ghost use Rattle.std.specs.Prelude.{◌≡◌, All, None, Some};
-ghost use Rattle.std.specs.Bool.{OnTrue, OnFalse};
+ghost use Rattle.std.specs.Prelude.{◌≡◌, All, IfSome, not, filter};
 ghost use Rattle.std.specs.List.{filter_map};
-ghost use Rattle.grid_range.specs.Change.{Fits};
-ghost use Rattle.dev_metadata.specs.Following.{IsBelow, IsSpotBelow, spot_followed, item_followed, items_elsewhere};
+ghost use Rattle.cell_value.specs.Entries.{entry_followed};
+ghost use Rattle.grid_range.specs.Change.{Fits, count_after};
+ghost use Rattle.dev_metadata.specs.Following.{IsBelow, IsSpotBelow, spot_followed, item_followed};
+ghost use Rattle.dev_metadata.specs.Kept.{items_of};
+ghost use Rattle.dev_metadata.specs.Lookup.{finds};
+ghost use Rattle.dev_metadata.specs.Spot.{is_on_sheet};
 
 use crate::matching::is_same_axis;
-use crate::types::{Item, Spot};
+use crate::types::{Item, Lookup, Spot};
+use cell_value::{Follow, follow_values};
 use grid_range::{Axis, Change, place};
+use indexmap::IndexMap;
 
 /// Has each item follow the change, and takes out those that are lost.
-pub(crate) fn follow_all(items: &mut Vec<Item>, sheet: u32, axis: Axis, count: u32, change: &Change)
+pub(crate) fn follow_all(
+    by_id: &mut IndexMap<u32, Item>,
+    sheet: u32,
+    axis: Axis,
+    count: u32,
+    change: &Change,
+)
     requires fits { Fits change.now count }
-    requires below { All (IsBelow sheet axis count) items.old.items }
-    ensures { items.new.items ≡ filter_map (item_followed sheet axis change.now) items.old.items }
+    requires below { All (IsBelow sheet axis count) (items_of by_id.old.entries) }
+    ensures followed { by_id.new.entries ≡
+        filter_map (entry_followed (item_followed sheet axis change.now)) by_id.old.entries }
+    ensures below { All (IsBelow sheet axis (count_after change.now count))
+        (items_of by_id.new.entries) }
 {
-    let mut kept = 0;
-    for at in 0..items.len() {
-        if items[at].follow(sheet, axis, count, change) {
-            items.swap(kept, at);
-            kept += 1;
-        }
-    }
-    items.truncate(kept);
+    follow_values(
+        by_id,
+        &SheetChange {
+            sheet,
+            axis,
+            count,
+            change,
+        },
+    );
 }
 
 /// Takes out the items that are on the sheet or a line of it.
-pub(crate) fn keep_elsewhere(items: &mut Vec<Item>, sheet: u32)
-    ensures { items.new.items ≡ items_elsewhere sheet items.old.items }
+pub(crate) fn drop_sheet(by_id: &mut IndexMap<u32, Item>, sheet: u32)
+    ensures { by_id.new.entries ≡
+        filter (λ entry. not (is_on_sheet sheet entry.1.spot)) by_id.old.entries }
 {
-    items.retain(|item| !item.spot.is_on_sheet(sheet));
+    by_id.retain(|_, item| !item.spot.is_on_sheet(sheet));
 }
 
-impl Item {
-    /// Has the item follow the change; false where it is lost.
-    fn follow(&mut self, sheet: u32, axis: Axis, count: u32, change: &Change) -> bool
-        requires fits { Fits change.now count }
-        requires below { IsBelow sheet axis count self.old }
-        ensures kept { OnTrue result (item_followed sheet axis change.now self.old ≡ Some self.new) }
-        ensures lost { OnFalse result (item_followed sheet axis change.now self.old ≡ None) }
-    {
-        let Some(spot) = self.spot.followed(sheet, axis, count, change) else {
+/// Takes out the items that the look-up finds.
+pub(crate) fn drop_found(by_id: &mut IndexMap<u32, Item>, lookup: &Lookup, project: &str)
+    ensures { by_id.new.entries ≡
+        filter (λ entry. not (finds lookup.now project.now entry.1)) by_id.old.entries }
+{
+    by_id.retain(|_, item| !lookup.finds(project, item));
+}
+
+/// A change of the lines on an axis of a sheet, of which there were `count`.
+#[derive(Clone, Copy)]
+struct SheetChange<'a> {
+    sheet: u32,
+    axis: Axis,
+    count: u32,
+    change: &'a Change,
+}
+
+impl Follow<SheetChange<'_>> for Item {
+    ghost use Rattle.grid_range.specs.Change.{Fits, count_after};
+    ghost use Rattle.dev_metadata.specs.Following.{IsBelow, item_followed};
+
+    ghost can_follow = { λ by item.
+        Fits by.change.now by.count × IsBelow by.sheet by.axis by.count item };
+
+    ghost becomes = { λ by item. item_followed by.sheet by.axis by.change.now item };
+
+    ghost has_followed = { λ by item.
+        IsBelow by.sheet by.axis (count_after by.change.now by.count) item };
+
+    fn follow(&mut self, by: &SheetChange) -> bool {
+        let Some(spot) = self.spot.followed(by.sheet, by.axis, by.count, by.change) else {
             return false;
         };
         self.spot = spot;
@@ -52,7 +90,8 @@ impl Spot {
     fn followed(self, sheet: u32, axis: Axis, count: u32, change: &Change) -> Option<Spot>
         requires fits { Fits change.now count }
         requires below { IsSpotBelow sheet axis count self }
-        ensures { result ≡ spot_followed sheet axis change.now self }
+        ensures value { result ≡ spot_followed sheet axis change.now self }
+        ensures below { IfSome result (IsSpotBelow sheet axis (count_after change.now count)) }
     {
         match self {
             Spot::Spreadsheet | Spot::Sheet(_) => Some(self),

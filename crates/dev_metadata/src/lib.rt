@@ -2,6 +2,7 @@
 //! how it follows the lines of the sheets, and which items a look-up finds.
 #![tactic(auto)]
 
+mod by_id;
 mod finding;
 mod following;
 mod ids;

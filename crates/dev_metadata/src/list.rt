@@ -1,15 +1,16 @@
 ghost use Rattle.std.specs.Prelude.{◌≡◌, ◌≢◌, ◌↔◌, ◌<◌, ◌∷◌, ◌++◌, [], true, false, None, Some, IfOk, IfErr, OnOk, OnErr, length, All};
 ghost use Rattle.std.specs.List.{filter_map};
 ghost use Rattle.std.specs.Option.{option_copied};
-ghost use Rattle.grid_range.specs.Change.{Fits};
+ghost use Rattle.grid_range.specs.Change.{Fits, count_after};
+ghost use Rattle.cell_value.specs.Ids.{is_taken, IsLeastUnused, IsNewId};
 ghost use Rattle.dev_metadata.specs.Following.{IsBelow, item_followed, items_elsewhere};
-ghost use Rattle.dev_metadata.specs.Listed.{HaveOwnIds, IsNewId, AreIdsInOrder, AreInOrderOfId, has_id, is_taken, seen_with_id, with_one_more, found, found_by_some, not_found};
+ghost use Rattle.dev_metadata.specs.Listed.{HaveOwnIds, AreIdsInOrder, AreInOrderOfId, has_id, seen_with_id, with_one_more, found, found_by_some, not_found};
 ghost use Rattle.dev_metadata.specs.Lookup.{is_bad, has_bad};
 ghost use Rattle.dev_metadata.specs.Patch.{with_patched};
 ghost use Rattle.dev_metadata.specs.declared.types.MetaFault.TheVariants.{NoId, IdTaken, BadLookup};
 
-use crate::finding::{found_ids, found_items, keep_not_found};
-use crate::following::{follow_all, keep_elsewhere};
+use crate::by_id::ById;
+use crate::finding::{found_ids, found_items};
 use crate::ids::{is_taken, new_id};
 use crate::matching::has_bad;
 use crate::types::{Item, ItemPatch, Lookup, MetaFault, Sight, Spot};
@@ -23,19 +24,16 @@ use std::marker::Model;
 #[derive(Drop)]
 pub struct Metadata {
     alloc: Global,
-    items: Vec<Item>,
+    items: ById,
 }
 
 impl Model for Metadata {
     ghost use Rattle.std.specs.Prelude.{List};
     ghost use Rattle.dev_metadata.specs.declared.types.Item.{Item};
-    ghost use Rattle.dev_metadata.specs.Listed.{HaveOwnIds};
 
     ghost Value = { List Item };
 
-    ghost view = { λ m. m.items.items };
-
-    ghost invariant = { λ m. HaveOwnIds m.items.items };
+    ghost view = { λ m. m.items };
 }
 
 impl Metadata {
@@ -45,7 +43,7 @@ impl Metadata {
     {
         Metadata {
             alloc,
-            items: Vec::new(alloc),
+            items: ById::new(alloc),
         }
     }
 
@@ -58,10 +56,10 @@ impl Metadata {
 
     /// The items in order of creation.
     #[cfg(test)]
-    pub(crate) fn items(&self) -> &[Item]
+    pub(crate) fn items(&self) -> &ById
         ensures { result.now ≡ self.now }
     {
-        self.items.as_slice()
+        &self.items
     }
 
     /// Adds an item behind the others, and gives its id: the one that is asked for, or else the least
@@ -80,9 +78,9 @@ impl Metadata {
         sight: Sight,
     ) -> Result<u32, MetaFault>
         requires room { length self.old < 4294967295 }
-        ensures taken { (result ≡ Err IdTaken) ↔ (is_taken id self.old ≡ true) }
+        ensures taken { (result ≡ Err IdTaken) ↔ (is_taken (has_id self.old) id ≡ true) }
         ensures no_other { (result ≢ Err NoId) × (result ≢ Err BadLookup) }
-        ensures id { IfOk result (IsNewId id self.old) }
+        ensures id { IfOk result (IsNewId (IsLeastUnused (has_id self.old)) id) }
         ensures added { IfOk result (λ new.
             self.new ≡ with_one_more new key value spot sight self.old) }
         ensures unchanged { OnErr result (self.new ≡ self.old) }
@@ -106,14 +104,14 @@ impl Metadata {
         sight: Sight,
     ) -> Result<u32, NoMemory>
         requires room { length self.old < 4294967295 }
-        requires free { is_taken id self.old ≡ false }
-        ensures id { IfOk result (IsNewId id self.old) }
+        requires free { is_taken (has_id self.old) id ≡ false }
+        ensures id { IfOk result (IsNewId (IsLeastUnused (has_id self.old)) id) }
         ensures added { IfOk result (λ new.
             self.new ≡ with_one_more new key value spot sight self.old) }
         ensures unchanged { OnErr result (self.new ≡ self.old) }
     {
-        let id = new_id(self.alloc, &self.items, id)?;
-        self.push(Item {
+        let id = new_id(&self.items, id)?;
+        self.items.push(Item {
             id,
             key,
             value,
@@ -121,16 +119,6 @@ impl Metadata {
             sight,
         })?;
         Ok(id)
-    }
-
-    /// Puts an item behind the others.
-    fn push(&mut self, item: Item) -> Result<(), NoMemory>
-        requires { has_id item.id self.old ≡ false }
-        ensures added { OnOk result (self.new ≡ self.old ++ item ∷ []) }
-        ensures unchanged { OnErr result (self.new ≡ self.old) }
-    {
-        self.items.push(item)?;
-        Ok(())
     }
 
     /// The item with the id, as a call of the project sees it. It takes no memory.
@@ -155,9 +143,10 @@ impl Metadata {
         ensures item { option_copied result ≡ seen_with_id id project.now self.now }
         ensures ids { HaveOwnIds self.now }
     {
-        self.items
-            .iter()
-            .find(|item| item.id == id && item.sight.is_seen_under(project))
+        match self.items.get(id) {
+            Some(item) if item.sight.is_seen_under(project) => Some(item),
+            _ => None,
+        }
     }
 
     /// The ids of the items that the project sees and that meet one of the look-ups, in order.
@@ -260,7 +249,7 @@ impl Metadata {
         ensures unchanged { OnErr result (self.new ≡ self.old) }
     {
         let found = found_items(self.alloc, &self.items, lookup, project)?;
-        keep_not_found(&mut self.items, lookup, project);
+        self.items.drop_found(lookup, project);
         Ok(found)
     }
 
@@ -269,28 +258,25 @@ impl Metadata {
     pub fn change(&mut self, sheet: u32, axis: Axis, count: u32, change: &Change)
         requires fits { Fits change.now count }
         requires below { All (IsBelow sheet axis count) self.old }
-        ensures { self.new ≡ filter_map (item_followed sheet axis change.now) self.old }
+        ensures followed { self.new ≡ filter_map (item_followed sheet axis change.now) self.old }
+        ensures below { All (IsBelow sheet axis (count_after change.now count)) self.new }
     {
-        follow_all(&mut self.items, sheet, axis, count, change);
+        self.items.follow(sheet, axis, count, change);
     }
 
     /// Takes out the items of a sheet that is deleted and of its lines. It takes no memory.
     pub fn lose_sheet(&mut self, sheet: u32)
         ensures { self.new ≡ items_elsewhere sheet self.old }
     {
-        keep_elsewhere(&mut self.items, sheet);
+        self.items.drop_sheet(sheet);
     }
 }
 
 impl Duplicate for Metadata {
     fn duplicate(&self) -> Result<Metadata, NoMemory> {
-        let mut items = Vec::with_capacity(self.alloc, self.items.len())?;
-        for item in &self.items {
-            items.push(item.duplicate()?)?;
-        }
         Ok(Metadata {
             alloc: self.alloc,
-            items,
+            items: self.items.copy(self.alloc)?,
         })
     }
 }

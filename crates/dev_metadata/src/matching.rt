@@ -5,7 +5,7 @@ ghost use Rattle.dev_metadata.specs.Spot.{is_same_axis, is_spreadsheet, is_sheet
 ghost use Rattle.dev_metadata.specs.Kind.{has_kind};
 ghost use Rattle.dev_metadata.specs.Sight.{is_seen_under, is_of_document};
 ghost use Rattle.dev_metadata.specs.SightKind.{has_sight};
-ghost use Rattle.dev_metadata.specs.Lookup.{is_exact, asks_nothing, limits_to_spreadsheet, is_elsewhere, is_bad, has_bad, is_text_asked, is_spot_asked, meets, finds, finds_some};
+ghost use Rattle.dev_metadata.specs.Lookup.{is_exact, asks_nothing, limits_to_spreadsheet, asks_for_sheet_or_line, is_bad, has_bad, is_text_asked, is_spot_asked, meets, finds, finds_some};
 
 use crate::types::{Item, Lookup, Sight, SightKind, Spot, SpotKind};
 use cell_value::Text;
@@ -50,15 +50,15 @@ impl Lookup {
     {
         match self.kind {
             Some(SpotKind::Spreadsheet) => {
-                (self.strategy_given && self.intersecting) || self.is_elsewhere()
+                (self.strategy_given && self.intersecting) || self.asks_for_sheet_or_line()
             }
             _ => false,
         }
     }
 
     /// Whether a location other than the spreadsheet is given.
-    fn is_elsewhere(&self) -> bool
-        ensures { result ≡ is_elsewhere self.now }
+    fn asks_for_sheet_or_line(&self) -> bool
+        ensures { result ≡ asks_for_sheet_or_line self.now }
     {
         match self.spot {
             Some(spot) => !spot.is_spreadsheet(),

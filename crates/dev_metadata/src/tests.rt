@@ -2,6 +2,7 @@ ghost use Rattle.std.specs.Prelude.{IsTrue, All};
 ghost use Rattle.dev_metadata.specs.Following.{IsBelow};
 
 use super::*;
+use crate::by_id::ById;
 use cell_value::{Duplicate, Items, NoMemory, Text};
 use grid_range::{Axis, Change};
 use std::alloc::Global;
@@ -28,7 +29,7 @@ fn the_least_unused_id_is_given(rt: HostRuntime) -> Result<(), Fail> {
         assert_eq!(rt; made, answer, "{id:?}");
     }
     assert_eq!(rt; list.count(), 7);
-    assert_eq!(rt; list.items().first().map(|item| item.id), Some(3));
+    assert!(rt; has_ids(&list, &[3, 1, 2, 4, 0, 4294967295, 5]));
     assert_eq!(rt; list.get(3, "p").map(|item| item.id), Ok(3));
     assert!(rt; matches!(list.get(3, "q"), Err(MetaFault::NoId)));
     assert!(rt; matches!(list.get(6, "p"), Err(MetaFault::NoId)));
@@ -383,13 +384,9 @@ fn has_ids(list: &Metadata, ids: &[u32]) -> bool {
     if items.len() != ids.len() {
         return false;
     }
-    for (at, id) in ids.iter().enumerate() {
-        match items.get(at) {
-            Some(item) if item.id == *id => {}
-            _ => return false,
-        }
-    }
-    true
+    ids.iter()
+        .enumerate()
+        .all(|(at, id)| at < items.len() && items.at(at).id == *id)
 }
 
 fn change(
@@ -408,11 +405,11 @@ fn change(
 }
 
 /// Whether every line of that axis of that sheet where an item lies is below `count`.
-fn are_below(items: &[Item], sheet: u32, axis: Axis, count: u32) -> bool
+fn are_below(items: &ById, sheet: u32, axis: Axis, count: u32) -> bool
     ensures { IsTrue result → All (IsBelow sheet axis count) items.now }
 {
-    for item in items {
-        if !is_below(item, sheet, axis, count) {
+    for at in 0..items.len() {
+        if !is_below(items.at(at), sheet, axis, count) {
             return false;
         }
     }

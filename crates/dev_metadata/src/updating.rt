@@ -1,11 +1,12 @@
-ghost use Rattle.std.specs.Prelude.{◌≡◌, IfOk, OnOk, OnErr, map, unwrap_or};
+ghost use Rattle.std.specs.Prelude.{◌≡◌, IfOk, OnOk, OnErr, map};
 ghost use Rattle.std.specs.Option.{option_map};
 ghost use Rattle.dev_metadata.specs.SightKind.{sight_given};
 ghost use Rattle.dev_metadata.specs.Patch.{with_patched};
 ghost use Rattle.dev_metadata.specs.Given.{given_of, with_given, given_to};
 
+use crate::by_id::ById;
 use crate::types::{Item, ItemPatch, Lookup, Sight, SightKind, Spot};
-use cell_value::{Duplicate, NoMemory, Text};
+use cell_value::{Duplicate, NoMemory, Text, put_given};
 use std::alloc::Global;
 
 /// What an update gives to one item.
@@ -24,19 +25,19 @@ pub(crate) struct Given {
 /// [`NoMemory`] where memory runs out; the items are as they were.
 pub(crate) fn patch_found(
     alloc: Global,
-    items: &mut Vec<Item>,
+    items: &mut ById,
     lookups: &[Lookup],
     project: &str,
     patch: &ItemPatch,
 ) -> Result<(), NoMemory>
     ensures patched { OnOk result
-        (items.new.items ≡ with_patched lookups.now project.now patch.now items.old.items) }
-    ensures unchanged { OnErr result (items.new.items ≡ items.old.items) }
+        (items.new ≡ with_patched lookups.now project.now patch.now items.old) }
+    ensures unchanged { OnErr result (items.new ≡ items.old) }
 {
     let mut copies = copies_given(alloc, items, lookups, project, patch)?;
     for at in 0..items.len() {
         if let Some(given) = copies[at].take() {
-            items[at].give(given);
+            items.give(at, given);
         }
     }
     Ok(())
@@ -45,7 +46,7 @@ pub(crate) fn patch_found(
 /// What each item gets, in order: a copy of what the patch gives, where one of the look-ups finds it.
 fn copies_given(
     alloc: Global,
-    items: &[Item],
+    items: &ById,
     lookups: &[Lookup],
     project: &str,
     patch: &ItemPatch,
@@ -54,8 +55,8 @@ fn copies_given(
         copies.items ≡ map (given_to lookups.now project.now patch.now) items.now) }
 {
     let mut copies = Vec::with_capacity(alloc, items.len())?;
-    for item in items {
-        copies.push(patch.given_to(alloc, item, lookups, project)?)?;
+    for at in 0..items.len() {
+        copies.push(patch.given_to(alloc, items.at(at), lookups, project)?)?;
     }
     Ok(copies)
 }
@@ -122,21 +123,12 @@ fn sight_given(
 
 impl Item {
     /// Puts what is given in the place of what the item has.
-    fn give(&mut self, given: Given)
+    pub(crate) fn give(&mut self, given: Given)
         ensures { self.new ≡ with_given given self.old }
     {
-        replace(&mut self.key, given.key);
-        replace(&mut self.value, given.value);
-        replace(&mut self.spot, given.spot);
-        replace(&mut self.sight, given.sight);
-    }
-}
-
-/// Puts what is given into the place, if it is.
-fn replace<T: Drop>(place: &mut T, given: Option<T>)
-    ensures { place.new ≡ unwrap_or given place.old }
-{
-    if let Some(given) = given {
-        *place = given;
+        put_given(&mut self.key, given.key);
+        put_given(&mut self.value, given.value);
+        put_given(&mut self.spot, given.spot);
+        put_given(&mut self.sight, given.sight);
     }
 }

@@ -1,13 +1,13 @@
 -- The only answers to what is read.
 use Rattle.std.proofs.Common.{◌≡◌, ◌≢◌, ◌<◌, ◌≤◌, length, length-append, List, ◌∷◌, sym, ap, ◌∙◌, subst, arith}
 use Rattle.std.specs.Prelude.{Option, Some, None, Result, Ok, Err, IfOk}
-use Rattle.formula_tokens.specs.declared.token.Operator.{Operator}
+use Rattle.formula_reader.specs.declared.tokens.token.Operator.{Operator}
 use Rattle.formula_reader.specs.declared.grammar.level.Level.{Level}
 use Rattle.formula_reader.specs.declared.symbols.Symbol.{Symbol}
 use Rattle.formula_reader.specs.declared.symbols.Symbol.TheVariants.{Operator as Sign}
 use Rattle.formula_reader.specs.Tree.{Expression, binary}
 use Rattle.formula_reader.specs.Grammar.{level_of, tighter}
-use Rattle.formula_reader.specs.Front.{rank, Ends, Reads, ReadsOn, stops, goes_on, IsAnswer}
+use Rattle.formula_reader.specs.LevelReading.{rank, Ends, Reads, ReadsOn, stops, goes_on, IsAnswer}
 use Rattle.formula_reader.proofs.Chains.{reads_unrolled, unrolled_reads, at_operator, at_end, ends_here}
 
 -- two ways of reading read the same
@@ -15,11 +15,9 @@ pub record Alike {A : Type 0} (R S : A → List Symbol → Type 0) : Type 0 wher
   pub to : (a : A) (rest : List Symbol) → R a rest → S a rest
   pub from : (a : A) (rest : List Symbol) → S a rest → R a rest
 
-pub alike_self : {A : Type 0} (R : A → List Symbol → Type 0) → Alike R R
-alike_self R = record { to = λ a rest r. r; from = λ a rest r. r }
-
 pub alike_both : {A : Type 0} (R S T : A → List Symbol → Type 0) → Alike R S → Alike S T → Alike R T
-alike_both R S T p q = record { to = λ a rest r. q.to a rest (p.to a rest r); from = λ a rest r. p.from a rest (q.from a rest r) }
+alike_both R S T p q =
+    record { to = λ a rest r. q.to a rest (p.to a rest r); from = λ a rest r. p.from a rest (q.from a rest r) }
 
 -- what is the only answer to one is the only answer to the other
 pub answer_alike : {A : Type 0} (R S : A → List Symbol → Type 0) (answer : Option (A × List Symbol))

@@ -6,20 +6,20 @@ use Rattle.std.specs.List.{list_all}
 use Rattle.std.proofs.lemmas.Bool.{and_parts}
 use Rattle.std.proofs.lemmas.Bool.Decides.{nat_tests}
 use Rattle.std.proofs.lemmas.Option.{none-some}
-use Rattle.formula_tokens.specs.declared.token.Operator.{Operator}
-use Rattle.formula_tokens.specs.declared.token.Operator.TheVariants.{Equal, NotEqual, Less, AtMost, Greater, AtLeast, Join, Add, Subtract, Multiply, Divide}
-use Rattle.formula_tokens.specs.declared.token.Token.{Token}
-use Rattle.formula_tokens.specs.declared.token.Token.TheVariants as token
-use Rattle.formula_tokens.specs.declared.token.Written.{Written}
-use Rattle.formula_tokens.specs.Run.{begins}
-use Rattle.formula_tokens.specs.Word.{begins_word}
-use Rattle.formula_tokens.specs.Reference.{IsPart}
-use Rattle.formula_tokens.specs.Tokens.{is_blank}
-use Rattle.formula_tokens.proofs.Starts.{starts_reference, begins-front, part_starts}
-use Rattle.formula_tokens.proofs.WordsAgain.{own_word}
-use Rattle.formula_tokens.proofs.LexemesAgain.{fits_again}
-use Rattle.formula_tokens.proofs.Lexemes.{Item, gap, lexeme, spell, AreFit, tokens_in, IsWordText, IsTitleText, IsTitledText, operator_text, IsLexeme, goes_on, widens, IsBefore}
-use Rattle.formula_reader.proofs.Neighbours.{Kind, operand, sign, kind_of_token, State, before_operand, behind_operand, behind_name, behind_sign, step, Leads}
+use Rattle.formula_reader.specs.declared.tokens.token.Operator.{Operator}
+use Rattle.formula_reader.specs.declared.tokens.token.Operator.TheVariants.{Equal, NotEqual, Less, AtMost, Greater, AtLeast, Join, Add, Subtract, Multiply, Divide}
+use Rattle.formula_reader.specs.declared.tokens.token.Token.{Token}
+use Rattle.formula_reader.specs.declared.tokens.token.Token.TheVariants as token
+use Rattle.formula_reader.specs.declared.tokens.token.MarkedArea.{MarkedArea}
+use Rattle.a1_notation.specs.Run.{begins}
+use Rattle.a1_notation.specs.Word.{begins_word}
+use Rattle.formula_reader.specs.Reference.{IsPart}
+use Rattle.a1_notation.specs.Class.{is_blank}
+use Rattle.formula_reader.proofs.Starts.{starts_reference, begins-front, part_starts}
+use Rattle.formula_reader.proofs.WordsAgain.{own_word}
+use Rattle.formula_reader.proofs.LexemesAgain.{fits_again}
+use Rattle.formula_reader.proofs.Lexemes.{Item, gap, lexeme, spell, AreFit, tokens_in, IsWordText, IsTitleText, IsTitledText, operator_text, IsLexeme, goes_on, widens, IsBefore}
+use Rattle.formula_reader.proofs.Neighbours.{Kind, operand, sign, kind_of_token, State, before_operand, behind_operand, behind_name, behind_sign, step, Leads, leads_behind}
 
 -- the bracket of a function stands right behind its name
 abbrev pub OpensBehind : Token → List ℕ → Type 0
@@ -65,7 +65,7 @@ word_no_sign b is = grind (arith, nat_tests)
 digit_no_sign : (b : ℕ) → is_ascii_digit b ≡ true → widens b ≡ false
 digit_no_sign b is = grind (arith, nat_tests)
 
-part_no_sign : (own rest : List ℕ) (written : Written) → IsPart own written → begins widens (own ++ rest) ≡ false
+part_no_sign : (own rest : List ℕ) (written : MarkedArea) → IsPart own written → begins widens (own ++ rest) ≡ false
 part_no_sign own rest written is =
     begins_no_sign starts_reference reference_no_sign (own ++ rest) (part_starts own written rest is)
 
@@ -77,7 +77,7 @@ title_no_sign : (sheet title rest : List ℕ) → IsTitleText sheet title → be
 title_no_sign sheet title rest (inl quoted) = rw quoted.spelled refl
 title_no_sign sheet title rest (inr word) = word_text_no_sign sheet rest word.0
 
-titled_no_sign : (title own rest : List ℕ) (written : Written) → IsTitledText title own (λ part. IsPart part written)
+titled_no_sign : (title own rest : List ℕ) (written : MarkedArea) → IsTitledText title own (λ part. IsPart part written)
     → begins widens (own ++ rest) ≡ false
 titled_no_sign title own rest written is =
     rw (is.whole, append_assoc is.sheet (33 ∷ is.part) rest)
@@ -159,7 +159,8 @@ nothing_stands behind_operand = refl
 nothing_stands behind_name = tt
 
 -- so the text of items that lead on from a state may stand there
-pub items_stand : (items : List Item) (a b : State) → AreLexemes items → Leads a (kinds_in items) b → StandsIn a (spell items)
+pub items_stand : (items : List Item) (a b : State) → AreLexemes items → Leads a (kinds_in items) b
+    → StandsIn a (spell items)
 items_stand [] a b are leads = nothing_stands a
 items_stand (gap [] ∷ later) a b are leads = items_stand later a b are.1 leads
 items_stand (gap (blank ∷ blanks) ∷ later) a b are leads =
@@ -168,16 +169,15 @@ items_stand (lexeme own token ∷ later) a b are leads =
     lexeme_stands a leads.0 token own (spell later) are.0 leads.1
 
 -- what may stand behind a lexeme leaves it as it is
-operand_ends : (a c : State) (names : Bool) (rest : List ℕ) → step a (operand names) ≡ Some c → StandsIn c rest → begins goes_on rest ≡ false
-operand_ends before_operand c names rest goes stands =
-    let same : c ≡ behind_operand = cc in
-    subst (λ s. StandsIn s rest) same stands
-operand_ends behind_operand c names rest goes stands = absurd (none-some c goes)
-operand_ends behind_name c names rest goes stands = absurd (none-some c goes)
+operand_ends : (a c : State) (names : Bool) (rest : List ℕ) → step a (operand names) ≡ Some c → StandsIn c rest
+    → begins goes_on rest ≡ false
+operand_ends a c names rest goes stands =
+    subst (λ (b : State). StandsIn b rest) (leads_behind a c names goes) stands
 
 sign_ends : (a c : State) (operator : Operator) (rest : List ℕ) → step a (sign operator) ≡ Some c → StandsIn c rest
     → begins widens rest ≡ false
-sign_ends before_operand c operator rest goes stands = subst (λ s. StandsIn s rest) (sign_before c operator goes).0 stands
+sign_ends before_operand c operator rest goes stands =
+    subst (λ s. StandsIn s rest) (sign_before c operator goes).0 stands
 sign_ends behind_operand c operator rest goes stands =
     let same : c ≡ before_operand = cc in
     subst (λ s. StandsIn s rest) same stands

@@ -7,7 +7,8 @@ use Rattle.grid_range.specs.declared.area.Area.{Area}
 use Rattle.ref_rewrite.specs.declared.reference.Ref.{Ref}
 use Rattle.ref_rewrite.specs.declared.pieces.Piece.{Piece}
 use Rattle.ref_rewrite.specs.declared.pieces.Piece.TheVariants as piece
-use Rattle.ref_rewrite.specs.Following.{area_followed, piece_followed, piece_without_sheet}
+use Rattle.grid_range.specs.Tracking.{area_followed}
+use Rattle.ref_rewrite.specs.Following.{piece_followed, piece_without_sheet}
 use Rattle.ref_rewrite.specs.Renaming.{is_word, piece_renamed}
 use Rattle.formula_reader.specs.ReadBack.{IsOwnWord}
 use Rattle.formula_reader.specs.Changed.{MayBecome, MayFollow, MayLoseSheet, MayBeRenamed}
@@ -20,7 +21,8 @@ each_may made may (own ∷ later) = (may own, each_may made may later)
 
 -- a reference may have another area or none
 may_have : (reference : Ref) (area : Option Area)
-    → MayBecome (piece.Ref reference) (option_map_or (λ own. piece.Ref (record reference { area = own })) area piece.Lost)
+    → MayBecome (piece.Ref reference)
+    (option_map_or (λ own. piece.Ref (record reference { area = own })) area piece.Lost)
 may_have reference None = tt
 may_have reference (Some area) = tt
 

@@ -1,13 +1,13 @@
 -- Operators between operands: reading a chain from the left is reading its first operand, and then
 -- reading on.
 use Rattle.std.proofs.Common.{◌≡◌, ◌≢◌, ◌<◌, List, ◌∷◌, ◌++◌, refl, sym, ap, ◌∙◌, subst, arith, append_assoc}
-use Rattle.formula_tokens.specs.declared.token.Operator.{Operator}
+use Rattle.formula_reader.specs.declared.tokens.token.Operator.{Operator}
 use Rattle.formula_reader.specs.declared.grammar.level.Level.{Level}
 use Rattle.formula_reader.specs.declared.symbols.Symbol.{Symbol}
 use Rattle.formula_reader.specs.declared.symbols.Symbol.TheVariants.{Operator as Sign}
 use Rattle.formula_reader.specs.Tree.{Expression, binary}
 use Rattle.formula_reader.specs.Grammar.{level_of, tighter, Has, alone, chain, minus, plus, a_number, a_text, a_truth, a_reference, a_lost, a_word, bare_call, a_call, bracket}
-use Rattle.formula_reader.specs.Front.{rank, Ends, Reads, ReadsOn, stops, goes_on}
+use Rattle.formula_reader.specs.LevelReading.{rank, Ends, Reads, ReadsOn, stops, goes_on}
 use Rattle.formula_reader.proofs.Levels.{tighter_rank, same_rank, ends_tighter}
 
 -- a first operand, and reading on behind it
@@ -58,7 +58,8 @@ rolled level t _ v rest (goes_on _ u _ op symbols more _ same r on) s h =
     (chain op s r.front t u) h r.has in
     let e : (s ++ Sign op ∷ r.front) ++ more ≡ s ++ Sign op ∷ symbols =
     append_assoc s (Sign op ∷ r.front) more ∙ ap (λ z. s ++ Sign op ∷ z) (sym r.whole) in
-    subst (λ (z : List Symbol). Reads level z v rest) e (rolled level (binary op t u) more v rest on (s ++ Sign op ∷ r.front) long)
+    subst (λ (z : List Symbol). Reads level z v rest) e
+    (rolled level (binary op t u) more v rest on (s ++ Sign op ∷ r.front) long)
 
 -- from a first operand on, what is read on is read
 pub unrolled_reads : (level : Level) (symbols : List Symbol) (v : Expression) (rest : List Symbol)
@@ -71,7 +72,8 @@ unrolled_reads level symbols v rest un =
 pub at_operator : (level : Level) (t : Expression) (behind : List Symbol) (v : Expression) (rest : List Symbol)
     → ReadsOn level t behind v rest → (op : Operator) (symbols : List Symbol) → behind ≡ Sign op ∷ symbols
     → level_of op ≡ level
-    → (u : Expression) × (more : List Symbol) × Reads (tighter level) symbols u more × ReadsOn level (binary op t u) more v rest
+    → (u : Expression) × (more : List Symbol) × Reads (tighter level) symbols u more × ReadsOn level
+    (binary op t u) more v rest
 at_operator level t behind v rest (stops _ _ ends) op symbols is same =
     let there : Ends level (Sign op ∷ symbols) = subst (λ (s : List Symbol). Ends level s) is ends in
     absurd (omega (arith, ap rank same, there))
@@ -98,6 +100,7 @@ pub ends_here : (level : Level) (symbols : List Symbol) → rank level < 4 → E
     → ((op : Operator) (rest : List Symbol) → symbols ≡ Sign op ∷ rest → level_of op ≢ level)
     → Ends level symbols
 ends_here level (Sign op ∷ rest) low ends no_operator =
-    let differ : rank (level_of op) ≢ rank level = λ same. no_operator op rest refl (same_rank (level_of op) level same) in
+    let differ : rank (level_of op) ≢ rank level = λ same. no_operator op rest refl
+    (same_rank (level_of op) level same) in
     omega (arith, tighter_rank level low, ends, differ)
 ends_here level _ low ends no_operator = tt

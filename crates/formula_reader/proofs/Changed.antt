@@ -9,6 +9,7 @@ use Rattle.formula_reader.specs.declared.symbols.Symbol.TheVariants as symbol
 use Rattle.formula_reader.specs.Symbols.{AreOfPiece, AreOfPieces, AreSymbolsOf}
 use Rattle.formula_reader.specs.ReadBack.{IsWellFormed, NoTextFirst, AreApart}
 use Rattle.formula_reader.specs.Changed.{MayBecome, StaysReadable}
+use Rattle.formula_reader.specs.Laws.{LimitsStay}
 use Rattle.formula_reader.proofs.Exchanged.{AreExchanged, all_stay, both_exchanged, exchanged_passed}
 use Rattle.formula_reader.proofs.TreeStays.{tree_stays}
 
@@ -89,6 +90,19 @@ stay_formed (first ∷ later) [] may formed = absurd may
 stay_formed (first ∷ later) (next ∷ others) may formed =
     All-cons IsWellFormed next others (piece_formed first next may.0 (All-head IsWellFormed first later formed))
     (stay_formed later others may.1 (All-tail IsWellFormed first later formed))
+
+pub limits_stay : LimitsStay
+limits_stay one other tree may is =
+    let found = formula_exchanged one.pieces other.pieces is.symbols may is.are in
+    let grown = tree_stays is.symbols tree is.has found.0 found.2 in (
+      grown.0,
+      record {
+        symbols = found.0;
+        are = found.1;
+        has = grown.1;
+        limits = exchanged_passed is.symbols found.0 found.2 is.limits;
+      },
+    )
 
 pub stays_readable : StaysReadable
 stays_readable before after here one other is may present =

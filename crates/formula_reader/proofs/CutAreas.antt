@@ -7,6 +7,8 @@ use Rattle.grid_range.specs.declared.band.Band.{Band}
 use Rattle.grid_range.specs.declared.band.Band.TheVariants.{Whole, From, Span}
 use Rattle.grid_range.specs.Band.{first_line, cut_band}
 use Rattle.grid_range.specs.Area.{cut_area}
+use Rattle.a1_notation.specs.declared.column.TheConstants.{NAMED_COLUMNS}
+use Rattle.a1_notation.specs.declared.row.TheConstants.{NUMBERED_ROWS}
 use Rattle.a1_notation.specs.Canonical.{IsStretch}
 use Rattle.formula_reader.specs.ReferenceText.{HasForm}
 use Rattle.formula_reader.specs.Pieces.{is_inside, clipped}
@@ -24,18 +26,23 @@ first_stays Whole count = refl
 first_stays (From start) count = refl
 first_stays (Span start end) count = refl
 
-stretch_cut : (start end most count : ℕ) → IsStretch (start, end) most → start < count → IsStretch (start, min end count) most
+stretch_cut : (start end most count : ℕ) → IsStretch (start, end) most → start < count
+    → IsStretch (start, min end count) most
 stretch_cut start end most count fits there = (omega (arith, fits.0), omega (arith, fits.1))
 
-form_cut : (rows cols : Band) (row_count col_count : ℕ) → HasForm rows cols → first_line rows < row_count → first_line cols < col_count
+form_cut : (rows cols : Band) (row_count col_count : ℕ) → HasForm rows cols → first_line rows < row_count
+    → first_line cols < col_count
     → HasForm (cut_band rows row_count) (cut_band cols col_count)
-form_cut (Span start end) (Span start' end') row_count col_count form row_there col_there =
-    (stretch_cut start end 9999999 row_count form.0 row_there, stretch_cut start' end' 18278 col_count form.1 col_there)
+form_cut (Span start end) (Span start' end') row_count col_count form row_there col_there = (
+  stretch_cut start end NUMBERED_ROWS row_count form.0 row_there,
+  stretch_cut start' end' NAMED_COLUMNS col_count form.1 col_there,
+)
 form_cut Whole (Span start end) row_count col_count form row_there col_there =
-    (tt, stretch_cut start end 18278 col_count form.1 col_there)
-form_cut (Span start end) Whole row_count col_count form row_there col_there = stretch_cut start end 9999999 row_count form row_there
+    (tt, stretch_cut start end NAMED_COLUMNS col_count form.1 col_there)
+form_cut (Span start end) Whole row_count col_count form row_there col_there =
+    stretch_cut start end NUMBERED_ROWS row_count form row_there
 form_cut (From row) (Span start end) row_count col_count form row_there col_there =
-    (form.0, stretch_cut start end 18278 col_count form.1 col_there)
+    (form.0, stretch_cut start end NAMED_COLUMNS col_count form.1 col_there)
 form_cut rows cols row_count col_count form row_there col_there = absurd form
 
 -- what an area of a sheet is cut to
@@ -51,10 +58,18 @@ cut_inside area size form inside =
     record {
       sheet = refl;
       form = form_cut area.rows area.cols size.0 size.1 form (ltb-true _ _ parts.0) (ltb-true _ _ parts.1);
-      again = rw (first_stays area.rows size.0, first_stays area.cols size.1, inside, band_again area.rows size.0, band_again area.cols size.1) refl;
+      again =
+          rw (
+            first_stays area.rows size.0,
+            first_stays area.cols size.1,
+            inside,
+            band_again area.rows size.0,
+            band_again area.cols size.1,
+          ) refl;
     }
 
-pub area_cut : (area : Area) (size : Option (ℕ × ℕ)) → HasForm area.rows area.cols → IfSome (clipped area size) (IsCutTo area size)
+pub area_cut : (area : Area) (size : Option (ℕ × ℕ)) → HasForm area.rows area.cols
+    → IfSome (clipped area size) (IsCutTo area size)
 area_cut area None form = tt
 area_cut area (Some size) form =
     elim (cases_Bool (is_inside area size.0 size.1)) [

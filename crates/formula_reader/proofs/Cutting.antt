@@ -1,28 +1,39 @@
 -- Cutting a formula text into its pieces.
-use Rattle.std.proofs.Common.{◌≡◌, ℕ, suc, ◌+◌, ◌≤◌, List, [], ◌∷◌, drop, Option, None, refl, sym, ap, ◌∙◌, arith, subst}
+use Rattle.std.proofs.Common.{◌≡◌, ℕ, suc, ◌+◌, ◌≤◌, List, [], ◌∷◌, Option, None, refl, sym, ◌∙◌, arith, subst}
 use Rattle.std.specs.Prelude.{All}
 use Rattle.std.specs.Str.{IsCharBoundary}
 use Rattle.std.proofs.lemmas.List.Elements.{All-head, All-tail}
-use Rattle.formula_tokens.specs.Boundaries.{HasBoundaries, HasCells}
-use Rattle.formula_tokens.specs.Tokens.{AreTokens}
+use Rattle.formula_reader.specs.Boundaries.{HasBoundaries, HasCells}
+use Rattle.formula_reader.specs.Tokens.{AreTokens}
 use Rattle.ref_rewrite.specs.declared.pieces.Piece.{Piece}
-use Rattle.formula_tokens.specs.declared.token.Placed.{Placed}
+use Rattle.formula_reader.specs.declared.tokens.token.Placed.{Placed}
 use Rattle.formula_reader.specs.Sheets.{Sheets}
 use Rattle.formula_reader.specs.Pieces.{piece_of, pieces_from}
 use Rattle.formula_reader.specs.Cuts.{Cuts}
 
-pub cuts_earlier : (text : List ℕ) (from later : ℕ) (tokens : List Placed) → from ≤ later → Cuts text later tokens → Cuts text from tokens
+pub cuts_earlier : (text : List ℕ) (from later : ℕ) (tokens : List Placed) → from ≤ later → Cuts text later tokens
+    → Cuts text from tokens
 cuts_earlier text from later [] less cuts = tt
-cuts_earlier text from later (placed ∷ rest) less cuts =
-    (record { after = omega (arith, less, cuts.0.after); ordered = cuts.0.ordered; front = cuts.0.front; back = cuts.0.back; cells = cuts.0.cells }, cuts.1)
+cuts_earlier text from later (placed ∷ rest) less cuts = (
+  record {
+    after = omega (arith, less, cuts.0.after);
+    ordered = cuts.0.ordered;
+    front = cuts.0.front;
+    back = cuts.0.back;
+    cells = cuts.0.cells;
+  },
+  cuts.1,
+)
 
 -- a token without a piece is skipped
-pub cuts_skipped : (text : List ℕ) (from : ℕ) (tokens rest : List Placed) (placed : Placed) → tokens ≡ placed ∷ rest → Cuts text from tokens → Cuts text from rest
+pub cuts_skipped : (text : List ℕ) (from : ℕ) (tokens rest : List Placed) (placed : Placed) → tokens ≡ placed ∷ rest
+    → Cuts text from tokens → Cuts text from rest
 cuts_skipped text from tokens rest placed is cuts =
     let first : Cuts text from (placed ∷ rest) = subst (Cuts text from) is cuts in
     cuts_earlier text from (placed.end + 1) rest (omega (arith, first.0.after, first.0.ordered)) first.1
 
-pub pieces_skipped : (sheets : Sheets) (here : ℕ) (text : List ℕ) (from : ℕ) (tokens rest : List Placed) (placed : Placed) (found : Option Piece)
+pub pieces_skipped : (sheets : Sheets) (here : ℕ) (text : List ℕ) (from : ℕ) (tokens rest : List Placed)
+    (placed : Placed) (found : Option Piece)
     → tokens ≡ placed ∷ rest → found ≡ piece_of sheets here placed.token → found ≡ None
     → pieces_from sheets here text from rest ≡ pieces_from sheets here text from tokens
 pieces_skipped sheets here text from tokens rest placed found is of none =
@@ -47,10 +58,7 @@ cuts_of rest from before (placed ∷ later) less are all cells =
         back = boundary_behind rest placed.end own.back;
         cells = All-head (λ p. HasCells p.token) placed later cells;
       },
-      cuts_of rest placed.end (placed.end + 1) later (omega arith) are.1 (All-tail (HasBoundaries rest) placed later all)
+      cuts_of rest placed.end (placed.end + 1) later (omega arith) are.1
+          (All-tail (HasBoundaries rest) placed later all)
           (All-tail (λ p. HasCells p.token) placed later cells),
     )
-
--- the other = of a text that begins with one
-pub behind_first : (text rest other : List ℕ) → text ≡ 61 ∷ rest → text ≡ 61 ∷ other → rest ≡ other
-behind_first text rest other is also = ap (drop 1) (sym is ∙ also)

@@ -89,7 +89,8 @@ kind_stands own other (inl same) = inl (ap kind_of_symbol same)
 kind_stands own other (inr (true, first, second)) = inl (first ∙ sym second)
 kind_stands own other (inr (false, first, second)) = inr (first, second)
 
-kinds_stand : (one other : List Symbol) → AreExchanged one other → StandFor (map kind_of_symbol one) (map kind_of_symbol other)
+kinds_stand : (one other : List Symbol) → AreExchanged one other
+    → StandFor (map kind_of_symbol one) (map kind_of_symbol other)
 kinds_stand [] [] are = tt
 kinds_stand [] (other ∷ others) are = absurd are
 kinds_stand (own ∷ later) [] are = absurd are
@@ -100,4 +101,5 @@ pub exchanged_passed : (one other : List Symbol) → AreExchanged one other → 
     → passed_by_symbols other ≡ None
 exchanged_passed one other are none =
     passed_symbols other
-    ∙ kinds_passed (map kind_of_symbol one) (map kind_of_symbol other) (kinds_stand one other are) (sym (passed_symbols one) ∙ none)
+    ∙ kinds_passed (map kind_of_symbol one) (map kind_of_symbol other) (kinds_stand one other are)
+    (sym (passed_symbols one) ∙ none)

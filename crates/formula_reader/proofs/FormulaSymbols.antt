@@ -12,7 +12,8 @@ use Rattle.formula_reader.specs.Symbols.{AreOfPiece, AreOfPieces, AreSymbolsOf, 
 
 -- one symbol more
 pub pushed : (front : List Symbol) (a : Symbol) (o : Option (List Symbol))
-    → option_map (λ later. (front ++ a ∷ []) ++ later) o ≡ option_map (λ later. front ++ later) (option_map (λ later. a ∷ later) o)
+    → option_map (λ later. (front ++ a ∷ []) ++ later) o ≡ option_map (λ later. front ++ later)
+    (option_map (λ later. a ∷ later) o)
 pushed front a None = refl
 pushed front a (Some later) = ap Some (append_assoc front (a ∷ []) later)
 
@@ -29,7 +30,8 @@ pub same_both : (P Q R : List Symbol → Type 0) → Same P Q → Same Q R → S
 same_both P Q R p q = record { to = λ all h. q.to all (p.to all h); from = λ all h. p.from all (q.from all h) }
 
 -- the only one of one is the only one of the other
-pub only_same : (P Q : List Symbol → Type 0) (answer : Option (List Symbol)) → Same P Q → IsOnly Q answer → IsOnly P answer
+pub only_same : (P Q : List Symbol → Type 0) (answer : Option (List Symbol)) → Same P Q → IsOnly Q answer
+    → IsOnly P answer
 only_same P Q None p nothing = λ all h. nothing all (p.to all h)
 only_same P Q (Some answer) p is = (p.from answer is.0, λ all h. is.1 all (p.to all h))
 
@@ -68,7 +70,8 @@ no_more symbols first pieces later whole nothing = λ all found.
     nothing parts.0 parts.2
 
 -- no piece is left
-pub all_read : (symbols : List Symbol) (pieces : List Piece) → pieces ≡ [] → IsOnly (AreBehind symbols pieces) (Some symbols)
+pub all_read : (symbols : List Symbol) (pieces : List Piece) → pieces ≡ []
+    → IsOnly (AreBehind symbols pieces) (Some symbols)
 all_read symbols pieces done = (
   ([], subst (λ (ps : List Piece). AreOfPieces ps []) (sym done) refl, sym (append-nil symbols)),
   λ all found.
@@ -83,7 +86,8 @@ only_same_ok P Q view (Ok b) p is = only_same P Q (view b) p is
 only_same_ok P Q view (Err e) p is = is
 
 -- a formula whose text begins with `=`
-pub behind_sign : (pieces later : List Piece) (first : Piece) (text behind : List ℕ) → pieces ≡ first ∷ later → first ≡ Text text
+pub behind_sign : (pieces later : List Piece) (first : Piece) (text behind : List ℕ) → pieces ≡ first ∷ later
+    → first ≡ Text text
     → text ≡ 61 ∷ behind → Same (AreSymbolsOf pieces) (AreOfPieces (Text behind ∷ later))
 behind_sign pieces later first text behind whole is_text begins =
     let all_of : pieces ≡ Text text ∷ later = whole ∙ ap (λ (p : Piece). p ∷ later) is_text in
@@ -106,11 +110,15 @@ no_sign pieces later first text whole is_text unsigned = λ all are.
 
 -- the only tree of the only symbols is the formula's
 pub only_tree : (formula : Formula) (symbols : List Symbol) (tree : Option Expression)
-    → IsOnly (AreSymbolsOf formula.pieces) (Some symbols) → IsOnly (HasTree symbols) tree → IsOnly (IsTreeOf formula) tree
+    → IsOnly (AreSymbolsOf formula.pieces) (Some symbols) → IsOnly (HasTree symbols) tree → IsOnly
+    (IsTreeOf formula) tree
 only_tree formula symbols None are nothing = λ t found.
     nothing t (subst (λ (s : List Symbol). HasTree s t) (are.1 found.0 found.1) found.2)
-only_tree formula symbols (Some tree) are is =
-    ((symbols, are.0, is.0), λ t found. is.1 t (subst (λ (s : List Symbol). HasTree s t) (are.1 found.0 found.1) found.2))
+only_tree formula symbols (Some tree) are is = (
+  (symbols, are.0, is.0),
+  λ t found. is.1 t (subst (λ (s : List Symbol). HasTree s t)
+      (are.1 found.0 found.1) found.2),
+)
 
 pub only_tree_ok : {B E : Type 0} (formula : Formula) (pieces : List Piece) (symbols read : List Symbol)
     (view : B → Option Expression) (result : Result B E) → pieces ≡ formula.pieces → read ≡ symbols

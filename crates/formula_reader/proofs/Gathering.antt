@@ -2,10 +2,10 @@
 use Rattle.std.proofs.Common.{◌≡◌, ℕ, ◌+◌, List, [], ◌∷◌, ◌++◌, length, refl, arith, append_assoc, append-nil}
 use Rattle.std.proofs.lemmas.List.{drop_at, length-append}
 use Rattle.ref_rewrite.specs.declared.pieces.Piece.{Piece}
-use Rattle.formula_tokens.specs.declared.token.Placed.{Placed}
-use Rattle.formula_tokens.specs.Tokens.{AreTokens}
-use Rattle.formula_tokens.proofs.Lexemes.{Item, gap, lexeme, spell, AreFit, placed}
-use Rattle.formula_tokens.proofs.Placing.{part_there, items_of}
+use Rattle.formula_reader.specs.declared.tokens.token.Placed.{Placed}
+use Rattle.formula_reader.specs.Tokens.{AreTokens}
+use Rattle.formula_reader.proofs.Lexemes.{Item, gap, lexeme, spell, AreFit, placed}
+use Rattle.formula_reader.proofs.Placing.{part_there, items_of}
 use Rattle.formula_reader.specs.Sheets.{Sheets}
 use Rattle.formula_reader.specs.Pieces.{piece_of, text_piece, with_piece, pieces_from}
 
@@ -32,12 +32,17 @@ pieces_gathered sheets here at front pending (lexeme own token ∷ later) place 
     let text = front ++ (pending ++ (own ++ spell later)) in
     let length_is : length (front ++ (pending ++ own)) ≡ at + length own + 1 =
     omega (arith, length-append front (pending ++ own), length-append pending own) in
-    let behind : pieces_from sheets here text (at + length own + 1) (placed (at + length own) later) ≡ gathered sheets here [] later =
+    let behind : pieces_from sheets here text (at + length own + 1)
+    (placed (at + length own) later) ≡ gathered sheets here [] later =
     rw (append_assoc front (pending ++ own) (spell later), append_assoc pending own (spell later), length_is)
     at (pieces_gathered sheets here (at + length own) (front ++ (pending ++ own)) [] later (omega arith)) in
-    let on : pieces_from sheets here text (length front) (placed (at + length own) later) ≡ gathered sheets here (pending ++ own) later =
+    let on : pieces_from sheets here text (length front) (placed (at + length own) later) ≡ gathered sheets here
+    (pending ++ own) later =
     rw (append_assoc pending own (spell later))
-    at (pieces_gathered sheets here (at + length own) front (pending ++ own) later (omega (arith, length-append pending own))) in
+    at (pieces_gathered sheets here (at + length own) front (pending ++ own) later (omega (
+      arith,
+      length-append pending own,
+    ))) in
     rw (part_there front pending (own ++ spell later) (at + 1) place, behind, on) refl
 
 -- and so have those of a formula text, which stand behind its =
@@ -46,7 +51,8 @@ pub read_gathered : (sheets : Sheets) (here : ℕ) (items : List Item)
 read_gathered sheets here items = pieces_gathered sheets here 0 [] (61 ∷ []) items refl
 
 -- so what holds of the pieces of the items of a text holds of those of its tokens
-pub gathered_has : (P : List ℕ → List Piece → Type 0) (sheets : Sheets) (here : ℕ) (behind : List ℕ) (tokens : List Placed)
+pub gathered_has : (P : List ℕ → List Piece → Type 0) (sheets : Sheets) (here : ℕ) (behind : List ℕ)
+    (tokens : List Placed)
     → ((items : List Item) → AreFit items → P (spell items) (gathered sheets here (61 ∷ []) items))
     → AreTokens behind 0 tokens → P behind (pieces_from sheets here (61 ∷ behind) 0 tokens)
 gathered_has P sheets here behind tokens has are =

@@ -1,13 +1,13 @@
 -- The order of the levels, and what no operator continues.
 use Rattle.std.proofs.Common.{◌≡◌, ℕ, zero, suc, ◌+◌, ◌<◌, ◌≤◌, List, ◌∷◌, refl, sym, ap, ◌∙◌, arith, lit<}
-use Rattle.formula_tokens.specs.declared.token.Operator.{Operator}
-use Rattle.formula_tokens.specs.declared.token.Operator.TheVariants.{Equal, NotEqual, Less, AtMost, Greater, AtLeast, Join as Joining, Add, Subtract, Multiply, Divide}
+use Rattle.formula_reader.specs.declared.tokens.token.Operator.{Operator}
+use Rattle.formula_reader.specs.declared.tokens.token.Operator.TheVariants.{Equal, NotEqual, Less, AtMost, Greater, AtLeast, Join as Joining, Add, Subtract, Multiply, Divide}
 use Rattle.formula_reader.specs.declared.grammar.level.Level.{Level}
 use Rattle.formula_reader.specs.declared.grammar.level.Level.TheVariants.{Comparison, Join, Sum, Term, Unary, Primary}
 use Rattle.formula_reader.specs.declared.symbols.Symbol.{Symbol}
 use Rattle.formula_reader.specs.declared.symbols.Symbol.TheVariants.{Operator as Sign}
 use Rattle.formula_reader.specs.Grammar.{level_of, tighter}
-use Rattle.formula_reader.specs.Front.{rank, Ends}
+use Rattle.formula_reader.specs.LevelReading.{rank, Ends}
 
 -- an operator is looser than a sign
 pub operator_rank : (op : Operator) → rank (level_of op) < 4

@@ -2,10 +2,11 @@
 use Rattle.std.proofs.Common.{◌≡◌, Bool, true, false, List, [], ◌∷◌, ◌++◌, map, refl}
 use Rattle.std.specs.Prelude.{Option, Some, None}
 use Rattle.std.proofs.lemmas.List.{map-append}
-use Rattle.formula_tokens.specs.declared.token.Operator.{Operator}
-use Rattle.formula_tokens.specs.declared.token.Operator.TheVariants.{Add, Subtract}
-use Rattle.formula_tokens.specs.declared.token.Token.{Token}
-use Rattle.formula_tokens.specs.declared.token.Token.TheVariants as token
+use Rattle.std.proofs.lemmas.Option.{none-some}
+use Rattle.formula_reader.specs.declared.tokens.token.Operator.{Operator}
+use Rattle.formula_reader.specs.declared.tokens.token.Operator.TheVariants.{Add, Subtract}
+use Rattle.formula_reader.specs.declared.tokens.token.Token.{Token}
+use Rattle.formula_reader.specs.declared.tokens.token.Token.TheVariants as token
 use Rattle.formula_reader.specs.declared.symbols.Symbol.{Symbol}
 use Rattle.formula_reader.specs.declared.symbols.Symbol.TheVariants as symbol
 use Rattle.formula_reader.specs.declared.grammar.level.Level.{Level}
@@ -86,8 +87,15 @@ abbrev pub Leads : State → List Kind → State → Type 0
 Leads a [] b = a ≡ b
 Leads a (kind ∷ later) b = (c : State) × (step a kind ≡ Some c) × Leads c later b
 
+-- an operand leads behind one
+pub leads_behind : (a b : State) (names : Bool) → step a (operand names) ≡ Some b → b ≡ behind_operand
+leads_behind before_operand b names goes = cc
+leads_behind behind_operand b names goes = absurd (none-some b goes)
+leads_behind behind_name b names goes = absurd (none-some b goes)
+
 -- one stretch of symbols behind another
-pub leads_on : (a : State) (one other : List Kind) (b c : State) → Leads a one b → Leads b other c → Leads a (one ++ other) c
+pub leads_on : (a : State) (one other : List Kind) (b c : State) → Leads a one b → Leads b other c
+    → Leads a (one ++ other) c
 leads_on a [] other b c first second = rw first second
 leads_on a (kind ∷ one) other b c first second = (first.0, first.1, leads_on first.0 one other b c first.2 second)
 
@@ -107,7 +115,8 @@ abbrev AreOperand : List Symbol → Type 0
 AreOperand symbols = Leads before_operand (kinds_of symbols) behind_operand
 
 -- an operand before a symbol that leads on from it
-before_next : (s z : List Symbol) (own : Symbol) (b c : State) → AreOperand s → step behind_operand (kind_of_symbol own) ≡ Some b
+before_next : (s z : List Symbol) (own : Symbol) (b c : State) → AreOperand s
+    → step behind_operand (kind_of_symbol own) ≡ Some b
     → Leads b (kinds_of z) c → Leads before_operand (kinds_of (s ++ own ∷ z)) c
 before_next s z own b c first goes later =
     rw (map-append kind_of_symbol s (own ∷ z))

@@ -6,7 +6,7 @@ use Rattle.formula_reader.specs.declared.symbols.Symbol.{Symbol}
 use Rattle.formula_reader.specs.declared.symbols.Symbol.TheVariants.{Number, Text, Truth, Ref, Lost, Word, Function, Operator as Sign, Open, Close, Comma}
 use Rattle.formula_reader.specs.Tree.{Expression, number, text, truth, reference, lost, word, call, Arguments}
 use Rattle.formula_reader.specs.Grammar.{Has, a_number, a_text, a_truth, a_reference, a_lost, a_word}
-use Rattle.formula_reader.specs.Front.{Reads, AfterOpen, IsAnswer, leaf, signs, negated}
+use Rattle.formula_reader.specs.LevelReading.{Reads, AfterOpen, IsAnswer, leaf, signs, negated}
 use Rattle.formula_reader.proofs.Signs.{reads_signed, signed_reads}
 use Rattle.formula_reader.proofs.Primaries.{AtPrimary, reads_primary, one_symbol, in_brackets, after_open_reads}
 
@@ -28,7 +28,8 @@ pub signed_none : (symbols operand : List Symbol) → operand ≡ (signs symbols
     → IsAnswer (Reads Primary operand) None → IsAnswer (Reads Unary symbols) None
 signed_none symbols operand behind nothing = λ v more r.
     let found = reads_signed symbols v more r in
-    nothing found.operand more (subst (λ (s : List Symbol). Reads Primary s found.operand more) (sym behind) found.reads)
+    nothing found.operand more
+    (subst (λ (s : List Symbol). Reads Primary s found.operand more) (sym behind) found.reads)
 
 -- a symbol that stands alone
 single : (a : Symbol) (t : Expression) (rest : List Symbol) → Has Primary (a ∷ []) t
@@ -47,7 +48,8 @@ pub leaf_answer : (a : Symbol) (rest : List Symbol) → a ≢ Open → ((name : 
 leaf_answer (Number n) rest no_bracket no_function = single (Number n) (number n) rest (a_number n) (λ u more at. at)
 leaf_answer (Text w) rest no_bracket no_function = single (Text w) (text w) rest (a_text w) (λ u more at. at)
 leaf_answer (Truth b) rest no_bracket no_function = single (Truth b) (truth b) rest (a_truth b) (λ u more at. at)
-leaf_answer (Ref area) rest no_bracket no_function = single (Ref area) (reference area) rest (a_reference area) (λ u more at. at)
+leaf_answer (Ref area) rest no_bracket no_function =
+    single (Ref area) (reference area) rest (a_reference area) (λ u more at. at)
 leaf_answer Lost rest no_bracket no_function = single Lost lost rest a_lost (λ u more at. at)
 leaf_answer (Word w) rest no_bracket no_function = single (Word w) (word w) rest (a_word w) (λ u more at. at)
 leaf_answer (Function name) rest no_bracket no_function = absurd (no_function name refl)

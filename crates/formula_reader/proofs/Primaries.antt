@@ -7,7 +7,7 @@ use Rattle.formula_reader.specs.declared.symbols.Symbol.{Symbol}
 use Rattle.formula_reader.specs.declared.symbols.Symbol.TheVariants.{Number, Text, Truth, Ref, Lost, Word, Function, Operator as Sign, Open, Close, Comma}
 use Rattle.formula_reader.specs.Tree.{Expression, number, text, truth, reference, lost, word, call, Arguments, no_arguments}
 use Rattle.formula_reader.specs.Grammar.{level_of, tighter, Has, alone, chain, minus, plus, a_number, a_text, a_truth, a_reference, a_lost, a_word, bare_call, a_call, bracket, Are, last, next}
-use Rattle.formula_reader.specs.Front.{rank, Reads, ReadsArguments, AfterOpen}
+use Rattle.formula_reader.specs.LevelReading.{rank, Reads, ReadsArguments, AfterOpen}
 use Rattle.formula_reader.proofs.Levels.{operator_rank, ends_signed}
 
 -- neither nothing nor a closing bracket
@@ -42,7 +42,8 @@ begins_arguments : (s : List Symbol) (ts : Arguments) → Are s ts → Begins s
 begins_arguments s _ (last _ t h) = begins Comparison s t h
 begins_arguments _ _ (next s z t ts h k) = begins_more s (Comma ∷ z) (begins Comparison s t h)
 
-after_open : (symbols : List Symbol) (ts : Arguments) (rest : List Symbol) → ReadsArguments symbols ts rest → Begins symbols → AfterOpen symbols ts rest
+after_open : (symbols : List Symbol) (ts : Arguments) (rest : List Symbol) → ReadsArguments symbols ts rest
+    → Begins symbols → AfterOpen symbols ts rest
 after_open [] ts rest r b = absurd b
 after_open (Close ∷ more) ts rest r b = absurd b
 after_open _ ts rest r b = r
@@ -84,16 +85,19 @@ at_primary level _ _ (a_call name s ts h) is rest =
 at_primary level _ _ (bracket s t h) is rest =
     record { front = s; whole = append_assoc s (Close ∷ []) rest; has = h; ends = tt }
 
-pub reads_primary : (symbols : List Symbol) (t : Expression) (rest : List Symbol) → Reads Primary symbols t rest → AtPrimary symbols t rest
+pub reads_primary : (symbols : List Symbol) (t : Expression) (rest : List Symbol) → Reads Primary symbols t rest
+    → AtPrimary symbols t rest
 reads_primary symbols t rest r =
     subst (λ (s : List Symbol). AtPrimary s t rest) (sym r.whole) (at_primary Primary r.front t r.has refl rest)
 
 -- one symbol
-pub one_symbol : (a : Symbol) (t : Expression) (rest : List Symbol) → Has Primary (a ∷ []) t → Reads Primary (a ∷ rest) t rest
+pub one_symbol : (a : Symbol) (t : Expression) (rest : List Symbol) → Has Primary (a ∷ []) t
+    → Reads Primary (a ∷ rest) t rest
 one_symbol a t rest h = record { front = a ∷ []; whole = refl; has = h; ends = ends_signed Primary rest (omega arith) }
 
 -- brackets round an expression
-pub in_brackets : (more : List Symbol) (t : Expression) (rest : List Symbol) → Reads Comparison more t (Close ∷ rest) → Reads Primary (Open ∷ more) t rest
+pub in_brackets : (more : List Symbol) (t : Expression) (rest : List Symbol) → Reads Comparison more t (Close ∷ rest)
+    → Reads Primary (Open ∷ more) t rest
 in_brackets more t rest r = record {
   front = Open ∷ r.front ++ Close ∷ [];
   whole = ap (λ (s : List Symbol). Open ∷ s) (r.whole ∙ sym (append_assoc r.front (Close ∷ []) rest));
@@ -102,7 +106,8 @@ in_brackets more t rest r = record {
 }
 
 -- a function without arguments, and one of arguments
-pub bare : (name : List ℕ) (rest : List Symbol) → Reads Primary (Function name ∷ Open ∷ Close ∷ rest) (call name no_arguments) rest
+pub bare : (name : List ℕ) (rest : List Symbol)
+    → Reads Primary (Function name ∷ Open ∷ Close ∷ rest) (call name no_arguments) rest
 bare name rest = record {
   front = Function name ∷ Open ∷ Close ∷ [];
   whole = refl;
@@ -110,7 +115,8 @@ bare name rest = record {
   ends = ends_signed Primary rest (omega arith);
 }
 
-pub of_arguments : (name : List ℕ) (more : List Symbol) (ts : Arguments) (rest : List Symbol) → ReadsArguments more ts rest
+pub of_arguments : (name : List ℕ) (more : List Symbol) (ts : Arguments) (rest : List Symbol)
+    → ReadsArguments more ts rest
     → Reads Primary (Function name ∷ Open ∷ more) (call name ts) rest
 of_arguments name more ts rest r = record {
   front = Function name ∷ Open ∷ r.front ++ Close ∷ [];
@@ -119,9 +125,11 @@ of_arguments name more ts rest r = record {
   ends = ends_signed Primary rest (omega arith);
 }
 
-pub after_open_reads : (name : List ℕ) (symbols : List Symbol) (ts : Arguments) (rest : List Symbol) → AfterOpen symbols ts rest
+pub after_open_reads : (name : List ℕ) (symbols : List Symbol) (ts : Arguments) (rest : List Symbol)
+    → AfterOpen symbols ts rest
     → Reads Primary (Function name ∷ Open ∷ symbols) (call name ts) rest
 after_open_reads name (Close ∷ more) ts rest found =
     subst (λ (us : Arguments). Reads Primary (Function name ∷ Open ∷ Close ∷ more) (call name us) rest) (sym found.0)
-    (subst (λ (s : List Symbol). Reads Primary (Function name ∷ Open ∷ Close ∷ s) (call name no_arguments) rest) found.1 (bare name rest))
+    (subst (λ (s : List Symbol). Reads Primary (Function name ∷ Open ∷ Close ∷ s)
+    (call name no_arguments) rest) found.1 (bare name rest))
 after_open_reads name symbols ts rest found = of_arguments name symbols ts rest found

@@ -1,12 +1,13 @@
 -- The text of a printed formula as the lexemes of its pieces.
+use Rattle.a1_notation.specs.Laws.{A1Laws}
 use Rattle.std.proofs.Common.{◌≡◌, false, true, Bool, ℕ, List, [], ◌∷◌, ◌++◌, map, refl, sym, ap, ◌∙◌, subst}
 use Rattle.std.specs.Prelude.{Some}
 use Rattle.std.specs.List.{All}
 use Rattle.std.proofs.lemmas.List.{map-append}
 use Rattle.std.proofs.lemmas.List.Elements.{All-head, All-tail}
-use Rattle.formula_tokens.specs.declared.token.Token.{Token}
-use Rattle.formula_tokens.specs.declared.token.Token.TheVariants as token
-use Rattle.formula_tokens.proofs.Lexemes.{Item, lexeme, IsLexeme}
+use Rattle.formula_reader.specs.declared.tokens.token.Token.{Token}
+use Rattle.formula_reader.specs.declared.tokens.token.Token.TheVariants as token
+use Rattle.formula_reader.proofs.Lexemes.{Item, lexeme, IsLexeme}
 use Rattle.ref_rewrite.specs.declared.pieces.Piece.{Piece}
 use Rattle.ref_rewrite.specs.declared.pieces.Piece.TheVariants as piece
 use Rattle.formula_reader.specs.declared.symbols.Symbol.{Symbol}
@@ -31,7 +32,8 @@ assembled pending (piece.Ref reference ∷ later) =
 assembled pending (piece.Lost ∷ later) = text_piece pending ++ piece.Lost ∷ assembled [] later
 
 -- the items spell the printed pieces, are of their symbols' kinds, and have the pieces again
-pub record Prints (sheets : Sheets) (here : ℕ) (pieces : List Piece) (symbols : List Symbol) (items : List Item) : Type 0 where
+pub record Prints (sheets : Sheets) (here : ℕ) (pieces : List Piece) (symbols : List Symbol)
+    (items : List Item) : Type 0 where
   pub of : AreOf (printed sheets pieces) (map kind_of_symbol symbols) items
   pub again : (pending : List ℕ) → gathered sheets here pending items ≡ assembled pending pieces
 
@@ -53,19 +55,23 @@ module _ (sheets : Sheets) (here : ℕ) (later : List Piece) (back : List Symbol
   behind_piece : (own : Piece) (t : Token) (front : List Symbol) (one : Symbol) (names : Bool) → front ≡ one ∷ []
       → IsLexeme t (printed_piece sheets own) → kind_of_token t ≡ operand names → kind_of_symbol one ≡ operand names
       → piece_of sheets here t ≡ Some (piece_as_printed own)
-      → ((pending : List ℕ) → assembled pending (own ∷ later) ≡ text_piece pending ++ piece_as_printed own ∷ assembled [] later)
+      → ((pending : List ℕ)
+      → assembled pending (own ∷ later) ≡ text_piece pending ++ piece_as_printed own ∷ assembled [] later)
       → (items : List Item) × Prints sheets here (own ∷ later) (front ++ back) items
   behind_piece own t front one names front_is is kind one_kind piece_is parts = (
     lexeme (printed_piece sheets own) t ∷ more,
     record {
-      of = rw (front_is, one_kind) (both_are _ _ _ _ _ more (operand_is (printed_piece sheets own) t names is kind) rest.of);
+      of =
+          rw (front_is, one_kind)
+          (both_are _ _ _ _ _ more (operand_is (printed_piece sheets own) t names is kind) rest.of);
       again = λ pending. rw (piece_is, parts pending, rest.again []) refl;
     },
   )
 
 -- a printed formula spells the lexemes of its pieces
-module _ (sheets : Sheets) (here : ℕ) where
-  pub items_printed : (pieces : List Piece) (symbols : List Symbol) → AreOfPieces pieces symbols → ArePrintable sheets pieces
+module _ (a1 : A1Laws) (sheets : Sheets) (here : ℕ) where
+  pub items_printed : (pieces : List Piece) (symbols : List Symbol) → AreOfPieces pieces symbols
+      → ArePrintable sheets pieces
       → All IsWellFormed pieces → All (IsPresent sheets here) pieces
       → (items : List Item) × Prints sheets here pieces symbols items
   items_printed [] symbols are printable formed present = (
@@ -90,11 +96,13 @@ module _ (sheets : Sheets) (here : ℕ) where
       with_first (piece.Text text) front back later more rest is printable formed present =
           behind_text sheets here later back more rest text front is
       with_first (piece.Word word) front back later more rest is printable formed present =
-          behind_piece sheets here later back more rest (piece.Word word) (token.Word word) front (symbol.Word word) true is
+          behind_piece sheets here later back more rest (piece.Word word) (token.Word word) front
+          (symbol.Word word) true is
           (refl, formed) refl refl refl (λ pending. refl)
       with_first (piece.Ref reference) front back later more rest is printable formed present =
-          let again = reference_again sheets here reference printable present in
-          behind_piece sheets here later back more rest (piece.Ref reference) again.0 front (symbol.Ref reference.area) true is
+          let again = reference_again a1 sheets here reference printable present in
+          behind_piece sheets here later back more rest (piece.Ref reference) again.0 front
+          (symbol.Ref reference.area) true is
           again.1.lexeme_is again.1.kind_is refl again.1.piece_is (λ pending. refl)
       with_first piece.Lost front back later more rest is printable formed present =
           behind_piece sheets here later back more rest piece.Lost token.Lost front symbol.Lost false is

@@ -32,8 +32,13 @@ reference_same rows cols marks =
     elim (cases_Bool (is_one_cell rows cols)) [
       | inl one ↦ rw (one, first_column_same cols marks.col1, first_row_same rows marks.row1) refl
       | inr both ↦
-          rw
-          (both, first_column_same cols marks.col1, first_row_same rows marks.row1, last_column_same cols marks.col2, last_row_same rows marks.row2)
+          rw (
+            both,
+            first_column_same cols marks.col1,
+            first_row_same rows marks.row1,
+            last_column_same cols marks.col2,
+            last_row_same rows marks.row2,
+          )
           refl
     ]
 
@@ -42,10 +47,12 @@ piece_same : (sheets : Sheets) (own : Piece) → printed_piece sheets (piece_as_
 piece_same sheets (piece.Text text) = refl
 piece_same sheets (piece.Word word) = refl
 piece_same sheets (piece.Ref reference) =
-    ap (λ own. title_before sheets reference ++ own) (reference_same reference.area.rows reference.area.cols reference.marks)
+    ap (λ own. title_before sheets reference ++ own)
+    (reference_same reference.area.rows reference.area.cols reference.marks)
 piece_same sheets piece.Lost = refl
 
-pieces_same : (sheets : Sheets) (pieces : List Piece) → printed sheets (map piece_as_printed pieces) ≡ printed sheets pieces
+pieces_same : (sheets : Sheets) (pieces : List Piece)
+    → printed sheets (map piece_as_printed pieces) ≡ printed sheets pieces
 pieces_same sheets [] = refl
 pieces_same sheets (own ∷ later) = rw (piece_same sheets own, pieces_same sheets later) refl
 

@@ -5,14 +5,14 @@ use Rattle.std.proofs.lemmas.Grind.{flat_map-append}
 use Rattle.std.proofs.lemmas.List.{map-append}
 use Rattle.std.proofs.lemmas.Option.{none-some}
 use Rattle.ref_rewrite.specs.declared.pieces.Piece.TheVariants as piece
-use Rattle.formula_tokens.specs.declared.token.Placed.{Placed}
-use Rattle.formula_tokens.specs.declared.token.Token.{Token}
-use Rattle.formula_tokens.specs.declared.token.Token.TheVariants as token
-use Rattle.formula_tokens.specs.Tokens.{FitsFirst, forms}
-use Rattle.formula_tokens.proofs.Starts.{begins-front}
-use Rattle.formula_tokens.proofs.Spelling.{IsNoWord, lexeme_of, bracket_behind}
-use Rattle.formula_tokens.proofs.Placing.{items_of}
-use Rattle.formula_tokens.proofs.Lexemes.{Item, gap, lexeme, spelled, spell, AreFit, placed, tokens_in, IsLexeme}
+use Rattle.formula_reader.specs.declared.tokens.token.Placed.{Placed}
+use Rattle.formula_reader.specs.declared.tokens.token.Token.{Token}
+use Rattle.formula_reader.specs.declared.tokens.token.Token.TheVariants as token
+use Rattle.formula_reader.specs.Tokens.{FitsFirst, forms}
+use Rattle.formula_reader.proofs.Starts.{begins-front}
+use Rattle.formula_reader.proofs.Spelling.{IsNoWord, lexeme_of, bracket_behind}
+use Rattle.formula_reader.proofs.Placing.{items_of}
+use Rattle.formula_reader.proofs.Lexemes.{Item, gap, lexeme, spelled, spell, AreFit, placed, tokens_in, IsLexeme}
 use Rattle.formula_reader.specs.declared.symbols.Symbol.{Symbol}
 use Rattle.formula_reader.specs.Sheets.{Sheets}
 use Rattle.formula_reader.specs.Pieces.{piece_of}
@@ -20,6 +20,7 @@ use Rattle.formula_reader.specs.Symbols.{symbol_of, symbols_of, AreOfPiece}
 use Rattle.formula_reader.proofs.Neighbours.{Kind, operand, naming, kind_of_token, kind_of_symbol}
 use Rattle.formula_reader.proofs.Apart.{OpensBehind, AreLexemes}
 use Rattle.formula_reader.proofs.Gathering.{gathered}
+use Rattle.formula_reader.proofs.SymbolSources.{AreFrom}
 
 -- the items are lexemes that spell the text, of tokens of these kinds
 pub record AreOf (text : List ℕ) (kinds : List Kind) (items : List Item) : Type 0 where
@@ -33,11 +34,12 @@ lexemes_both [] more one other = other
 lexemes_both (gap blanks ∷ later) more one other = (one.0, lexemes_both later more one.1 other)
 lexemes_both (lexeme own token ∷ later) more one other = (
   one.0,
-  λ name is. rw (flat_map-append spelled later more) (begins-front (λ byte. byte == 40) (spell later) (spell more) (one.1 name is)),
+  λ name is. rw (flat_map-append spelled later more) (begins-front (λ byte. byte == 40) (spell later) (spell more)
+      (one.1 name is)),
   lexemes_both later more one.2 other,
 )
 
-tokens_both : (items more : List Item) → tokens_in (items ++ more) ≡ tokens_in items ++ tokens_in more
+pub tokens_both : (items more : List Item) → tokens_in (items ++ more) ≡ tokens_in items ++ tokens_in more
 tokens_both [] more = refl
 tokens_both (gap blanks ∷ later) more = tokens_both later more
 tokens_both (lexeme own token ∷ later) more = ap (λ tokens. token ∷ tokens) (tokens_both later more)
@@ -72,12 +74,14 @@ record AreFirst (token : Token) (later : List Placed) (symbols : List Symbol) : 
   pub whole : symbols ≡ first ∷ others
 
 first_symbol : (token : Token) (later : List Placed) (symbols : List Symbol)
-    → option_and_then (λ first. option_map (λ others. first ∷ others) (symbols_of later)) (symbol_of token) ≡ Some symbols
+    → option_and_then (λ first. option_map (λ others. first ∷ others) (symbols_of later))
+    (symbol_of token) ≡ Some symbols
     → AreFirst token later symbols
 first_symbol token later symbols is = go (symbol_of token) (symbols_of later) refl refl is
   where
     go : (a : Option Symbol) (b : Option (List Symbol)) → symbol_of token ≡ a → symbols_of later ≡ b
-        → option_and_then (λ first. option_map (λ others. first ∷ others) b) a ≡ Some symbols → AreFirst token later symbols
+        → option_and_then
+        (λ first. option_map (λ others. first ∷ others) b) a ≡ Some symbols → AreFirst token later symbols
     go None b first later is = absurd (none-some symbols is)
     go (Some s) None first later is = absurd (none-some symbols is)
     go (Some s) (Some z) first later is =
@@ -117,19 +121,23 @@ opens_behind own token rest fits = λ name is.
 -- the items of a text without references, words and #REF!
 pub record AreOfText (text : List ℕ) (symbols : List Symbol) (items : List Item) : Type 0 where
   pub of : AreOf text (map kind_of_symbol symbols) items
+  pub from : AreFrom (tokens_in items) [] symbols
   pub pending_grows : (sheets : Sheets) (here : ℕ) (pending : List ℕ) (more : List Item)
       → gathered sheets here pending (items ++ more) ≡ gathered sheets here (pending ++ text) more
 
-items_of_text : (at : ℕ) (items : List Item) (symbols : List Symbol) → AreFit items → symbols_of (placed at items) ≡ Some symbols
+items_of_text : (at : ℕ) (items : List Item) (symbols : List Symbol) → AreFit items
+    → symbols_of (placed at items) ≡ Some symbols
     → AreOfText (spell items) symbols items
 items_of_text at [] symbols fit is = record {
   of = record { spells = refl; are = tt; kinds_are = let same : [] ≡ symbols = cc in ap (map kind_of_symbol) same };
+  from = let same : [] ≡ symbols = cc in (refl, sym same);
   pending_grows = λ sheets here pending more. ap (λ text. gathered sheets here text more) (sym (append-nil pending));
 }
 items_of_text at (gap blanks ∷ later) symbols fit is =
     let rest = items_of_text (at + length blanks) later symbols fit.1 is in
     record {
       of = record { spells = refl; are = (fit.0, rest.of.are); kinds_are = rest.of.kinds_are };
+      from = rest.from;
       pending_grows = λ sheets here pending more.
           rest.pending_grows sheets here (pending ++ blanks) more
           ∙ ap (λ text. gathered sheets here text more) (append_assoc pending blanks (spell later));
@@ -141,9 +149,14 @@ items_of_text at (lexeme own token ∷ later) symbols fit is =
     record {
       of = record {
         spells = refl;
-        are = (lexeme_of own token (spell later) it.no_word fit.0, opens_behind own token (spell later) fit.0, rest.of.are);
+        are = (
+          lexeme_of own token (spell later) it.no_word fit.0,
+          opens_behind own token (spell later) fit.0,
+          rest.of.are,
+        );
         kinds_are = rw (parts.whole, it.kind, rest.of.kinds_are) refl;
       };
+      from = (parts.first, [], parts.others, rw parts.first_is (refl, refl), rest.from, parts.whole);
       pending_grows = λ sheets here pending more.
           rw (it.no_piece sheets here)
           (rest.pending_grows sheets here (pending ++ own) more

@@ -1,6 +1,6 @@
 -- Symbols with a tree have one where operands are exchanged.
 use Rattle.std.proofs.Common.{◌≡◌, Bool, List, [], ◌∷◌, ◌++◌, refl, inl, inr}
-use Rattle.formula_tokens.specs.declared.token.Operator.TheVariants.{Add, Subtract}
+use Rattle.formula_reader.specs.declared.tokens.token.Operator.TheVariants.{Add, Subtract}
 use Rattle.formula_reader.specs.declared.grammar.level.Level.{Level}
 use Rattle.formula_reader.specs.declared.grammar.level.Level.TheVariants.{Primary, Unary}
 use Rattle.formula_reader.specs.declared.symbols.Symbol.{Symbol}
@@ -28,7 +28,8 @@ operand_alone (Word w) names is = (word w, a_word w)
 operand_alone _ names is = absurd cc
 
 -- so one in its place is one
-alone_stays : (own : Symbol) (t : Expression) → Has Primary (own ∷ []) t → (all : List Symbol) → AreExchanged (own ∷ []) all
+alone_stays : (own : Symbol) (t : Expression) → Has Primary (own ∷ []) t → (all : List Symbol)
+    → AreExchanged (own ∷ []) all
     → HasSome Primary all
 alone_stays own t has [] are = absurd are
 alone_stays own t has (other ∷ []) are =
@@ -37,7 +38,8 @@ alone_stays own t has (other ∷ more ∷ later) are = absurd are.1
 
 -- and all symbols of a level, and arguments, stay such
 mutual
-  operand_stays : (level : Level) (s : List Symbol) (t : Expression) → Has level s t → (all : List Symbol) → AreExchanged s all
+  operand_stays : (level : Level) (s : List Symbol) (t : Expression) → Has level s t → (all : List Symbol)
+      → AreExchanged s all
       → HasSome level all
   operand_stays level s t (alone _ _ _ h) all are =
       let own = operand_stays (tighter level) s t h all are in
@@ -78,7 +80,8 @@ mutual
       let own = operand_stays _ s t h closed.0 closed.2 in
       rw (opened.1, closed.1) (own.0, bracket closed.0 own.0 own.1)
 
-  arguments_stay : (s : List Symbol) (ts : Arguments) → Are s ts → (all : List Symbol) → AreExchanged s all → AreSome all
+  arguments_stay : (s : List Symbol) (ts : Arguments) → Are s ts → (all : List Symbol) → AreExchanged s all
+      → AreSome all
   arguments_stay s _ (last _ t h) all are =
       let own = operand_stays _ s t h all are in
       (argument own.0 no_arguments, last all own.0 own.1)

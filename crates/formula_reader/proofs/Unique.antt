@@ -1,14 +1,14 @@
 -- Symbols have at most one tree.
 use Rattle.std.proofs.Common.{◌≡◌, ℕ, zero, suc, ◌+◌, ◌-◌, ◌*◌, ◌<◌, ◌≤◌, length, List, [], ◌∷◌, ◌++◌, refl, sym, ap, ◌∙◌, subst, arith, append_assoc}
 use Rattle.std.specs.Prelude.{Some}
-use Rattle.formula_tokens.specs.declared.token.Operator.TheVariants.{Add, Subtract}
+use Rattle.formula_reader.specs.declared.tokens.token.Operator.TheVariants.{Add, Subtract}
 use Rattle.formula_reader.specs.declared.grammar.level.Level.{Level}
 use Rattle.formula_reader.specs.declared.grammar.level.Level.TheVariants.{Comparison, Join, Sum, Term, Unary, Primary}
 use Rattle.formula_reader.specs.declared.symbols.Symbol.{Symbol}
 use Rattle.formula_reader.specs.declared.symbols.Symbol.TheVariants.{Number, Text, Truth, Ref, Lost, Word, Function, Operator as Sign, Open, Close, Comma}
 use Rattle.formula_reader.specs.Tree.{Expression, binary, call, Arguments, argument}
 use Rattle.formula_reader.specs.Grammar.{tighter, HasTree, Are, last, next}
-use Rattle.formula_reader.specs.Front.{rank, Ends, Reads, ReadsOn, stops, goes_on, ReadsArguments, AfterOpen, signs, negated, IsAnswer}
+use Rattle.formula_reader.specs.LevelReading.{rank, Ends, Reads, ReadsOn, stops, goes_on, ReadsArguments, AfterOpen, signs, negated, IsAnswer}
 use Rattle.formula_reader.proofs.Answers.{left_within}
 use Rattle.formula_reader.proofs.Lists.{AtArgument, at_argument}
 use Rattle.formula_reader.proofs.Chains.{reads_unrolled, at_operator, at_end}
@@ -49,7 +49,8 @@ on_once level symbols once t v _ rest (goes_on _ u _ op inside more _ same r on)
     (subst (λ (e : Expression). ReadsOn level (binary op t e) more w end) (sym one.0)
     (subst (λ (s : List Symbol). ReadsOn level (binary op t found.0) s w end) (sym one.1) found.3))
 
-chain_once : (level : Level) (symbols : List Symbol) → rank level < 4 → Operands level symbols → AtMostOne (Reads level symbols)
+chain_once : (level : Level) (symbols : List Symbol) → rank level < 4 → Operands level symbols
+    → AtMostOne (Reads level symbols)
 chain_once level symbols low once = λ t u s z r q.
     let one = reads_unrolled level symbols t s low r in
     let other = reads_unrolled level symbols u z low q in
@@ -75,7 +76,8 @@ first_argument symbols ts rest r = go r.front ts r.are r.whole
 
 -- the arguments behind one of them, where those behind its comma are the only ones
 others_once : (t : Expression) (after : List Symbol)
-    → ((more : List Symbol) → length more < length after → AtMostOne (ReadsArguments more)) → AtMostOne (AtArgument t after)
+    → ((more : List Symbol) → length more < length after → AtMostOne (ReadsArguments more)) → AtMostOne
+    (AtArgument t after)
 others_once t (Comma ∷ more) once = λ ts us s z one other.
     let same = once more (omega arith) one.0 other.0 s z one.2 other.2 in
     (one.1 ∙ ap (argument t) same.0 ∙ sym other.1, same.1)
@@ -84,7 +86,8 @@ others_once t _ once = λ ts us s z one other. absurd one
 
 -- arguments, where each is the only one
 arguments_once : (n : ℕ) (symbols : List Symbol) → length symbols < n
-    → ((z : List Symbol) → length z ≤ length symbols → AtMostOne (Reads Comparison z)) → AtMostOne (ReadsArguments symbols)
+    → ((z : List Symbol) → length z ≤ length symbols → AtMostOne (Reads Comparison z)) → AtMostOne
+    (ReadsArguments symbols)
 arguments_once zero symbols short once = absurd (omega arith)
 arguments_once (suc n) symbols short once = λ ts us s z r q.
     let first = first_argument symbols ts s r in
@@ -95,16 +98,19 @@ arguments_once (suc n) symbols short once = λ ts us s z r q.
     (λ more lt. arguments_once n more (omega arith) (λ y le. once y (omega arith)))
     ts us s z (at_argument symbols first.0 first.1 is ts s r) (at_argument symbols first.0 first.1 is us z q)
 
-after_open_once : (symbols : List Symbol) → ((z : List Symbol) → length z ≤ length symbols → AtMostOne (Reads Comparison z))
+after_open_once : (symbols : List Symbol)
+    → ((z : List Symbol) → length z ≤ length symbols → AtMostOne (Reads Comparison z))
     → AtMostOne (AfterOpen symbols)
 after_open_once (Close ∷ more) once = λ ts us s z r q. (r.0 ∙ sym q.0, r.1 ∙ sym q.1)
 after_open_once [] once = arguments_once 1 [] (omega arith) once
 after_open_once symbols once = arguments_once (length symbols + 1) symbols (omega arith) once
 
 -- operands, where what is in their brackets is the only thing
-primary_once : (symbols : List Symbol) → ((z : List Symbol) → length z < length symbols → AtMostOne (Reads Comparison z))
+primary_once : (symbols : List Symbol)
+    → ((z : List Symbol) → length z < length symbols → AtMostOne (Reads Comparison z))
     → AtMostOne (Reads Primary symbols)
-primary_once symbols once = λ t u s z r q. go symbols once t u s z (reads_primary symbols t s r) (reads_primary symbols u z q)
+primary_once symbols once =
+    λ t u s z r q. go symbols once t u s z (reads_primary symbols t s r) (reads_primary symbols u z q)
   where
     go : (symbols : List Symbol) → ((z : List Symbol) → length z < length symbols → AtMostOne (Reads Comparison z))
         → AtMostOne (AtPrimary symbols)
@@ -129,9 +135,11 @@ signs_within (Sign Add ∷ rest) = omega (arith, signs_within rest)
 signs_within _ = omega arith
 
 -- what is read of a level is the only thing
-read_once : (n : ℕ) (level : Level) (symbols : List Symbol) → 6 * length symbols + (5 - rank level) < n → AtMostOne (Reads level symbols)
+read_once : (n : ℕ) (level : Level) (symbols : List Symbol) → 6 * length symbols + (5 - rank level) < n
+    → AtMostOne (Reads level symbols)
 read_once zero level symbols less = absurd (omega arith)
-read_once (suc n) Comparison symbols less = chain_once Comparison symbols (omega arith) (λ z le. read_once n Join z (omega arith))
+read_once (suc n) Comparison symbols less =
+    chain_once Comparison symbols (omega arith) (λ z le. read_once n Join z (omega arith))
 read_once (suc n) Join symbols less = chain_once Join symbols (omega arith) (λ z le. read_once n Sum z (omega arith))
 read_once (suc n) Sum symbols less = chain_once Sum symbols (omega arith) (λ z le. read_once n Term z (omega arith))
 read_once (suc n) Term symbols less = chain_once Term symbols (omega arith) (λ z le. read_once n Unary z (omega arith))
@@ -142,4 +150,5 @@ read_once (suc n) Primary symbols less = primary_once symbols (λ z lt. read_onc
 -- symbols have at most one tree
 pub one_tree : (symbols : List Symbol) (t u : Expression) → HasTree symbols t → HasTree symbols u → t ≡ u
 one_tree symbols t u h k =
-    (read_once (6 * length symbols + 6) Comparison symbols (omega arith) t u [] [] (tree_reads symbols t h) (tree_reads symbols u k)).0
+    (read_once (6 * length symbols + 6) Comparison symbols (omega arith) t u [] [] (tree_reads symbols t h)
+    (tree_reads symbols u k)).0

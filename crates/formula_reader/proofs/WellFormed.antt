@@ -6,14 +6,14 @@ use Rattle.std.proofs.lemmas.List.Elements.{All-nil, All-cons}
 use Rattle.ref_rewrite.specs.declared.pieces.Formula.{Formula}
 use Rattle.ref_rewrite.specs.declared.pieces.Piece.{Piece}
 use Rattle.ref_rewrite.specs.declared.pieces.Piece.TheVariants as piece
-use Rattle.formula_tokens.specs.declared.token.Placed.{Placed}
-use Rattle.formula_tokens.specs.declared.token.Token.{Token}
-use Rattle.formula_tokens.specs.declared.token.Token.TheVariants as token
-use Rattle.formula_tokens.specs.Run.{begins}
-use Rattle.formula_tokens.specs.Tokens.{FitsFirst, forms, AreTokens}
-use Rattle.formula_tokens.proofs.Lexemes.{Item, gap, lexeme, spell, AreFit, goes_on}
-use Rattle.formula_tokens.proofs.Spelling.{word_is}
-use Rattle.formula_tokens.proofs.WordsAgain.{word_alone}
+use Rattle.formula_reader.specs.declared.tokens.token.Placed.{Placed}
+use Rattle.formula_reader.specs.declared.tokens.token.Token.{Token}
+use Rattle.formula_reader.specs.declared.tokens.token.Token.TheVariants as token
+use Rattle.a1_notation.specs.Run.{begins}
+use Rattle.formula_reader.specs.Tokens.{FitsFirst, forms, AreTokens}
+use Rattle.formula_reader.proofs.Lexemes.{Item, gap, lexeme, spell, AreFit, goes_on}
+use Rattle.formula_reader.proofs.Spelling.{word_is}
+use Rattle.formula_reader.proofs.WordsAgain.{word_alone}
 use Rattle.formula_reader.specs.Sheets.{Sheets}
 use Rattle.formula_reader.specs.Pieces.{piece_of, text_piece, with_piece, pieces_from}
 use Rattle.formula_reader.specs.Symbols.{IsTreeOf}
@@ -41,7 +41,8 @@ IsRead rest piece.Lost = ⊤
 
 token_read : (sheets : Sheets) (here : ℕ) (own : List ℕ) (t : Token) (rest : List ℕ) → FitsFirst forms own t rest
     → IfSome (piece_of sheets here t) (IsRead rest)
-token_read sheets here own t rest fits = token_has (IsRead rest) (λ reference. tt) tt sheets here own t rest word_read fits
+token_read sheets here own t rest fits =
+    token_has (IsRead rest) (λ reference. tt) tt sheets here own t rest word_read fits
   where
     word_read : (word : List ℕ) → FitsFirst forms own (token.Word word) rest → IsRead rest (piece.Word word)
     word_read word fits = subst (λ text. FitsFirst forms text (token.Word word) rest) (word_is own word rest fits) fits
@@ -52,7 +53,8 @@ no_text_first rest _ later is = tt
 
 -- a piece before others
 before_others : (text : List ℕ) (first : Piece) (later : List Piece) → AreApart (first ∷ later) → IsWellFormed first
-    → All IsWellFormed later → (EndsOperand (first ∷ later) → begins goes_on text ≡ false) → AreFormed text (first ∷ later)
+    → All IsWellFormed later → (EndsOperand (first ∷ later) → begins goes_on text ≡ false) → AreFormed text
+    (first ∷ later)
 before_others text first later apart is each ends =
     record { formed = record { apart = apart; each = All-cons IsWellFormed first later is each }; ends = ends }
 
@@ -83,7 +85,8 @@ words_behind (b ∷ pending) later words = words.1
 -- a lexeme and the text before it, which go to a piece or on to the next one
 formed_with : (pending own rest : List ℕ) (found : Option Piece) (later on : List Piece) → IfSome found (IsRead rest)
     → (WordsEnd later → AreFormed rest later) → (WordsEnd on → AreFormed (pending ++ (own ++ rest)) on)
-    → WordsEnd (with_piece found pending later on) → AreFormed (pending ++ (own ++ rest)) (with_piece found pending later on)
+    → WordsEnd (with_piece found pending later on) → AreFormed (pending ++ (own ++ rest))
+    (with_piece found pending later on)
 formed_with pending own rest None later on is formed formed_on words = formed_on words
 formed_with pending own rest (Some first) later on is formed formed_on words =
     let end = words_behind pending (first ∷ later) words in
@@ -96,9 +99,11 @@ none_formed = record { formed = record { apart = tt; each = All-nil IsWellFormed
 
 module _ (sheets : Sheets) (here : ℕ) where
   -- the pieces of items are well formed where each word ends
-  gathered_formed : (pending : List ℕ) (items : List Item) → AreFit items → WordsEnd (gathered sheets here pending items)
+  gathered_formed : (pending : List ℕ) (items : List Item) → AreFit items
+      → WordsEnd (gathered sheets here pending items)
       → AreFormed (pending ++ spell items) (gathered sheets here pending items)
-  gathered_formed pending [] fit words = rw (append-nil (text_piece pending)) at (formed_kept pending [] [] tt none_formed)
+  gathered_formed pending [] fit words =
+      rw (append-nil (text_piece pending)) at (formed_kept pending [] [] tt none_formed)
   gathered_formed pending (gap blanks ∷ later) fit words =
       rw (append_assoc pending blanks (spell later)) at (gathered_formed (pending ++ blanks) later fit.1 words)
   gathered_formed pending (lexeme own token ∷ later) fit words =
@@ -109,7 +114,8 @@ module _ (sheets : Sheets) (here : ℕ) where
       words
 
   -- so they are where the formula has a tree
-  items_formed : (items : List Item) → AreFit items → IsFormed (record { pieces = gathered sheets here (61 ∷ []) items })
+  items_formed : (items : List Item) → AreFit items → IsFormed
+      (record { pieces = gathered sheets here (61 ∷ []) items })
   items_formed items fit tree is =
       let pieces = gathered sheets here (61 ∷ []) items in
       (gathered_formed (61 ∷ []) items fit (tree_words_end pieces is.0 tree is.1 is.2)).formed

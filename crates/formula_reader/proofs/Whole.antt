@@ -9,7 +9,7 @@ use Rattle.formula_reader.specs.declared.tree.Tree.{Tree}
 use Rattle.formula_reader.specs.Tree.{Expression, expression_of}
 use Rattle.formula_reader.specs.Grammar.{HasTree}
 use Rattle.formula_reader.specs.Only.{IsOnly}
-use Rattle.formula_reader.specs.Front.{Reads, IsAnswer}
+use Rattle.formula_reader.specs.LevelReading.{Reads, IsAnswer}
 
 -- a tree of the symbols is read from them with nothing behind it
 pub tree_reads : (symbols : List Symbol) (t : Expression) → HasTree symbols t → Reads Comparison symbols t []

@@ -3,8 +3,8 @@ use Rattle.std.proofs.Common.{◌≡◌, true, Bool, ℕ, false, List, [], ◌�
 use Rattle.std.specs.Prelude.{⊤, Some}
 use Rattle.std.proofs.lemmas.List.{map-append}
 use Rattle.std.proofs.lemmas.Option.{none-some}
-use Rattle.formula_tokens.specs.Run.{begins}
-use Rattle.formula_tokens.proofs.Lexemes.{goes_on}
+use Rattle.a1_notation.specs.Run.{begins}
+use Rattle.formula_reader.proofs.Lexemes.{goes_on}
 use Rattle.ref_rewrite.specs.declared.pieces.Piece.{Piece}
 use Rattle.ref_rewrite.specs.declared.pieces.Piece.TheVariants as piece
 use Rattle.formula_reader.specs.declared.symbols.Symbol.{Symbol}
@@ -12,7 +12,7 @@ use Rattle.formula_reader.specs.declared.symbols.Symbol.TheVariants as symbol
 use Rattle.formula_reader.specs.Symbols.{AreOfPiece, AreOfPieces, AreSymbolsOf}
 use Rattle.formula_reader.specs.Tree.{Expression}
 use Rattle.formula_reader.specs.Grammar.{HasTree}
-use Rattle.formula_reader.proofs.Neighbours.{operand, kind_of_symbol, State, before_operand, behind_operand, behind_name, step, Leads, leads_apart, tree_leads}
+use Rattle.formula_reader.proofs.Neighbours.{operand, kind_of_symbol, State, before_operand, behind_operand, step, Leads, leads_behind, leads_apart, tree_leads}
 use Rattle.formula_reader.proofs.Apart.{items_stand}
 use Rattle.formula_reader.proofs.TextItems.{text_items}
 
@@ -62,22 +62,20 @@ first_leads a first later b all =
     }
 
 -- a piece of one operand is one step
-operand_steps : (a b : State) (front : List Symbol) (own : Symbol) (names : Bool) → front ≡ own ∷ [] → kind_of_symbol own ≡ operand names
+operand_steps : (a b : State) (front : List Symbol) (own : Symbol) (names : Bool) → front ≡ own ∷ []
+    → kind_of_symbol own ≡ operand names
     → Leads a (map kind_of_symbol front) b → step a (operand names) ≡ Some b
 operand_steps a b front own names is kind leads =
     let one : Leads a (kind_of_symbol own ∷ []) b = rw is at leads in
     let goes : step a (operand names) ≡ Some one.0 = rw kind at one.1 in
     goes ∙ ap (λ c. Some c) one.2
 
--- an operand leads behind one, and none stands there
-leads_behind : (a b : State) (names : Bool) → step a (operand names) ≡ Some b → b ≡ behind_operand
-leads_behind before_operand b names goes = cc
-leads_behind behind_operand b names goes = absurd (none-some b goes)
-leads_behind behind_name b names goes = absurd (none-some b goes)
-
-no_operand_behind : (b : State) (front : List Symbol) (own : Symbol) (names : Bool) → front ≡ own ∷ [] → kind_of_symbol own ≡ operand names
+-- no operand stands behind one
+no_operand_behind : (b : State) (front : List Symbol) (own : Symbol) (names : Bool) → front ≡ own ∷ []
+    → kind_of_symbol own ≡ operand names
     → Leads behind_operand (map kind_of_symbol front) b → ⊥
-no_operand_behind b front own names is kind leads = none-some b (operand_steps behind_operand b front own names is kind leads)
+no_operand_behind b front own names is kind leads =
+    none-some b (operand_steps behind_operand b front own names is kind leads)
 
 -- a text behind an operand ends it
 text_ends : (text : List ℕ) (front : List Symbol) (b : State) → AreOfPiece (piece.Text text) front
@@ -85,7 +83,8 @@ text_ends : (text : List ℕ) (front : List Symbol) (b : State) → AreOfPiece (
 text_ends text front b is leads =
     let own = text_items text front is in
     rw own.1.of.spells
-    at (items_stand own.0 behind_operand b own.1.of.are (subst (λ kinds. Leads behind_operand kinds b) (sym own.1.of.kinds_are) leads))
+    at (items_stand own.0 behind_operand b own.1.of.are (subst (λ kinds. Leads behind_operand kinds b)
+    (sym own.1.of.kinds_are) leads))
 
 -- no other piece stands there
 operand_ends : (pieces : List Piece) (b : State) → PiecesLead behind_operand pieces b → EndsOperand pieces
@@ -94,7 +93,8 @@ operand_ends (first ∷ later) b lead = ends first (first_leads behind_operand f
   where
     ends : (first : Piece) → FirstLeads behind_operand first later b → EndsOperand (first ∷ later)
     ends (piece.Text text) lead = text_ends text lead.front lead.state lead.is lead.leads
-    ends (piece.Word word) lead = no_operand_behind lead.state lead.front (symbol.Word word) true lead.is refl lead.leads
+    ends (piece.Word word) lead =
+        no_operand_behind lead.state lead.front (symbol.Word word) true lead.is refl lead.leads
     ends (piece.Ref reference) lead =
         no_operand_behind lead.state lead.front (symbol.Ref reference.area) true lead.is refl lead.leads
     ends piece.Lost lead = no_operand_behind lead.state lead.front symbol.Lost false lead.is refl lead.leads
@@ -104,7 +104,8 @@ word_ends : (a : State) (first : Piece) (later : List Piece) (b : State) → Fir
     → EndsBefore first later
 word_ends a (piece.Word word) later b lead =
     let behind : lead.state ≡ behind_operand =
-    leads_behind a lead.state true (operand_steps a lead.state lead.front (symbol.Word word) true lead.is refl lead.leads) in
+    leads_behind a lead.state true
+    (operand_steps a lead.state lead.front (symbol.Word word) true lead.is refl lead.leads) in
     operand_ends later b (subst (λ c. PiecesLead c later b) behind lead.rest)
 word_ends a _ later b lead = tt
 

@@ -1,20 +1,20 @@
 -- What stands in a formula's text for its pieces.
-use Rattle.std.specs.Prelude.{◌≡◌, ℕ, List, [], ◌∷◌, ◌++◌, ◌⊎◌}
+use Rattle.std.specs.Prelude.{◌≡◌, ℕ, List, [], ◌∷◌, ◌++◌, ◌⊎◌, codes}
 use Rattle.ref_rewrite.specs.declared.pieces.Piece.{Piece}
 use Rattle.ref_rewrite.specs.declared.pieces.Piece.TheVariants as piece
-use Rattle.formula_tokens.specs.declared.token.Token.TheVariants as token
-use Rattle.formula_tokens.specs.declared.token.Written.{Written}
-use Rattle.formula_tokens.specs.Tokens.{FitsFirst, forms}
+use Rattle.formula_reader.specs.declared.tokens.token.Token.TheVariants as token
+use Rattle.formula_reader.specs.declared.tokens.token.MarkedArea.{MarkedArea}
+use Rattle.formula_reader.specs.Tokens.{FitsFirst, forms}
 
 -- a text alone is a reference, to the formula's own sheet or behind a title
 abbrev pub IsReferenceText : List ℕ → Type 0
 IsReferenceText own =
-    ((written : Written) × FitsFirst forms own (token.Reference written) [])
-    ⊎ ((title : List ℕ) × (written : Written) × FitsFirst forms own (token.Elsewhere title written) [])
+    ((written : MarkedArea) × FitsFirst forms own (token.Reference written) [])
+    ⊎ ((title : List ℕ) × (written : MarkedArea) × FitsFirst forms own (token.Elsewhere title written) [])
 
 -- what stands for a lost reference: such a text, or #REF!
 abbrev pub IsLostText : List ℕ → Type 0
-IsLostText own = IsReferenceText own ⊎ (own ≡ 35 ∷ 82 ∷ 69 ∷ 70 ∷ 33 ∷ [])
+IsLostText own = IsReferenceText own ⊎ (own ≡ codes "#REF!")
 
 -- the text has these pieces, one behind another: texts and words as they are, and a reference's text
 -- for a reference

@@ -1,8 +1,8 @@
 -- Where a formula text is cut into its pieces.
 use Rattle.std.specs.Prelude.{ℕ, ⊤, ◌+◌, ◌≤◌, List, [], ◌∷◌}
 use Rattle.std.specs.Str.{IsCharBoundary}
-use Rattle.formula_tokens.specs.declared.token.Placed.{Placed}
-use Rattle.formula_tokens.specs.Boundaries.{HasCells}
+use Rattle.formula_reader.specs.declared.tokens.token.Placed.{Placed}
+use Rattle.formula_reader.specs.Boundaries.{HasCells}
 
 -- the text can be cut before and behind the token, which stands at `from` or later
 pub record IsCut (text : List ℕ) (from : ℕ) (placed : Placed) : Type 0 where

@@ -11,8 +11,8 @@
 --                | function "(" [ comparison { "," comparison } ] ")" | "(" comparison ")"
 use Rattle.std.specs.Prelude.{ℕ, ℤ, Bool, List, [], ◌∷◌, ◌++◌}
 use Rattle.grid_range.specs.declared.area.Area.{Area}
-use Rattle.formula_tokens.specs.declared.token.Operator.{Operator}
-use Rattle.formula_tokens.specs.declared.token.Operator.TheVariants.{Equal, NotEqual, Less, AtMost, Greater, AtLeast, Join as Joining, Add, Subtract, Multiply, Divide}
+use Rattle.formula_reader.specs.declared.tokens.token.Operator.{Operator}
+use Rattle.formula_reader.specs.declared.tokens.token.Operator.TheVariants.{Equal, NotEqual, Less, AtMost, Greater, AtLeast, Join as Joining, Add, Subtract, Multiply, Divide}
 use Rattle.formula_reader.specs.declared.grammar.level.Level.{Level}
 use Rattle.formula_reader.specs.declared.grammar.level.Level.TheVariants.{Comparison, Join, Sum, Term, Unary, Primary}
 use Rattle.formula_reader.specs.declared.symbols.Symbol.{Symbol}

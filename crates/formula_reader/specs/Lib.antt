@@ -1,3 +1,10 @@
+pub mod Corner
+pub mod Reference
+pub mod Form
+pub mod Tokens
+pub mod Parts
+pub mod Reading
+pub mod Boundaries
 pub mod Sheets
 pub mod ReferenceText
 pub mod Printed
@@ -9,7 +16,8 @@ pub mod Tree
 pub mod Grammar
 pub mod Symbols
 pub mod Only
-pub mod Front
+pub mod LevelReading
 pub mod Bytes
 pub mod ReadBack
 pub mod Changed
+pub mod Laws

@@ -6,13 +6,13 @@ use Rattle.grid_range.specs.Area.{cut_area}
 use Rattle.ref_rewrite.specs.declared.pieces.Formula.{Formula}
 use Rattle.ref_rewrite.specs.declared.pieces.Piece.{Piece}
 use Rattle.ref_rewrite.specs.declared.pieces.Piece.TheVariants as piece
-use Rattle.formula_tokens.specs.declared.token.Written.{Written}
-use Rattle.formula_tokens.specs.declared.token.Token.{Token}
-use Rattle.formula_tokens.specs.declared.token.Token.TheVariants.{Reference, Elsewhere, Function, Word, Truth, Number, Text, Lost, Operator, Open, Close, Comma}
-use Rattle.formula_tokens.specs.declared.token.Placed.{Placed}
-use Rattle.formula_tokens.specs.Tokens.{AreTokens}
+use Rattle.formula_reader.specs.declared.tokens.token.MarkedArea.{MarkedArea}
+use Rattle.formula_reader.specs.declared.tokens.token.Token.{Token}
+use Rattle.formula_reader.specs.declared.tokens.token.Token.TheVariants.{Reference, Elsewhere, Function, Word, Truth, Number, Text, Lost, Operator, Open, Close, Comma}
+use Rattle.formula_reader.specs.declared.tokens.token.Placed.{Placed}
+use Rattle.formula_reader.specs.Tokens.{AreTokens}
 use Rattle.formula_reader.specs.declared.fault.FormulaFault.{FormulaFault}
-use Rattle.formula_reader.specs.Sheets.{Sheets}
+use Rattle.formula_reader.specs.Sheets.{Sheets, sheet_named}
 use Rattle.formula_reader.specs.Limits.{passed}
 
 -- a sheet of that size has the area's first row and column
@@ -24,25 +24,25 @@ abbrev pub clipped : Area → Option (ℕ × ℕ) → Option Area
 clipped area None = None
 clipped area (Some size) = if is_inside area size.0 size.1 then Some (cut_area area size.0 size.1) else None
 
-abbrev pub area_on : Sheets → ℕ → Written → Option Area
+abbrev pub area_on : Sheets → ℕ → MarkedArea → Option Area
 area_on sheets sheet written =
     clipped (record { sheet = sheet; rows = written.rows; cols = written.cols }) (sheets.size sheet)
 
 -- a reference to an area, or a lost one where there is none
-abbrev pub reference_to : Bool → Written → Option Area → Piece
+abbrev pub reference_to : Bool → MarkedArea → Option Area → Piece
 reference_to named written (Some area) =
     piece.Ref (record { named = named; area = area; marks = written.marks })
 reference_to named written None = piece.Lost
 
 -- a reference behind its sheet's title; it is lost where no sheet has the title
-abbrev pub elsewhere : Sheets → Written → Option ℕ → Piece
+abbrev pub elsewhere : Sheets → MarkedArea → Option ℕ → Piece
 elsewhere sheets written (Some sheet) = reference_to true written (area_on sheets sheet written)
 elsewhere sheets written None = piece.Lost
 
 -- the piece of a token in a formula of the sheet `here`; None for a token that is part of a text
 abbrev pub piece_of : Sheets → ℕ → Token → Option Piece
 piece_of sheets here (Reference written) = Some (reference_to false written (area_on sheets here written))
-piece_of sheets here (Elsewhere title written) = Some (elsewhere sheets written (sheets.named title))
+piece_of sheets here (Elsewhere title written) = Some (elsewhere sheets written (sheet_named sheets title))
 piece_of sheets here (Function name) = None
 piece_of sheets here (Word word) = Some (piece.Word word)
 piece_of sheets here (Truth truth) = None

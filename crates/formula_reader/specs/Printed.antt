@@ -1,5 +1,5 @@
 -- The text of a formula (the `formulaValue` of the Google Sheets API v4).
-use Rattle.std.specs.Prelude.{ℕ, ⊤, List, [], ◌∷◌, ◌++◌, Option, Some, None, if◌then◌else◌}
+use Rattle.std.specs.Prelude.{ℕ, ⊤, List, [], ◌∷◌, ◌++◌, Option, Some, None, if◌then◌else◌, codes}
 use Rattle.std.specs.List.{All, flat_map}
 use Rattle.ref_rewrite.specs.declared.reference.Ref.{Ref}
 use Rattle.ref_rewrite.specs.declared.pieces.Piece.{Piece}
@@ -25,7 +25,7 @@ printed_piece sheets (piece.Word word) = word
 printed_piece sheets (piece.Ref reference) =
     title_before sheets reference
     ++ reference_text reference.area.rows reference.area.cols reference.marks
-printed_piece sheets piece.Lost = 35 ∷ 82 ∷ 69 ∷ 70 ∷ 33 ∷ []
+printed_piece sheets piece.Lost = codes "#REF!"
 
 -- the text of the pieces, one behind another
 abbrev pub printed : Sheets → List Piece → List ℕ

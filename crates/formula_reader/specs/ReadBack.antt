@@ -8,10 +8,10 @@ use Rattle.ref_rewrite.specs.declared.reference.Ref.{Ref}
 use Rattle.ref_rewrite.specs.declared.pieces.Formula.{Formula}
 use Rattle.ref_rewrite.specs.declared.pieces.Piece.{Piece}
 use Rattle.ref_rewrite.specs.declared.pieces.Piece.TheVariants as piece
-use Rattle.formula_tokens.specs.declared.token.Token.TheVariants as token
-use Rattle.formula_tokens.specs.declared.token.Placed.{Placed}
-use Rattle.formula_tokens.specs.Tokens.{FitsFirst, forms}
-use Rattle.formula_reader.specs.Sheets.{Sheets, HasTitle}
+use Rattle.formula_reader.specs.declared.tokens.token.Token.TheVariants as token
+use Rattle.formula_reader.specs.declared.tokens.token.Placed.{Placed}
+use Rattle.formula_reader.specs.Tokens.{FitsFirst, forms}
+use Rattle.formula_reader.specs.Sheets.{Sheets, HasTitle, sheet_named}
 use Rattle.formula_reader.specs.ReferenceText.{is_one_cell}
 use Rattle.formula_reader.specs.Limits.{passed_by_symbols}
 use Rattle.formula_reader.specs.Pieces.{clipped, AreTokensOf, formula_of}
@@ -80,12 +80,12 @@ pub record AreWellFormed (pieces : List Piece) : Type 0 where
 -- a sheet has a title, which names it
 pub record IsKnown (sheets : Sheets) (sheet : ℕ) : Type 0 where
   pub titled : HasTitle sheets sheet
-  pub names : sheets.named titled.title ≡ Some sheet
+  pub names : sheet_named sheets titled.title ≡ Some sheet
 
 -- the sheet `here` has a title, and each sheet that a title names has one that names it
 pub record AreKnown (sheets : Sheets) (here : ℕ) : Type 0 where
   pub own : HasTitle sheets here
-  pub others : (title : List ℕ) (sheet : ℕ) → sheets.named title ≡ Some sheet → IsKnown sheets sheet
+  pub others : (title : List ℕ) (sheet : ℕ) → sheet_named sheets title ≡ Some sheet → IsKnown sheets sheet
 
 -- the sheet of a reference in a formula of the sheet `here`: one that its title names, if it is written
 -- with one

@@ -1,16 +1,20 @@
 -- The symbols of a formula, and its tree.
-use Rattle.std.specs.Prelude.{◌≡◌, ℕ, List, [], ◌∷◌, ◌++◌, Option, Some, None, option_map, option_and_then}
-use Rattle.formula_tokens.specs.declared.token.Placed.{Placed}
-use Rattle.formula_tokens.specs.declared.token.Token.{Token}
-use Rattle.formula_tokens.specs.declared.token.Token.TheVariants as token
-use Rattle.formula_tokens.specs.Tokens.{AreTokens}
+use Rattle.std.specs.Prelude.{◌≡◌, ℕ, List, [], ◌∷◌, ◌++◌, Option, Some, None, option_map, option_and_then, map}
+use Rattle.formula_reader.specs.declared.tokens.token.Placed.{Placed}
+use Rattle.formula_reader.specs.declared.tokens.token.Token.{Token}
+use Rattle.formula_reader.specs.declared.tokens.token.Token.TheVariants as token
+use Rattle.formula_reader.specs.Tokens.{AreTokens}
 use Rattle.ref_rewrite.specs.declared.pieces.Formula.{Formula}
 use Rattle.ref_rewrite.specs.declared.pieces.Piece.{Piece}
 use Rattle.ref_rewrite.specs.declared.pieces.Piece.TheVariants as piece
 use Rattle.formula_reader.specs.declared.symbols.Symbol.{Symbol}
 use Rattle.formula_reader.specs.declared.symbols.Symbol.TheVariants as symbol
+use Rattle.grid_range.specs.declared.area.Area.{Area}
+use Rattle.formula_reader.specs.Pieces.{area_on}
+use Rattle.formula_reader.specs.Sheets.{Sheets, sheet_named}
 use Rattle.formula_reader.specs.Tree.{Expression}
 use Rattle.formula_reader.specs.Grammar.{HasTree}
+use Rattle.formula_reader.specs.Limits.{passed_by_symbols}
 
 -- the symbol of a token; references, words and #REF! are pieces of their own
 abbrev pub symbol_of : Token → Option Symbol
@@ -33,9 +37,35 @@ symbols_of [] = Some []
 symbols_of (placed ∷ later) =
     option_and_then (λ first. option_map (λ others. first ∷ others) (symbols_of later)) (symbol_of placed.token)
 
+-- the symbol of a reference to these cells, or of a lost one
+abbrev pub cells_or_lost : Option Area → Symbol
+cells_or_lost (Some area) = symbol.Ref area
+cells_or_lost None = symbol.Lost
+
+-- the symbol of a token that is read in a formula of the sheet `here`: a reference is the cells that it names
+-- there, or it is lost
+abbrev pub symbol_read : Sheets → ℕ → Token → Symbol
+symbol_read sheets here (token.Reference written) = cells_or_lost (area_on sheets here written)
+symbol_read sheets here (token.Elsewhere title written) =
+    cells_or_lost (option_and_then (λ sheet. area_on sheets sheet written) (sheet_named sheets title))
+symbol_read sheets here (token.Word word) = symbol.Word word
+symbol_read sheets here (token.Number n) = symbol.Number n
+symbol_read sheets here (token.Text text) = symbol.Text text
+symbol_read sheets here (token.Truth b) = symbol.Truth b
+symbol_read sheets here (token.Function name) = symbol.Function name
+symbol_read sheets here (token.Operator op) = symbol.Operator op
+symbol_read sheets here token.Lost = symbol.Lost
+symbol_read sheets here token.Open = symbol.Open
+symbol_read sheets here token.Close = symbol.Close
+symbol_read sheets here token.Comma = symbol.Comma
+
+abbrev pub symbols_read : Sheets → ℕ → List Placed → List Symbol
+symbols_read sheets here tokens = map (symbol_read sheets here) (map (λ placed. placed.token) tokens)
+
 -- the symbols of a piece: a text has those of its tokens, and each other piece is one
 abbrev pub AreOfPiece : Piece → List Symbol → Type 0
-AreOfPiece (piece.Text text) symbols = (tokens : List Placed) × AreTokens text 0 tokens × (symbols_of tokens ≡ Some symbols)
+AreOfPiece (piece.Text text) symbols =
+    (tokens : List Placed) × AreTokens text 0 tokens × (symbols_of tokens ≡ Some symbols)
 AreOfPiece (piece.Word word) symbols = symbols ≡ symbol.Word word ∷ []
 AreOfPiece (piece.Ref reference) symbols = symbols ≡ symbol.Ref reference.area ∷ []
 AreOfPiece piece.Lost symbols = symbols ≡ symbol.Lost ∷ []
@@ -55,3 +85,19 @@ AreSymbolsOf _ symbols = ⊥
 -- the formula has that tree
 abbrev pub IsTreeOf : Formula → Expression → Type 0
 IsTreeOf formula tree = (symbols : List Symbol) × AreSymbolsOf formula.pieces symbols × HasTree symbols tree
+
+-- a tree of the formula is one of the tokens that were read
+abbrev pub HasTreeOfTokens : Sheets → ℕ → List Placed → Formula → Type 0
+HasTreeOfTokens sheets here tokens formula =
+    (tree : Expression) → IsTreeOf formula tree → HasTree (symbols_read sheets here tokens) tree
+
+-- the formula has that tree, and its symbols pass no limit
+pub record HasTreeWithin (formula : Formula) (tree : Expression) : Type 0 where
+  pub symbols : List Symbol
+  pub are : AreSymbolsOf formula.pieces symbols
+  pub has : HasTree symbols tree
+  pub limits : passed_by_symbols symbols ≡ None
+
+-- if the formula has a tree, its symbols pass no limit
+abbrev pub KeepsLimits : Formula → Type 0
+KeepsLimits formula = (tree : Expression) → IsTreeOf formula tree → HasTreeWithin formula tree

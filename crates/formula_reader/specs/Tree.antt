@@ -1,7 +1,7 @@
 -- A tree as its nodes alone, without where they lie in memory.
 use Rattle.std.specs.Prelude.{ℕ, ℤ, Bool, List, [], ◌∷◌}
 use Rattle.grid_range.specs.declared.area.Area.{Area}
-use Rattle.formula_tokens.specs.declared.token.Operator.{Operator}
+use Rattle.formula_reader.specs.declared.tokens.token.Operator.{Operator}
 use Rattle.formula_reader.specs.declared.tree.Tree.{Tree, Row_of-Tree, end_of-Tree, more_of-Tree}
 use Rattle.formula_reader.specs.declared.tree.Tree.TheVariants.{Number, Text, Truth, Ref, Lost, Word, Negate', Binary', Call'}
 
@@ -40,7 +40,7 @@ abbrev mutual
   arguments_of end_of-Tree = no_arguments
   arguments_of (more_of-Tree tree trees) = argument (expression_of tree) (arguments_of trees)
 
--- arguments behind others
-abbrev pub behind : List Expression → Arguments → Arguments
-behind [] trees = trees
-behind (t ∷ ts) trees = argument t (behind ts trees)
+-- these arguments before others
+abbrev pub arguments_before : List Expression → Arguments → Arguments
+arguments_before [] trees = trees
+arguments_before (t ∷ ts) trees = argument t (arguments_before ts trees)

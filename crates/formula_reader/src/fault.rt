@@ -1,6 +1,8 @@
 use cell_value::NoMemory;
+use std::error::Error;
+use std::fmt;
 
-/// Why a formula can't be read.
+/// Why a formula is not read, or its tree is not told.
 #[derive(Clone, Copy, Debug, PartialEq, Eq)]
 pub enum FormulaFault {
     /// It has more than 512 tokens.
@@ -12,6 +14,19 @@ pub enum FormulaFault {
     /// Memory ran out.
     NoMemory,
 }
+
+impl fmt::Display for FormulaFault {
+    fn fmt<W: fmt::Write>(&self, f: &mut fmt::Formatter<W>) -> fmt::Result {
+        f.write_str(match self {
+            FormulaFault::Tokens => "more than 512 tokens",
+            FormulaFault::References => "more than 64 references and words",
+            FormulaFault::Depth => "more than 32 brackets open at once",
+            FormulaFault::NoMemory => "no memory",
+        })
+    }
+}
+
+impl Error for FormulaFault {}
 
 impl From<NoMemory> for FormulaFault {
     ghost use Rattle.std.specs.Prelude.{◌≡◌};

@@ -7,12 +7,17 @@ mod marks;
 mod primary;
 mod unary;
 
-ghost use Rattle.std.specs.Prelude.{IfOk, option_map};
+ghost use Rattle.std.specs.Prelude.{◌≡◌, ◌⊎◌, List, Some, Err, IfOk, option_map};
+ghost use Rattle.formula_reader.specs.declared.fault.FormulaFault.{FormulaFault};
+ghost use Rattle.formula_reader.specs.declared.symbols.Symbol.{Symbol};
+ghost use Rattle.formula_reader.specs.Limits.{passed_by_symbols};
 ghost use Rattle.formula_reader.specs.Grammar.{HasTree};
 ghost use Rattle.formula_reader.specs.Only.{IsOnly};
-ghost use Rattle.formula_reader.specs.Tree.{expression_of};
-ghost use Rattle.formula_reader.specs.Symbols.{IsTreeOf};
+ghost use Rattle.formula_reader.specs.Tree.{Expression, expression_of};
+ghost use Rattle.formula_reader.specs.Symbols.{AreSymbolsOf, IsTreeOf, HasTreeWithin};
 
+use crate::fault::FormulaFault;
+use crate::limits::passed;
 use crate::symbols::{Symbol, symbols_of_formula};
 use crate::tree::Tree;
 use cell_value::NoMemory;
@@ -42,13 +47,26 @@ fn parse(alloc: Global, symbols: &[Symbol]) -> Result<Option<Tree>, NoMemory>
 ///
 /// # Errors
 ///
-/// [`NoMemory`] where memory runs out.
-pub fn tree_of(alloc: Global, formula: &Formula) -> Result<Option<Tree>, NoMemory>
-    ensures { IfOk result (λ tree. IsOnly (IsTreeOf formula.now) (option_map expression_of tree)) }
+/// [`FormulaFault::Tokens`], [`FormulaFault::References`] and [`FormulaFault::Depth`], exactly where the
+/// formula's symbols, its tokens with the cells that references name, pass a limit as
+/// [`read_formula`](crate::read_formula) counts it: a formula with a tree that was read passes none, nor does
+/// one whose references followed or were lost since. [`FormulaFault::NoMemory`] where memory runs out.
+pub fn tree_of(alloc: Global, formula: &Formula) -> Result<Option<Tree>, FormulaFault>
+    ensures tree { IfOk result (λ tree. IsOnly (IsTreeOf formula.now) (option_map expression_of tree)) }
+    ensures limits { (symbols : List Symbol) (fault : FormulaFault) → AreSymbolsOf formula.now.pieces symbols
+        → passed_by_symbols symbols ≡ Some fault → (result ≡ Err fault) ⊎ (result ≡ Err FormulaFault.NoMemory) }
+    ensures within { (tree : Expression) (fault : FormulaFault) → HasTreeWithin formula.now tree → result ≡ Err fault
+        → fault ≡ FormulaFault.NoMemory }
+    ensures passed { (fault : FormulaFault) → result ≡ Err fault → (fault ≡ FormulaFault.NoMemory)
+        ⊎ ((symbols : List Symbol) × AreSymbolsOf formula.now.pieces symbols
+        × (passed_by_symbols symbols ≡ Some fault)) }
 {
-    match symbols_of_formula(alloc, formula.pieces.as_slice())? {
-        Some(symbols) => parse(alloc, symbols.as_slice()),
-        None => Ok(None),
+    let Some(symbols) = symbols_of_formula(alloc, formula.pieces.as_slice())? else {
+        return Ok(None);
+    };
+    match passed(symbols.as_slice()) {
+        Some(fault) => Err(fault),
+        None => Ok(parse(alloc, symbols.as_slice())?),
     }
 }
 

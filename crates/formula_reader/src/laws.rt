@@ -2,7 +2,35 @@
 //! that has read a formula knows by them that it can still be printed and read again when the sheets
 //! have changed.
 
+ghost use Rattle.formula_reader.specs.Laws.{HasOneTokens, HasOneTree, LimitsStay, PrintsCanonically};
 ghost use Rattle.formula_reader.specs.Changed.{StaysReadable, PrintsTheSame, MayFollow, MayLoseSheet, MayBeRenamed};
+
+use a1_notation::a1_laws;
+
+/// A text has one list of tokens at most.
+pub fn has_one_tokens()
+    ensures { HasOneTokens }
+{
+    a1_laws();
+}
+
+/// A formula has one tree at most.
+pub fn has_one_tree()
+    ensures { HasOneTree }
+{
+    a1_laws();
+}
+
+/// A formula with a tree within the limits has one after its references have followed, or were lost, and
+/// after its words are renamed.
+pub fn limits_stay()
+    ensures { LimitsStay }
+{}
+
+/// A reference without a `$` and without a title is printed as A1 notation's canonical text of its area.
+pub fn prints_canonically()
+    ensures { PrintsCanonically }
+{}
 
 /// A formula that can be read again can be so after its references have followed, its words are
 /// renamed or titles are other, where the cells of its references are in the grid.

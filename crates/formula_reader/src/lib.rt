@@ -11,15 +11,19 @@ mod printing;
 mod reading;
 mod reference_text;
 mod symbols;
+mod tokens;
 mod tree;
 
 pub use fault::FormulaFault;
-pub use formula_tokens::Operator;
 pub use grammar::tree_of;
-pub use laws::{changes_may_be, prints_the_same, stays_readable};
+pub use laws::{
+    changes_may_be, has_one_tokens, has_one_tree, limits_stay, prints_canonically, prints_the_same,
+    stays_readable,
+};
 pub use names::SheetNames;
 pub use printing::print_formula;
 pub use reading::read_formula;
+pub use tokens::{MarkedArea, Operator, Placed, Token, tokens_of};
 pub use tree::Tree;
 
 #[cfg(test)]

@@ -1,12 +1,13 @@
 ghost use Rattle.std.specs.Prelude.{◌≡◌, ◌≤◌, ◌++◌, ◌+◌, List, IfOk, OnOk, slice_range, All};
 ghost use Rattle.grid_range.specs.Band.{IsNonEmpty};
-ghost use Rattle.formula_tokens.specs.Boundaries.{HasCells};
+ghost use Rattle.formula_reader.specs.Boundaries.{HasCells};
+ghost use Rattle.formula_reader.specs.Sheets.{sheet_named};
 ghost use Rattle.formula_reader.specs.Pieces.{area_on, reference_to, elsewhere, piece_of, text_piece, pieces_from};
 ghost use Rattle.formula_reader.specs.Cuts.{Cuts};
 
 use crate::names::SheetNames;
+use crate::tokens::{MarkedArea, Placed, Token};
 use cell_value::{Items, NoMemory, Text};
-use formula_tokens::{Placed, Token, Written};
 use grid_range::Area;
 use ref_rewrite::{Piece, Ref};
 use std::alloc::Global;
@@ -67,10 +68,10 @@ fn piece_of<S: SheetNames>(token: Token, names: &S, here: u32) -> Option<Piece>
 }
 
 /// A reference behind its sheet's title; it is lost where no sheet has the title.
-fn elsewhere<S: SheetNames>(names: &S, title: &str, written: Written) -> Piece
+fn elsewhere<S: SheetNames>(names: &S, title: &str, written: MarkedArea) -> Piece
     requires rows { IsNonEmpty written.rows }
     requires cols { IsNonEmpty written.cols }
-    ensures { result ≡ elsewhere (S.sheets names.now) written ((S.sheets names.now).named title.now) }
+    ensures { result ≡ elsewhere (S.sheets names.now) written (sheet_named (S.sheets names.now) title.now) }
 {
     match names.find(title) {
         Some(sheet) => reference_to(names, true, sheet, written),
@@ -79,7 +80,7 @@ fn elsewhere<S: SheetNames>(names: &S, title: &str, written: Written) -> Piece
 }
 
 /// A reference to cells of the sheet; it is lost where they aren't there.
-fn reference_to<S: SheetNames>(names: &S, named: bool, sheet: u32, written: Written) -> Piece
+fn reference_to<S: SheetNames>(names: &S, named: bool, sheet: u32, written: MarkedArea) -> Piece
     requires rows { IsNonEmpty written.rows }
     requires cols { IsNonEmpty written.cols }
     ensures { result ≡ reference_to named written (area_on (S.sheets names.now) sheet written) }
@@ -95,7 +96,7 @@ fn reference_to<S: SheetNames>(names: &S, named: bool, sheet: u32, written: Writ
 }
 
 /// The cells of the sheet, cut at its grid; None where the first of them isn't there.
-fn area_on<S: SheetNames>(names: &S, sheet: u32, written: Written) -> Option<Area>
+fn area_on<S: SheetNames>(names: &S, sheet: u32, written: MarkedArea) -> Option<Area>
     requires rows { IsNonEmpty written.rows }
     requires cols { IsNonEmpty written.cols }
     ensures { result ≡ area_on (S.sheets names.now) sheet written }

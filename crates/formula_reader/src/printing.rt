@@ -6,7 +6,7 @@ ghost use Rattle.formula_reader.specs.ReadBack.{IsReadable, IsReadAs, as_printed
 
 use crate::names::SheetNames;
 use crate::reference_text::reference_text;
-use a1_notation::quote_name;
+use a1_notation::{a1_laws, quote_name};
 use cell_value::{NoMemory, Text};
 use ref_rewrite::{Formula, Piece, Ref};
 use std::alloc::Global;
@@ -30,6 +30,7 @@ pub fn print_formula<S: SheetNames>(
     ensures again { IfOk result (λ text. (here : ℕ) → IsReadable (S.sheets names.now) here formula.now
         → IsReadAs (S.sheets names.now) here text (as_printed formula.now)) }
 {
+    a1_laws();
     let mut text = String::new(alloc);
     for piece in formula.pieces.as_slice() {
         push_piece(alloc, &mut text, piece, names)?;
@@ -45,7 +46,8 @@ fn push_piece<S: SheetNames>(
     names: &S,
 ) -> Result<(), NoMemory>
     requires { IsPrintable (S.sheets names.now) piece.now }
-    ensures { OnOk result (string_bytes text.new ≡ string_bytes text.old ++ printed_piece (S.sheets names.now) piece.now) }
+    ensures { OnOk result (string_bytes text.new
+        ≡ string_bytes text.old ++ printed_piece (S.sheets names.now) piece.now) }
 {
     match piece {
         Piece::Text(own) => Ok(text.push_str(own.as_str())?),
@@ -64,7 +66,8 @@ fn push_reference<S: SheetNames>(
 ) -> Result<(), NoMemory>
     requires { IsPrintableReference (S.sheets names.now) reference.now }
     ensures { OnOk result (string_bytes text.new ≡ string_bytes text.old
-        ++ (title_before (S.sheets names.now) reference.now ++ reference_text reference.now.area.rows reference.now.area.cols reference.now.marks)) }
+        ++ (title_before (S.sheets names.now) reference.now
+        ++ reference_text reference.now.area.rows reference.now.area.cols reference.now.marks)) }
 {
     push_title(alloc, text, reference, names)?;
     let own = reference_text(
@@ -83,7 +86,8 @@ fn push_title<S: SheetNames>(
     reference: &Ref,
     names: &S,
 ) -> Result<(), NoMemory>
-    ensures { OnOk result (string_bytes text.new ≡ string_bytes text.old ++ title_before (S.sheets names.now) reference.now) }
+    ensures { OnOk result (string_bytes text.new
+        ≡ string_bytes text.old ++ title_before (S.sheets names.now) reference.now) }
 {
     if !reference.named {
         return Ok(());

@@ -1,9 +1,9 @@
 ghost use Rattle.std.specs.Prelude.{◌≡◌, ◌⊎◌, List, Ok, Err, IfOk, All};
-ghost use Rattle.formula_tokens.specs.declared.token.Placed.{Placed};
+ghost use Rattle.formula_reader.specs.declared.tokens.token.Placed.{Placed};
 ghost use Rattle.formula_reader.specs.Pieces.{AreTokensOf, one_text, formula_of};
 ghost use Rattle.formula_reader.specs.Cuts.{Cuts};
 ghost use Rattle.formula_reader.specs.Bytes.{Spells};
-ghost use Rattle.formula_reader.specs.Symbols.{IsTreeOf};
+ghost use Rattle.formula_reader.specs.Symbols.{IsTreeOf, HasTreeOfTokens, KeepsLimits};
 ghost use Rattle.formula_reader.specs.Tree.{Expression};
 ghost use Rattle.formula_reader.specs.Printed.{ArePrintable};
 ghost use Rattle.formula_reader.specs.ReadBack.{AreKnown, IsPresent, IsReadable};
@@ -12,8 +12,9 @@ use crate::fault::FormulaFault;
 use crate::limits::passed;
 use crate::names::SheetNames;
 use crate::pieces::pieces_of;
+use crate::tokens::{Placed, tokens_of};
+use a1_notation::a1_laws;
 use cell_value::{Items, NoMemory, Text};
-use formula_tokens::{Placed, tokens_of};
 use ref_rewrite::{Formula, Piece};
 use std::alloc::Global;
 
@@ -30,7 +31,8 @@ use std::alloc::Global;
 ///
 /// [`FormulaFault::Tokens`], [`FormulaFault::References`] and [`FormulaFault::Depth`], exactly where
 /// the text has more than 512 tokens, more than 64 references and words (names of functions, truth
-/// values and `#REF!` aside), or more than 32 brackets open at once, and none of those before comes; [`FormulaFault::NoMemory`] where memory runs out.
+/// values and `#REF!` aside), or more than 32 brackets open at once, and none of those before comes;
+/// [`FormulaFault::NoMemory`] where memory runs out.
 pub fn read_formula<S: SheetNames>(
     alloc: Global,
     text: &str,
@@ -44,9 +46,13 @@ pub fn read_formula<S: SheetNames>(
     ensures bytes { IfOk result (λ formula. Spells text.now formula.pieces) }
     ensures references { IfOk result (λ formula. AreKnown (S.sheets names.now) here
         → ArePrintable (S.sheets names.now) formula.pieces × All (IsPresent (S.sheets names.now) here) formula.pieces) }
-    ensures again { IfOk result (λ formula. AreKnown (S.sheets names.now) here → (tree : Expression) → IsTreeOf formula tree
-        → IsReadable (S.sheets names.now) here formula) }
+    ensures tree { (tokens : List Placed) → AreTokensOf text.now tokens
+        → IfOk result (HasTreeOfTokens (S.sheets names.now) here tokens) }
+    ensures limits { IfOk result KeepsLimits }
+    ensures again { IfOk result (λ formula. AreKnown (S.sheets names.now) here → (tree : Expression)
+        → IsTreeOf formula tree → IsReadable (S.sheets names.now) here formula) }
 {
+    a1_laws();
     match text.strip_prefix('=') {
         Some(behind) => match tokens_of(alloc, behind)? {
             Some(tokens) => formula_of(alloc, text, tokens, names, here),

@@ -1,9 +1,10 @@
 ghost use Rattle.std.specs.Prelude.{◌≡◌, ◌<◌, ◌+◌, IfOk, string_bytes};
 ghost use Rattle.std.specs.Fmt.{decimal};
 ghost use Rattle.a1_notation.specs.Column.{column_letters};
-ghost use Rattle.formula_reader.specs.ReferenceText.{dollar, marked, first_row, last_row, first_column, last_column, is_one_line, reference_text, HasForm, AreRowLines, AreColumnLines};
+ghost use Rattle.formula_reader.specs.Corner.{dollar, marked_text};
+ghost use Rattle.formula_reader.specs.ReferenceText.{first_row, last_row, first_column, last_column, has_one_line, reference_text, HasForm, AreRowLines, AreColumnLines};
 
-use a1_notation::column_text;
+use a1_notation::{NAMED_COLUMNS, NUMBERED_ROWS, column_text, is_one_line};
 use cell_value::NoMemory;
 use grid_range::Band;
 use ref_rewrite::Marks;
@@ -22,7 +23,7 @@ pub(crate) fn reference_text(
 {
     let column = first_column(alloc, cols, marks.col1)?;
     let row = first_row(alloc, rows, marks.row1)?;
-    if is_one_line(rows) && is_one_line(cols) {
+    if has_one_line(rows) && has_one_line(cols) {
         return Ok(format!(in alloc; "{column}{row}")?);
     }
     let last_column = last_column(alloc, cols, marks.col2)?;
@@ -30,13 +31,13 @@ pub(crate) fn reference_text(
     Ok(format!(in alloc; "{column}{row}:{last_column}{last_row}")?)
 }
 
-/// Whether the lines are one and no more.
-fn is_one_line(band: Band) -> bool
-    ensures { result ≡ is_one_line band }
+/// Whether a band has a first and a last line, which are one.
+fn has_one_line(band: Band) -> bool
+    ensures { result ≡ has_one_line band }
 {
     match band {
         Band::Whole | Band::From(_) => false,
-        Band::Span(start, end) => start as u64 + 1 == end as u64,
+        Band::Span(start, end) => is_one_line((start, end)),
     }
 }
 
@@ -88,8 +89,8 @@ fn last_column(alloc: Global, cols: Band, mark: bool) -> Result<String, NoMemory
 
 /// A row's number, counted from 1, with a `$` before it if it is marked.
 fn row_name(alloc: Global, row: u32, mark: bool) -> Result<String, NoMemory>
-    requires { row < 9999999 }
-    ensures { IfOk result (λ text. string_bytes text ≡ marked mark (decimal (row + 1))) }
+    requires { row < NUMBERED_ROWS }
+    ensures { IfOk result (λ text. string_bytes text ≡ marked_text mark (decimal (row + 1))) }
 {
     let dollar = dollar(mark);
     Ok(format!(in alloc; "{dollar}{}", row + 1)?)
@@ -97,8 +98,8 @@ fn row_name(alloc: Global, row: u32, mark: bool) -> Result<String, NoMemory>
 
 /// A column's letters, with a `$` before them if it is marked.
 fn column_name(alloc: Global, column: u32, mark: bool) -> Result<String, NoMemory>
-    requires { column < 18278 }
-    ensures { IfOk result (λ text. string_bytes text ≡ marked mark (column_letters column)) }
+    requires { column < NAMED_COLUMNS }
+    ensures { IfOk result (λ text. string_bytes text ≡ marked_text mark (column_letters column)) }
 {
     let dollar = dollar(mark);
     let letters = column_text(alloc, column)?;

@@ -1,13 +1,13 @@
 mod pieces;
 
 ghost use Rattle.std.specs.Prelude.{◌≡◌, IfOk, option_map};
-ghost use Rattle.formula_reader.specs.Front.{leaf};
+ghost use Rattle.formula_reader.specs.LevelReading.{leaf};
 ghost use Rattle.formula_reader.specs.Symbols.{symbol_of};
 ghost use Rattle.formula_reader.specs.Tree.{expression_of};
 
+use crate::tokens::{Operator, Token};
 use crate::tree::Tree;
 use cell_value::{Duplicate, NoMemory, Text};
-use formula_tokens::{Operator, Token};
 use grid_range::Area;
 pub(crate) use pieces::symbols_of_formula;
 

@@ -172,7 +172,7 @@ fn two_sheets(alloc: Global) -> Result<Workbook, NoMemory> {
 fn followed(alloc: Global, workbook: &Workbook, change: &Change) -> Result<Text, FormulaFault> {
     let mut formula = read_formula(alloc, "=SUM(A1:A5)", workbook, 0)?;
     if change.fits(1_000) && are_within(formula.pieces.as_slice(), 0, Axis::Rows, 1_000) {
-        follow(alloc, &mut formula, 0, Axis::Rows, 1_000, change);
+        follow(&mut formula, 0, Axis::Rows, 1_000, change);
     }
     Ok(printed(alloc, workbook, &formula)?)
 }

@@ -1,8 +1,8 @@
 ghost use Rattle.std.specs.Prelude.{◌≡◌, map, IfOk};
-ghost use Rattle.formula_reader.specs.Tree.{expression_of, negative, binary, call, no_arguments, behind};
+ghost use Rattle.formula_reader.specs.Tree.{expression_of, negative, binary, call, no_arguments, arguments_before};
 
+use crate::tokens::Operator;
 use cell_value::{Items, NoMemory, Text};
-use formula_tokens::Operator;
 use grid_range::Area;
 use std::alloc::Global;
 
@@ -54,7 +54,7 @@ impl Tree {
 
     /// The tree of a function and its arguments.
     pub(crate) fn call(name: Text, arguments: Vec<Tree>) -> Tree
-        ensures { expression_of result ≡ call name (behind (map expression_of arguments.items) no_arguments) }
+        ensures { expression_of result ≡ call name (arguments_before (map expression_of arguments.items) no_arguments) }
     {
         Tree::Call(name, Items::of(arguments))
     }

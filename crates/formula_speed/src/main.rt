@@ -1,12 +1,15 @@
 //! Formulas of 5,000 bytes beside ones of 50,000, read and printed: of many texts, of one long text, and of
 //! texts and references.
 //!
+//! Beside them formulas of 50 bytes and of 500 that add up ones, where each byte is a token.
+//!
 //! It writes how many pieces each has, and whether it is printed as it was read. With the argument `time`
 //! it also writes how many nanoseconds the reading of a byte takes at both sizes, and how many times as
-//! much at the larger one; and the same of printing, of those with references: the others are one piece,
-//! and printing that is a copy of its bytes.
+//! much at the larger one; the same of printing, of those with references: the others are one piece, and
+//! printing that is a copy of its bytes; and the same of the tree, of those that add up ones.
 #![tactic(auto)]
 
+ghost use Rattle.std.specs.Prelude.{◌<◌, length};
 ghost use Rattle.formula_reader.specs.Printed.{ArePrintable};
 ghost use Rattle.formula_speed.specs.OneSheet.{sheets_of};
 
@@ -18,9 +21,10 @@ mod texts;
 use cell_value::Text;
 use formula_reader::print_formula;
 use rounds::Times;
-use sample::{Sample, sample_of};
+use sample::{Sample, dense_sample, sample_of};
 use sheet::OneSheet;
 use std::alloc::Global;
+use std::time::Clock;
 use std::{env, io};
 use texts::Kind;
 
@@ -28,6 +32,11 @@ use texts::Kind;
 const FEW: usize = 5_000;
 
 const MANY: usize = 50_000;
+
+/// The terms of the smaller formula that adds up ones, and of the larger.
+const FEW_TERMS: usize = 25;
+
+const MANY_TERMS: usize = 250;
 
 fn main(rt: HostRuntime) -> anyhow::Result<()> {
     let mut timed = false;
@@ -48,12 +57,36 @@ fn main(rt: HostRuntime) -> anyhow::Result<()> {
         show(&rt, rt.alloc(), &sheet, name, &large)?;
         if timed {
             let times = rounds::time_reading(&rt, rt.alloc(), &sheet, &small, &large)?;
-            print_times(&rt, name, "read", times)?;
+            print_times(&rt, name, "read", (FEW, MANY), times)?;
         }
         if timed && kind == Kind::References {
             let times = rounds::time_printing(&rt, rt.alloc(), &sheet, &small, &large)?;
-            print_times(&rt, name, "print", times)?;
+            print_times(&rt, name, "print", (FEW, MANY), times)?;
         }
+    }
+    show_terms(&rt, rt.alloc(), &sheet, timed)
+}
+
+/// The same of the formulas that add up ones, with the times of their trees.
+fn show_terms<R: Print + Clock>(
+    rt: &R,
+    alloc: Global,
+    sheet: &OneSheet,
+    timed: bool,
+) -> anyhow::Result<()>
+    requires { 0 < length sheet.now.title }
+{
+    let name = "ones";
+    let sizes = (2 * FEW_TERMS, 2 * MANY_TERMS);
+    let small = dense_sample(alloc, sheet, FEW_TERMS)?;
+    let large = dense_sample(alloc, sheet, MANY_TERMS)?;
+    show(rt, alloc, sheet, name, &small)?;
+    show(rt, alloc, sheet, name, &large)?;
+    if timed {
+        let times = rounds::time_reading(rt, alloc, sheet, &small, &large)?;
+        print_times(rt, name, "read", sizes, times)?;
+        let times = rounds::time_trees(rt, alloc, &small, &large)?;
+        print_times(rt, name, "tell the tree of", sizes, times)?;
     }
     Ok(())
 }
@@ -80,16 +113,24 @@ fn show<R: Print>(
 }
 
 /// Writes what a byte takes at both sizes, and how many times as much at the larger one.
-fn print_times<R: Print>(rt: &R, name: &str, call: &str, times: Times) -> io::Result<()> {
+fn print_times<R: Print>(
+    rt: &R,
+    name: &str,
+    call: &str,
+    sizes: (usize, usize),
+    times: Times,
+) -> io::Result<()> {
     let small = times.small.saturating_mul(1_000) / rounds::BYTES as u128;
     let large = times.large.saturating_mul(1_000) / rounds::BYTES as u128;
     let hundredths = times.large.saturating_mul(100) / times.small.max(1);
     println!(rt;
-        "{name}: {}.{:03} nanoseconds to {call} a byte of {FEW}, {}.{:03} of {MANY}: {}.{:02} times",
+        "{name}: {}.{:03} nanoseconds to {call} a byte of {}, {}.{:03} of {}: {}.{:02} times",
         small / 1_000,
         small % 1_000,
+        sizes.0,
         large / 1_000,
         large % 1_000,
+        sizes.1,
         hundredths / 100,
         hundredths % 100
     )

@@ -4,12 +4,12 @@ ghost use Rattle.formula_speed.specs.OneSheet.{sheets_of};
 
 use crate::sample::{Sample, read};
 use crate::sheet::OneSheet;
-use formula_reader::print_formula;
+use formula_reader::{print_formula, tree_of};
 use std::alloc::Global;
 use std::time::{Clock, Instant};
 
-/// How many bytes are read or printed of a sample in a round.
-pub const BYTES: usize = 100_000_000;
+/// How many bytes of a sample are read or printed, or stand for their tree, in a round.
+pub const BYTES: usize = 20_000_000;
 
 const ROUNDS: u32 = 5;
 
@@ -67,6 +67,24 @@ pub fn time_printing<R: Clock>(
     Ok(times)
 }
 
+/// The same of trees.
+pub fn time_trees<R: Clock>(
+    rt: &R,
+    alloc: Global,
+    small: &Sample,
+    large: &Sample,
+) -> anyhow::Result<Times> {
+    let mut times = LONGEST;
+    for _ in 0..ROUNDS {
+        let round = Times {
+            small: tree_round(rt, alloc, small)?,
+            large: tree_round(rt, alloc, large)?,
+        };
+        times = least(times, round);
+    }
+    Ok(times)
+}
+
 /// The smaller of two times at each size.
 fn least(first: Times, second: Times) -> Times
     ensures small { result.small ≡ min first.small second.small }
@@ -102,6 +120,14 @@ fn print_round<R: Clock>(
     let start = Instant::now(rt)?;
     for _ in 0..calls(sample) {
         print_formula(alloc, &sample.formula, sheet)?;
+    }
+    Ok(start.elapsed(rt)?.as_nanos())
+}
+
+fn tree_round<R: Clock>(rt: &R, alloc: Global, sample: &Sample) -> anyhow::Result<u128> {
+    let start = Instant::now(rt)?;
+    for _ in 0..calls(sample) {
+        tree_of(alloc, &sample.formula)?;
     }
     Ok(start.elapsed(rt)?.as_nanos())
 }

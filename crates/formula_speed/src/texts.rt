@@ -26,6 +26,19 @@ pub fn text_of(alloc: Global, kind: Kind, bytes: usize) -> Result<String, NoMemo
     }
 }
 
+/// A formula that adds up so many ones: each of its bytes is a token.
+pub fn terms(alloc: Global, count: usize) -> Result<String, NoMemory>
+    ensures { IfOk result (λ text. length (string_bytes text) ≡ 2 * count) }
+{
+    let mut text = String::new(alloc);
+    for number in 0..count {
+        let sign = if number == 0 { "=" } else { "+" };
+        text.push_str(sign)?;
+        text.push_str("1")?;
+    }
+    Ok(text)
+}
+
 /// A formula that joins so many texts of so many letters, with what stands behind each of them.
 fn joined(alloc: Global, letters: usize, behind: &str, times: usize) -> Result<String, NoMemory>
     ensures { IfOk result (λ text. length (string_bytes text) ≡ (letters + 3 + length behind.now) * times) }

@@ -1,88 +1,29 @@
 -- The contracts on names have one answer each: there are names, and places show in them.
-use Rattle.std.proofs.Common.{◌≡◌, ℕ, zero, suc, ◌+◌, ◌-◌, ◌<◌, add-zero, zero-add, List, [], ◌∷◌, ◌++◌, length, get_or, drop, Option, None, Some, arith, refl, sym, ap, subst, ◌∙◌, length-append, length-drop}
-use Rattle.std.specs.Prelude.{slice_range, slice_get, MatchOption, IfSome}
+use Rattle.std.proofs.lemmas.Bool.{cases_Bool, eqb-true, eq-eqb, both_ways}
+use Rattle.grid_range.specs.Area.{IsWithinOn, band_on, with_band}
+use Rattle.std.specs.Option.{option_map}
+use Rattle.grid_range.specs.declared.axis.Axis.TheVariants.{Rows, Columns}
+use Rattle.grid_range.specs.declared.axis.Axis.{Axis}
+use Rattle.std.proofs.Common.{◌≡◌, ℕ, ◌+◌, ◌-◌, ◌<◌, List, length, get_or, drop, Option, None, Some, arith, refl, sym, ap, subst, ◌∙◌, length-drop, inl, inr}
+use Rattle.std.specs.Prelude.{slice_range, slice_get, MatchOption, IfSome, ◌==◌}
 use Rattle.std.specs.List.{Contains}
 use Rattle.std.proofs.lemmas.Option.{slice_get-get_or, get_or_from_slice_get, slice_get_within}
-use Rattle.line_order.specs.Order.{IsOrder}
-use Rattle.line_order.specs.Band.{NameBand}
-use Rattle.line_order.specs.Band.NameBand.{Whole, Closed, Open}
-use Rattle.line_order.specs.Following.{follow}
-use Rattle.line_order.specs.Change.{CanBeMade, order_after, changed_names}
-use Rattle.line_order.proofs.Orders.{IsOrder-from_places, place_unique, get_or-slice_range, length-slice_range}
-use Rattle.line_order.proofs.Changes.{orders_stay, exchanged_order, inserted_exchanged}
+use Rattle.grid_range.specs.Order.{IsOrder}
+use Rattle.grid_range.specs.NameBand.{NameBand}
+use Rattle.grid_range.specs.NameBand.NameBand.{Whole, Closed, Open}
+use Rattle.grid_range.specs.Following.{follow}
+use Rattle.grid_range.specs.OrderChange.{order_after, changed_names}
+use Rattle.grid_range.proofs.Orders.{place_unique, get_or-slice_range, length-slice_range}
+use Rattle.grid_range.proofs.Changes.{orders_stay}
 use Rattle.grid_range.specs.declared.band.Band.{Band}
 use Rattle.grid_range.specs.declared.band.Band.TheVariants as bands
 use Rattle.grid_range.specs.declared.change.Change.{Change}
-use Rattle.grid_range.specs.declared.change.Change.TheVariants.{Insert, Delete, Move}
 use Rattle.grid_range.specs.Band.{Within}
 use Rattle.grid_range.specs.Change.{Fits, Changes, order_change, inserted_lines, count_after}
 use Rattle.grid_range.specs.Tracking.{StaysWithin, StandsFor, StandsForOption, track_of, place_of}
-use Rattle.grid_range.specs.Laws.{TracksAll, TracksExactly, PlacesAll, PlacesExactly}
+use Rattle.grid_range.specs.TrackingLaws.{TracksAll, TracksExactly, PlacesAll, PlacesExactly, TracksStayWithin, PlacesStayBelow, AreasStayWithin, PlacesStayApart}
+use Rattle.grid_range.proofs.Named.{numbers, length-numbers, numbers_change}
 use Rattle.grid_range.proofs.Theorems.{track_of_tracks, place_of_places, count_after_lines}
-
--- an order of so many names from a first one on
-numbers : ℕ → ℕ → List ℕ
-numbers first zero = []
-numbers first (suc count) = first ∷ numbers (suc first) count
-
-length-numbers : (first count : ℕ) → length (numbers first count) ≡ count
-unfolding numbers
-length-numbers first zero = refl
-length-numbers first (suc count) = ap suc (length-numbers (suc first) count)
-
-get_or-numbers : (first count j : ℕ) → j < count → get_or (numbers first count) j 0 ≡ first + j
-unfolding numbers
-get_or-numbers first zero j l = absurd (omega arith)
-get_or-numbers first (suc count) zero l = omega arith
-get_or-numbers first (suc count) (suc j) l =
-    get_or-numbers (suc first) count j (omega arith) ∙ (let e : suc first + j ≡ first + suc j = omega arith in e)
-
-numbers-append : (first one more : ℕ) → numbers first one ++ numbers (first + one) more ≡ numbers first (one + more)
-unfolding numbers
-numbers-append first zero more = rw (add-zero first, zero-add more) refl
-numbers-append first (suc one) more =
-    let front : first + suc one ≡ suc first + one = omega arith in
-    let all : suc one + more ≡ suc (one + more) = omega arith in
-    rw (front, all) (ap (λ ys. first ∷ ys) (numbers-append (suc first) one more))
-
-numbers_order : (first count : ℕ) → IsOrder (numbers first count)
-numbers_order first count = IsOrder-from_places (numbers first count) (λ i j below there same.
-    let size = length-numbers first count in
-    let at_i = get_or-numbers first count i (omega arith) in
-    let at_j = get_or-numbers first count j (omega arith) in
-    omega arith)
-
--- each change that fits is a change of that order
-numbers_change : (change : Change) (count : ℕ) → Fits change count
-    → Changes change count (numbers 0 count) (numbers count (inserted_lines change))
-    (order_after (order_change change (numbers count (inserted_lines change))) (numbers 0 count))
-numbers_change change count fits = record {
-  distinct = numbers_order 0 count;
-  long = length-numbers 0 count;
-  inserts = length-numbers count (inserted_lines change);
-  made = made change fits;
-  result = refl;
-}
-  where
-    size : length (numbers 0 count) ≡ count
-    size = length-numbers 0 count
-
-    made : (change : Change) → Fits change count
-        → CanBeMade (order_change change (numbers count (inserted_lines change))) (numbers 0 count)
-    made (Insert at number) f =
-        let fresh = length-numbers count number in
-        let both = length-append (numbers 0 count) (numbers count number) in (
-          omega (arith, size, f.0),
-          (λ none. let empty = ap length none in omega (arith, f.1)),
-          subst IsOrder (inserted_exchanged (numbers 0 count) (numbers count number) 0)
-              (exchanged_order (numbers 0 count ++ numbers count number) (length (numbers 0 count))
-              (length (numbers 0 count) + length (numbers count number)) 0 (omega arith) (omega arith)
-              (omega arith)
-              (subst IsOrder (sym (rw (zero-add count) at (numbers-append 0 count number)))
-              (numbers_order 0 (count + number)))),
-        )
-    made (Delete a b) f = (f.0, omega (arith, size))
-    made (Move a b to) f = (f.0, omega (arith, size), omega (arith, size))
 
 -- some lines stand at a band's places
 stands_for_some : (order : List ℕ) (band : Band) → Within band (length order)
@@ -140,7 +81,8 @@ same_places : (order : List ℕ) (names : NameBand) (one other : Band) → IsOrd
     → StandsFor order one names → StandsFor order other names → one ≡ other
 same_places order names bands.Whole bands.Whole distinct a b = refl
 same_places order names bands.Whole (bands.From t) distinct a b = absurd (whole_open (drop t order) (sym a ∙ b.1))
-same_places order names bands.Whole (bands.Span t f) distinct a b = absurd (whole_closed (slice_range order t f) (sym a ∙ b.2))
+same_places order names bands.Whole (bands.Span t f) distinct a b =
+    absurd (whole_closed (slice_range order t f) (sym a ∙ b.2))
 same_places order names (bands.From s) bands.Whole distinct a b = absurd (whole_open (drop s order) (sym b ∙ a.1))
 same_places order names (bands.From s) (bands.From t) distinct a b =
     let same = tails (drop s order) (drop t order) (sym a.1 ∙ b.1) in
@@ -153,7 +95,8 @@ same_places order names (bands.From s) (bands.From t) distinct a b =
     tails xs ys h = cc
 same_places order names (bands.From s) (bands.Span t f) distinct a b =
     absurd (open_closed (drop s order) (slice_range order t f) (sym a.1 ∙ b.2))
-same_places order names (bands.Span s e) bands.Whole distinct a b = absurd (whole_closed (slice_range order s e) (sym b ∙ a.2))
+same_places order names (bands.Span s e) bands.Whole distinct a b =
+    absurd (whole_closed (slice_range order s e) (sym b ∙ a.2))
 same_places order names (bands.Span s e) (bands.From t) distinct a b =
     absurd (open_closed (drop t order) (slice_range order s e) (sym b.1 ∙ a.2))
 same_places order names (bands.Span s e) (bands.Span t f) distinct (some_a, there_a, is_a) (some_b, there_b, is_b) =
@@ -221,7 +164,8 @@ places_exactly change count index one other fits there places also =
     let changes = numbers_change change count fits in
     let size = length-numbers 0 count in
     let at : slice_get order index ≡ Some (get_or order index 0) = slice_get-get_or order index 0 (omega arith) in
-    same_place after (get_or order index 0) one other (orders_stay order (order_change change fresh) changes.distinct changes.made)
+    same_place after (get_or order index 0) one other
+    (orders_stay order (order_change change fresh) changes.distinct changes.made)
     (places.stands order fresh after (get_or order index 0) changes at)
     (also.stands order fresh after (get_or order index 0) changes at)
 
@@ -248,3 +192,55 @@ place_within change count index result is fits there =
     subst (λ n. IfSome result (λ place. place < n)) lines
     (place_within_order after (get_or order index 0) result
     (places.stands order fresh after (get_or order index 0) changes at))
+
+pub tracks_stay_within : TracksStayWithin
+tracks_stay_within band count change fits within =
+    (track_stays_within band count change (track_of band count change) refl fits).found within
+
+pub places_stay_below : PlacesStayBelow
+places_stay_below change count index fits there =
+    place_within change count index (place_of change index) refl fits there
+
+pub areas_stay_within : AreasStayWithin
+areas_stay_within area sheet axis count change fits within = elim (cases_Bool (area.sheet == sheet)) [
+  | inl same ↦ rw same (mapped axis (track_of (band_on axis area) count change)
+      (tracks_stay_within (band_on axis area) count change fits (within (eqb-true area.sheet sheet same))))
+  | inr other ↦ rw other (λ is. absurd (both_ways (area.sheet == sheet) other (eq-eqb area.sheet sheet is)))
+]
+  where
+    mapped : (axis : Axis) (found : Option Band) → IfSome found (λ band. Within band (count_after change count))
+        → IfSome (option_map (with_band axis area) found) (IsWithinOn sheet axis (count_after change count))
+    mapped axis None there = tt
+    mapped Rows (Some band) there = λ _. there
+    mapped Columns (Some band) there = λ _. there
+
+pub places_stay_apart : PlacesStayApart
+places_stay_apart change count one other place fits in_one in_other is_one is_other =
+    place_unique order one other changes.distinct (omega (arith, size)) (omega (arith, size))
+    (same (get_or order one 0) (get_or order other 0) (sym (at one in_one is_one) ∙ at other in_other is_other))
+  where
+    order : List ℕ
+    order = numbers 0 count
+
+    fresh : List ℕ
+    fresh = numbers count (inserted_lines change)
+
+    after : List ℕ
+    after = order_after (order_change change fresh) order
+
+    changes : Changes change count order fresh after
+    changes = numbers_change change count fits
+
+    size : length order ≡ count
+    size = length-numbers 0 count
+
+    at : (index : ℕ) → index < count → place_of change index ≡ Some place
+        → slice_get after place ≡ Some (get_or order index 0)
+    at index there is =
+        subst (λ o. MatchOption o (¬ (Contains after (get_or order index 0)))
+        (λ found. slice_get after found ≡ Some (get_or order index 0))) is
+        ((places_all change count index fits there).stands order fresh after (get_or order index 0) changes
+        (slice_get-get_or order index 0 (omega (arith, size))))
+
+    same : (x y : ℕ) → Some x ≡ Some y → x ≡ y
+    same x y h = cc

@@ -3,16 +3,16 @@ use Rattle.std.proofs.Common.{◌≡◌, ℕ, ◌+◌, ◌-◌, ◌<◌, ◌≤�
 use Rattle.std.specs.Prelude.{slice_range, nat_le}
 use Rattle.std.proofs.lemmas.Bool.{cases_Bool, cases_lt, and_parts, and_cases, leb-true, leb-false}
 use Rattle.std.proofs.lemmas.List.{take_all, drop_at, drop-append-le, take-append-le, length-drop}
-use Rattle.line_order.specs.Order.{IsOrder}
-use Rattle.line_order.specs.Following.{followed_names}
-use Rattle.line_order.specs.Change.{order_after}
-use Rattle.line_order.specs.Change.OrderChange.{Moving}
-use Rattle.line_order.proofs.Ranges.{range_of}
-use Rattle.line_order.proofs.Changes.{landing_place, before_move, before_move_is, exchanged, length-exchanged, get_or-exchanged, put_before_to, order_exchanged, inserted_exchanged, without, skip}
-use Rattle.line_order.proofs.Arrivals.{EndOf, Came, Follows, Settles, Tears, follow_hull, follow_together, follow_carried, follow_torn, follow_lost}
+use Rattle.grid_range.specs.Order.{IsOrder}
+use Rattle.grid_range.specs.Following.{followed_names}
+use Rattle.grid_range.specs.OrderChange.{order_after}
+use Rattle.grid_range.specs.OrderChange.OrderChange.{Moving}
+use Rattle.grid_range.proofs.Ranges.{reach}
+use Rattle.grid_range.proofs.Changes.{landing_place, before_move, before_move_is, exchanged, length-exchanged, get_or-exchanged, put_before_to, order_exchanged, inserted_exchanged, without, skip}
+use Rattle.grid_range.proofs.Arrivals.{EndOf, Came, Follows, Settles, Tears, follow_hull, follow_together, follow_carried, follow_torn, follow_lost}
 use Rattle.grid_range.specs.Tracking.{closed_up, start_opened, end_opened, span_moved}
-use Rattle.line_order.proofs.Changing.{closed_stays, open_stays}
-use Rattle.line_order.proofs.Deletions.{ClosedUp, left_count, left_came, deleted, deleted_open, deleted_none}
+use Rattle.grid_range.proofs.Changing.{closed_stays, open_stays}
+use Rattle.grid_range.proofs.Deletions.{ClosedUp, left_count, left_came, deleted, deleted_open, deleted_none}
 use Rattle.grid_range.proofs.Spans.{StartOpened, EndOpened, closed_up_is, start_opened_is, end_opened_is}
 use Rattle.grid_range.proofs.Moves as moves
 
@@ -305,8 +305,11 @@ moved_follows closed order a b to s e distinct some within target line there end
 
     apart : (to < a) ⊎ (b < to) → (e ≤ a) ⊎ (b ≤ s)
         → SpanFollows closed (exchanged order a b (closed_up a b to)) (slice_range order a b)
-        (slice_range order s e)
-        (start_opened (closed_up a b to) (b - a) (closed_up a b s), end_opened (closed_up a b to) (b - a) (closed_up a b e))
+        (slice_range order s e) (
+          start_opened (closed_up a b to) (b - a) (closed_up a b s),
+          end_opened (closed_up a b to) (b - a)
+              (closed_up a b e),
+        )
     apart way where_ =
         beside_follows order a b (closed_up a b to) some within (near way) distinct closed s e
         (start_opened (closed_up a b to) (b - a) (closed_up a b s))
@@ -317,8 +320,11 @@ moved_follows closed order a b to s e distinct some within target line there end
 
     changed : (to < a) ⊎ (b < to) → (s < a) ⊎ (b < e) → (a < s) ⊎ (e < b) ⊎ (to < s) ⊎ (e < to)
         → SpanFollows closed (exchanged order a b (closed_up a b to)) (slice_range order a b)
-        (slice_range order s e)
-        (start_opened (closed_up a b to) (b - a) (closed_up a b s), end_opened (closed_up a b to) (b - a) (closed_up a b e))
+        (slice_range order s e) (
+          start_opened (closed_up a b to) (b - a) (closed_up a b s),
+          end_opened (closed_up a b to) (b - a)
+              (closed_up a b e),
+        )
     changed way outside out = elim (cases_lt s b) [
       | inl meets_end ↦ elim (cases_lt a e) [
         | inl meets_start ↦
@@ -388,7 +394,8 @@ module _ (order : List ℕ) (a b : ℕ) (distinct : IsOrder order) (some : a < b
       follow_hull order (without order a b) (skip a b) (left_came order a b some within) distinct true s e 0 0
       (closed_up a b s) (closed_up a b e) there (omega arith)
       (deleted a b (length (without order a b)) s e (closed_up a b s) (closed_up a b e) some
-      (omega (arith, left_count order a b some within)) line (omega (arith, left_count order a b some within)) left (closed_up_is a b s) (closed_up_is a b e))
+      (omega (arith, left_count order a b some within)) line (omega (arith, left_count order a b some within)) left
+      (closed_up_is a b s) (closed_up_is a b e))
       (λ x y. omega arith) (λ x y. omega arith)
   deleted_follows false s e line there end left =
       let all : length (without order a b) + (b - a) ≡ e = omega (arith, left_count order a b some within) in
@@ -401,7 +408,7 @@ module _ (order : List ℕ) (a b : ℕ) (distinct : IsOrder order) (some : a < b
 
   pub deleted_lost : (closed : Bool) (s e : ℕ) → s < e → e ≤ length order
       → closed_up a b e ≤ closed_up a b s
-      → followed_names (range_of closed) (without order a b) [] (slice_range order s e) ≡ None
+      → followed_names (reach closed) (without order a b) [] (slice_range order s e) ≡ None
   deleted_lost closed s e line there gone =
       follow_lost order (without order a b) (skip a b) (left_came order a b some within) distinct closed [] s e there
       (λ j l. deleted_none a b s e (closed_up a b s) (closed_up a b e) j some line gone

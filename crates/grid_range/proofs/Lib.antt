@@ -1,5 +1,17 @@
+pub mod Lists
+pub mod Orders
+pub mod Ranges
+pub mod Changes
+pub mod Arrivals
+pub mod Deletions
+pub mod Following
+pub mod Torn
+pub mod Changing
 pub mod Spans
 pub mod Moves
 pub mod Followed
 pub mod Theorems
+pub mod Named
 pub mod Exactly
+pub mod Tearing
+pub mod Landing

@@ -1,9 +1,9 @@
 -- What a band becomes where the lines from `a` to `b - 1` of `n` are put before line `d` of the
 -- others: `s` to `e - 1` are the band's lines, `s'` to `e' - 1` those of what it becomes.
 use Rattle.std.proofs.Common.{◌≡◌, ℕ, ◌+◌, ◌-◌, ◌<◌, ◌≤◌, ◌⊎◌, true, false, arith, refl}
-use Rattle.line_order.proofs.Changes.{before_move, before_move_is}
-use Rattle.line_order.proofs.Arrivals.{Arrives, Settles, Of, Outside, Tears}
-use Rattle.line_order.proofs.Deletions.{ClosedUp}
+use Rattle.grid_range.proofs.Changes.{before_move, before_move_is}
+use Rattle.grid_range.proofs.Arrivals.{Arrives, Settles, Of, Outside, Tears}
+use Rattle.grid_range.proofs.Deletions.{ClosedUp}
 use Rattle.grid_range.proofs.Spans.{StartOpened, EndOpened}
 
 module _ (a b d n : ℕ) (some : a < b) (within : b ≤ n) (near : d + (b - a) ≤ n) where

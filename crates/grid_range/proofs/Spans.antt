@@ -1,7 +1,7 @@
 -- What the numbers of a band become, case by case.
 use Rattle.std.proofs.Common.{◌≡◌, ℕ, ◌+◌, ◌<◌, ◌≤◌, ◌⊎◌, arith}
 use Rattle.std.proofs.lemmas.Bool.Decides.{nat_tests}
-use Rattle.line_order.proofs.Deletions.{ClosedUp}
+use Rattle.grid_range.proofs.Deletions.{ClosedUp}
 use Rattle.grid_range.specs.Tracking.{closed_up, start_opened, end_opened}
 
 abbrev pub StartOpened : ℕ → ℕ → ℕ → ℕ → Type 0

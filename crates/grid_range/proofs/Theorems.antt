@@ -6,16 +6,16 @@ use Rattle.std.specs.List.{Contains}
 use Rattle.std.proofs.lemmas.Option.{slice_get-get_or, get_or_from_slice_get}
 use Rattle.std.proofs.lemmas.Bool.{cases_Bool, both_ways, or_left, or_cases, eq-eqb, eqb-true, false≢true, ltb-true, ltb-false}
 use Rattle.std.proofs.lemmas.List.{take_rest, get_or_default, drop_more, length-take-le, length-drop}
-use Rattle.line_order.specs.Order.{is_among, lines_between, lines_from}
-use Rattle.line_order.specs.Band.{NameBand}
-use Rattle.line_order.specs.Band.NameBand.{Closed, Open}
-use Rattle.line_order.specs.Following.{follow, followed_names}
-use Rattle.line_order.specs.Change.{changed_names}
-use Rattle.line_order.proofs.Orders.{get_or-slice_range, length-slice_range}
-use Rattle.line_order.specs.Change.OrderChange.{Inserting}
-use Rattle.line_order.proofs.Changes.{orders_stay, length-without, length-exchanged}
-use Rattle.line_order.proofs.Arrivals.{EndOf}
-use Rattle.line_order.proofs.Ranges.{range_of, lost_names, followed_first}
+use Rattle.grid_range.specs.Order.{is_among, first_to_last, first_to_end}
+use Rattle.grid_range.specs.NameBand.{NameBand}
+use Rattle.grid_range.specs.NameBand.NameBand.{Closed, Open}
+use Rattle.grid_range.specs.Following.{follow, followed_names}
+use Rattle.grid_range.specs.OrderChange.{changed_names}
+use Rattle.grid_range.proofs.Orders.{get_or-slice_range, length-slice_range}
+use Rattle.grid_range.specs.OrderChange.OrderChange.{Inserting}
+use Rattle.grid_range.proofs.Changes.{orders_stay, length-without, length-exchanged}
+use Rattle.grid_range.proofs.Arrivals.{EndOf}
+use Rattle.grid_range.proofs.Ranges.{reach, lost_names, followed_first}
 use Rattle.grid_range.specs.declared.band.Band.{Band}
 use Rattle.grid_range.specs.declared.band.Band.TheVariants as bands
 use Rattle.grid_range.specs.declared.change.Change.{Change}
@@ -27,7 +27,7 @@ use Rattle.grid_range.proofs.Followed.{SpanFollows, moved_order, moved_follows, 
 -- the span, or that the band is lost
 abbrev SpanResult : Bool → List ℕ → List ℕ → List ℕ → Option (ℕ × ℕ) → Type 0
 SpanResult closed after changed names span =
-    MatchOption span (followed_names (range_of closed) after changed names ≡ None)
+    MatchOption span (followed_names (reach closed) after changed names ≡ None)
     (SpanFollows closed after changed names)
 
 span_after_follows : (closed : Bool) (change : Change) (order fresh after : List ℕ) (s e : ℕ)
@@ -55,14 +55,14 @@ span_after_follows closed (Move a b to) order fresh after s e fits c line there 
 closed_stands : (after changed names : List ℕ) (span : Option (ℕ × ℕ))
     → SpanResult true after changed names span
     → StandsForOption after (option_map (λ x. bands.Span x.0 x.1) span)
-    (option_map Closed (followed_names lines_between after changed names))
+    (option_map Closed (followed_names first_to_last after changed names))
 closed_stands after changed names None h = rw h refl
 closed_stands after changed names (Some span) h = rw h.is (h.some, h.there, refl)
 
 open_stands : (after changed names : List ℕ) (span : Option (ℕ × ℕ))
     → SpanResult false after changed names span
     → StandsForOption after (option_map (λ x. bands.From x.0) span)
-    (option_map Open (followed_names lines_from after changed names))
+    (option_map Open (followed_names first_to_end after changed names))
 open_stands after changed names None h = rw h refl
 open_stands after changed names (Some span) h = rw h.is (h.some, ap Open (take_rest after span.0))
 

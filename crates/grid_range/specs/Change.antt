@@ -1,9 +1,9 @@
 -- Changes of the lines on one axis of a sheet, by places: insertDimension, deleteDimension and
 -- moveDimension of the Google Sheets API v4.
 use Rattle.std.specs.Prelude.{◌≡◌, ℕ, ◌+◌, ◌-◌, ◌^◌, ◌<◌, ◌≤◌, List, length, ⊤}
-use Rattle.line_order.specs.Order.{IsOrder}
-use Rattle.line_order.specs.Change.{OrderChange, CanBeMade, order_after}
-use Rattle.line_order.specs.Change.OrderChange.{Inserting, Deleting, Moving}
+use Rattle.grid_range.specs.Order.{IsOrder}
+use Rattle.grid_range.specs.OrderChange.{OrderChange, CanBeMade, order_after}
+use Rattle.grid_range.specs.OrderChange.OrderChange.{Inserting, Deleting, Moving}
 use Rattle.grid_range.specs.declared.change.Change.{Change}
 use Rattle.grid_range.specs.declared.change.Change.TheVariants.{Insert, Delete, Move}
 

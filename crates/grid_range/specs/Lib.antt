@@ -1,5 +1,12 @@
 pub mod Band
 pub mod Area
 pub mod Change
+pub mod Order
+pub mod NameBand
+pub mod OrderChange
+pub mod Following
+pub mod Stand
 pub mod Tracking
-pub mod Laws
+pub mod Tearing
+pub mod FollowingLaws
+pub mod TrackingLaws

@@ -1,15 +1,18 @@
 -- What a band becomes after a change: by names, which is what it means, and by places, which is
 -- what a program computes.
-use Rattle.std.specs.Prelude.{◌≡◌, ℕ, ◌+◌, ◌-◌, List, Option, None, Some, MatchOption, IsSomeAnd, IfSome, Contains, slice_get, nat_le, nat_lt, ◌&&◌, if◌then◌else◌}
+use Rattle.std.specs.Prelude.{◌≡◌, ℕ, ◌+◌, ◌-◌, List, Option, None, Some, MatchOption, IsSomeAnd, IfSome, Contains, slice_get, nat_le, nat_lt, ◌==◌, ◌&&◌, if◌then◌else◌}
 use Rattle.std.specs.Option.{option_map}
-use Rattle.line_order.specs.Band.{NameBand}
-use Rattle.line_order.specs.Following.{follow}
-use Rattle.line_order.specs.Change.{changed_names}
-use Rattle.line_order.specs.Stand.{StandsFrom, StandsBetween}
+use Rattle.grid_range.specs.NameBand.{NameBand}
+use Rattle.grid_range.specs.Following.{follow}
+use Rattle.grid_range.specs.OrderChange.{changed_names}
+use Rattle.grid_range.specs.Stand.{StandsFrom, StandsBetween}
+use Rattle.grid_range.specs.declared.area.Area.{Area}
+use Rattle.grid_range.specs.declared.axis.Axis.{Axis}
 use Rattle.grid_range.specs.declared.band.Band.{Band}
 use Rattle.grid_range.specs.declared.band.Band.TheVariants.{Whole, From, Span}
 use Rattle.grid_range.specs.declared.change.Change.{Change}
 use Rattle.grid_range.specs.declared.change.Change.TheVariants.{Insert, Delete, Move}
+use Rattle.grid_range.specs.Area.{band_on, with_band}
 use Rattle.grid_range.specs.Band.{Within}
 use Rattle.grid_range.specs.Change.{Changes, order_change, count_after}
 
@@ -90,3 +93,11 @@ track_of (Span start end) count change =
 
 abbrev pub place_of : Change → ℕ → Option ℕ
 place_of change index = option_map (λ span. span.0) (span_after change index (index + 1))
+
+-- what an area becomes: its lines on the axis are followed, and it is lost with them; an area of
+-- another sheet stays
+abbrev pub area_followed : ℕ → Axis → ℕ → Change → Area → Option Area
+area_followed sheet axis count change area =
+    if area.sheet == sheet
+    then option_map (with_band axis area) (track_of (band_on axis area) count change)
+    else Some area

@@ -33,7 +33,27 @@ impl Band {
         ensures lines { (line : ℕ) → line < count
             → ((result.0 ≤ line) × (line < result.1)) ↔ HasLine self.now line }
     {
-        (self.start(), self.end(count))
+        (self.first_line(), self.end_line(count))
+    }
+
+    /// The band's first line.
+    pub fn first_line(self) -> u32
+        ensures { result ≡ first_line self }
+    {
+        match self {
+            Band::Whole => 0,
+            Band::From(start) | Band::Span(start, _) => start,
+        }
+    }
+
+    /// The line past the band's last one; that of an open band is `count`, the number of lines.
+    pub fn end_line(self, count: u32) -> u32
+        ensures { result ≡ end_line self count }
+    {
+        match self {
+            Band::Whole | Band::From(_) => count,
+            Band::Span(_, end) => end,
+        }
     }
 
     /// The band cut at a grid of `count` lines, or None where its first line isn't there.
@@ -42,7 +62,7 @@ impl Band {
         ensures inside { IsSome result ↔ (first_line self < count) }
         ensures cut { IfSome result (λ clipped. clipped ≡ cut_band self count) }
     {
-        if count <= self.start() {
+        if count <= self.first_line() {
             return None;
         }
         Some(match self {
@@ -66,25 +86,7 @@ impl Band {
     pub(crate) fn meets(self, other: Band, count: u32) -> bool
         ensures { IsTrue result ↔ ShareLine self other count }
     {
-        self.start().max(other.start()) < self.end(count).min(other.end(count))
-    }
-
-    fn start(self) -> u32
-        ensures { result ≡ first_line self }
-    {
-        match self {
-            Band::Whole => 0,
-            Band::From(start) | Band::Span(start, _) => start,
-        }
-    }
-
-    /// The line past the last one of the band that is among `count` lines.
-    fn end(self, count: u32) -> u32
-        ensures { result ≡ min (end_line self count) count }
-    {
-        match self {
-            Band::Whole | Band::From(_) => count,
-            Band::Span(_, end) => end.min(count),
-        }
+        let first = self.first_line().max(other.first_line());
+        first < self.end_line(count).min(other.end_line(count)).min(count)
     }
 }

@@ -1,5 +1,7 @@
 ghost use Rattle.std.specs.Prelude.{◌≡◌, ◌↔◌, IsTrue};
 
+use crate::band::Band;
+
 /// A change of the lines on one axis of a sheet: insertDimension, deleteDimension and moveDimension
 /// of the Google Sheets API v4. Lines are counted from 0 on the sheet before the change.
 #[derive(Clone, Copy, Debug, PartialEq, Eq)]
@@ -15,6 +17,8 @@ pub enum Change {
 
 impl Change {
     ghost use Rattle.grid_range.specs.Change.{Fits, HasLinesAfter, count_after};
+    ghost use Rattle.grid_range.specs.Band.{Within, first_line, end_line};
+    ghost use Rattle.grid_range.specs.Tearing.{IsTorn, tears};
 
     /// Whether the change can be made where there are `count` lines: its places are there, it has a
     /// line at least, and the new number of lines is a `u32`.
@@ -45,6 +49,30 @@ impl Change {
             } => count + inserted,
             Change::Delete { start, end } => count - (end - start),
             Change::Move { .. } => count,
+        }
+    }
+
+    /// Whether the change is a move after which the lines of the band don't stand side by side in
+    /// their old order. The lines are among `count`.
+    pub fn tears(&self, band: Band, count: u32) -> bool
+        ensures value { result ≡ tears self.now (first_line band) (end_line band count) }
+        ensures torn { Fits self.now count → Within band count
+            → IsTrue result ↔ IsTorn self.now count band }
+    {
+        self.tears_lines(band.first_line(), band.end_line(count))
+    }
+
+    /// The same of the lines from `first` to `past - 1`.
+    fn tears_lines(&self, first: u32, past: u32) -> bool
+        ensures { result ≡ tears self.now first past }
+    {
+        match *self {
+            Change::Insert { .. } | Change::Delete { .. } => false,
+            Change::Move { start, end, to } => {
+                !((start <= to && to <= end)
+                    || (start <= first && past <= end)
+                    || ((past <= start || end <= first) && (to <= first || past <= to)))
+            }
         }
     }
 }

@@ -1,59 +1,90 @@
-ghost use Rattle.std.specs.Prelude.{◌≡◌, ◌<◌, ℕ, List, length, IfOk};
+ghost use Rattle.std.specs.Prelude.{◌≡◌, ℕ, List, length, IfOk};
 ghost use Rattle.cell_store.specs.Places.{AreFilledPlaces};
-ghost use Rattle.cell_store.specs.Table.{filled_places};
 
-use cell_store::{Grid, TreeGrid};
+use cell_store::{Grid, MOST_FILLED, MOST_LINES};
 use cell_value::NoMemory;
-use grid_range::Area;
-use std::alloc::Global;
+use grid_range::{Area, Axis, Change};
 
-const ROWS: u32 = 1_000;
-
-const COLUMNS: u32 = 26;
-
-/// A grid takes an item only where it has fewer.
-const MOST: u64 = 1_000_000_000;
-
-/// A sheet with an item at each place.
-pub fn filled(alloc: Global) -> Result<TreeGrid<u64>, NoMemory>
-    ensures { IfOk result (λ grid. (grid.rows ≡ 1000) × (grid.cols ≡ 26)) }
-{
-    let mut grid = TreeGrid::new(alloc, ROWS, COLUMNS);
-    for row in 0..ROWS {
-        fill_row(&mut grid, row)?;
+/// Puts an item at each place, row by row or column by column.
+pub fn fill<G: Grid<u64>>(grid: &mut G, by: Axis) -> Result<(), NoMemory> {
+    match by {
+        Axis::Rows => fill_rows(grid),
+        Axis::Columns => fill_columns(grid),
     }
-    Ok(grid)
 }
 
-fn fill_row(grid: &mut TreeGrid<u64>, row: u32) -> Result<(), NoMemory>
-    requires row { row < grid.old.rows }
-    requires columns { grid.old.cols ≡ 26 }
-    ensures rows { grid.new.rows ≡ grid.old.rows }
-    ensures columns { grid.new.cols ≡ grid.old.cols }
-{
-    for column in 0..COLUMNS {
-        if grid.filled() < MOST {
+fn fill_rows<G: Grid<u64>>(grid: &mut G) -> Result<(), NoMemory> {
+    let columns = grid.cols();
+    for row in 0..grid.rows() {
+        for column in 0..columns {
             put(grid, row, column)?;
         }
     }
     Ok(())
 }
 
-fn put(grid: &mut TreeGrid<u64>, row: u32, column: u32) -> Result<(), NoMemory>
-    requires { (row < grid.old.rows) × (column < grid.old.cols) × (filled_places grid.old < 1000000000) }
-    ensures rows { grid.new.rows ≡ grid.old.rows }
-    ensures columns { grid.new.cols ≡ grid.old.cols }
-{
-    match grid.put(row, column, u64::from(row)) {
-        Ok(_) => Ok(()),
-        Err((_, fault)) => Err(fault),
+fn fill_columns<G: Grid<u64>>(grid: &mut G) -> Result<(), NoMemory> {
+    let rows = grid.rows();
+    for column in 0..grid.cols() {
+        for row in 0..rows {
+            put(grid, row, column)?;
+        }
     }
+    Ok(())
+}
+
+/// Puts an item into each row, at each column whose number leaves the same rest by `step`.
+pub fn fill_some<G: Grid<u64>>(grid: &mut G, step: u32) -> Result<(), NoMemory> {
+    let columns = grid.cols();
+    for row in 0..grid.rows() {
+        for column in 0..columns {
+            if column.checked_rem(step) == row.checked_rem(step) {
+                put(grid, row, column)?;
+            }
+        }
+    }
+    Ok(())
+}
+
+/// Puts the row's number at the place, where the sheet has it and room for it.
+fn put<G: Grid<u64>>(grid: &mut G, row: u32, column: u32) -> Result<(), NoMemory> {
+    if row < grid.rows() && column < grid.cols() && grid.filled() < MOST_FILLED {
+        if let Err((_, fault)) = grid.put(row, column, u64::from(row)) {
+            return Err(fault);
+        }
+    }
+    Ok(())
+}
+
+/// Makes the change of the rows, where it fits and leaves no more lines than a sheet can have.
+pub fn change_rows<G: Grid<u64>>(grid: &mut G, change: &Change) -> Result<(), NoMemory> {
+    let (rows, columns) = (grid.rows(), grid.cols());
+    if columns < MOST_LINES && change.fits(rows) {
+        if change.lines_after(rows) <= MOST_LINES - columns {
+            grid.change(Axis::Rows, change)?;
+        }
+    }
+    Ok(())
 }
 
 /// How many filled places the area has.
-pub fn count_places(grid: &TreeGrid<u64>, area: &Area) -> Result<usize, NoMemory>
-    ensures { IfOk result (λ count. (places : List (ℕ × ℕ)) × AreFilledPlaces area.now grid.now places
+pub fn count_places<G: Grid<u64>>(grid: &G, area: &Area) -> Result<usize, NoMemory>
+    ensures { IfOk result (λ count. (places : List (ℕ × ℕ)) × AreFilledPlaces area.now (G.table grid.now) places
         × (count ≡ length places)) }
 {
     Ok(grid.places(area)?.as_slice().len())
+}
+
+/// The sum of all items, each looked up.
+pub fn sum<G: Grid<u64>>(grid: &G) -> u64 {
+    let columns = grid.cols();
+    let mut sum: u64 = 0;
+    for row in 0..grid.rows() {
+        for column in 0..columns {
+            if let Some(item) = grid.get(row, column) {
+                sum = sum.saturating_add(*item);
+            }
+        }
+    }
+    sum
 }

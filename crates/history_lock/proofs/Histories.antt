@@ -1,5 +1,6 @@
 -- Lists that begin with others, and what holds from a place on.
-use Rattle.std.proofs.Common.{◌≡◌, ℕ, zero, suc, ◌≤◌, Bool, true, false, List, [], ◌∷◌, ◌++◌, length, drop, refl, sym, ap, ◌∙◌, arith}
+use Rattle.std.proofs.Common.{◌≡◌, ℕ, zero, suc, ◌≤◌, Bool, true, false, List, [], ◌∷◌, ◌++◌, length, drop, refl, sym}
+use Rattle.std.proofs.Common.{ap, ◌∙◌, arith}
 use Rattle.std.specs.Prelude.{All, nat_lt, if◌then◌else◌}
 use Rattle.std.proofs.lemmas.Bool.{ltb-true, ltb-false}
 use Rattle.std.proofs.lemmas.List.{append-nil, append_assoc}
@@ -17,7 +18,8 @@ module _ {E : Type 0} where
   starts_through xs ys zs p q = (q.0 ++ p.0, p.1 ∙ ap (λ l. l ++ p.0) q.1 ∙ append_assoc zs q.0 p.0)
 
   -- of two beginnings of one list the longer begins with the shorter
-  pub starts_shorter : (all xs ys : List E) → StartsWith all xs → StartsWith all ys → length ys ≤ length xs → StartsWith xs ys
+  pub starts_shorter : (all xs ys : List E) → StartsWith all xs → StartsWith all ys → length ys ≤ length xs
+      → StartsWith xs ys
   starts_shorter all xs [] p q le = starts_nothing xs
   starts_shorter all [] (y ∷ ys) p q le = absurd (omega arith)
   starts_shorter all (x ∷ xs) (y ∷ ys) p q le =
@@ -27,21 +29,24 @@ module _ {E : Type 0} where
       let rest = starts_shorter (xs ++ p.0) xs ys (p.0, refl) (q.0, tails) (omega arith) in
       (rest.0, λ k. head k ∷ rest.1 k)
 
-  pub by_length : (P : List E → List E → Type 0) (xs ys : List E) → (length xs ≤ length ys → P ys xs) → (length ys ≤ length xs → P xs ys) → P (longer xs ys) (shorter xs ys)
+  pub by_length : (P : List E → List E → Type 0) (xs ys : List E) → (length xs ≤ length ys → P ys xs)
+      → (length ys ≤ length xs → P xs ys) → P (longer xs ys) (shorter xs ys)
   by_length P xs ys less more = go (nat_lt (length xs) (length ys)) refl
     where
       go : (b : Bool) → nat_lt (length xs) (length ys) ≡ b → P (if b then ys else xs) (if b then xs else ys)
       go true e = less (let lt = ltb-true (length xs) (length ys) e in omega arith)
       go false e = more (ltb-false (length xs) (length ys) e)
 
-  pub All-drop_append : (P : E → Type 0) (n : ℕ) (xs ys : List E) → All P (drop n xs) → All P ys → All P (drop n (xs ++ ys))
+  pub All-drop_append : (P : E → Type 0) (n : ℕ) (xs ys : List E) → All P (drop n xs) → All P ys
+      → All P (drop n (xs ++ ys))
   All-drop_append P zero xs ys old new = All-append P xs ys old new
   All-drop_append P (suc n) [] ys old new = All-drop P (suc n) ys new
   All-drop_append P (suc n) (x ∷ xs) ys old new = All-drop_append P n xs ys old new
 
   All-front : (P : E → Type 0) (xs ys : List E) → All P (xs ++ ys) → All P xs
   All-front P [] ys h = All-nil P
-  All-front P (x ∷ xs) ys h = All-cons P x xs (All-head P x (xs ++ ys) h) (All-front P xs ys (All-tail P x (xs ++ ys) h))
+  All-front P (x ∷ xs) ys h = All-cons P x xs (All-head P x (xs ++ ys) h) (All-front P xs ys
+      (All-tail P x (xs ++ ys) h))
 
   pub All-drop_front : (P : E → Type 0) (n : ℕ) (xs ys : List E) → All P (drop n (xs ++ ys)) → All P (drop n xs)
   All-drop_front P zero xs ys h = All-front P xs ys h

@@ -1,26 +1,32 @@
 -- The steps that read the count of drawn numbers, and draw one.
-use Rattle.std.proofs.Common.{◌≡◌, ◌≢◌, ℕ, ◌+◌, ◌<◌, ◌≤◌, true, false, true≢false, List, length, drop, set, Option as Maybe, refl, sym, ap, ◌∙◌, subst, arith}
+use Rattle.std.proofs.Common.{◌≡◌, ◌≢◌, ℕ, ◌+◌, ◌<◌, ◌≤◌, true, false, true≢false, List, [], ◌∷◌, ◌++◌, length, drop}
+use Rattle.std.proofs.Common.{set, Option as Maybe, refl, sym, ap, ◌∙◌, subst, arith}
 use Rattle.std.specs.Prelude.{All, slice_index, slice_set, ◌==◌}
+use Rattle.std.specs.List.{Contains}
+use mathlib.Core.Logic.{dite}
+use mathlib.Core.Bool.{cond}
+use native.Mathlib.Decide.{ℕ_discrete}
 use prog.Atomic.{either}
-use Rattle.std.proofs.lemmas.List.Elements.{All-weaker}
+use Rattle.std.proofs.lemmas.List.Elements.{All-weaker, Contains-append_left, Contains-append_right}
 use Rattle.std.proofs.lemmas.List.Prefix.{front_fits}
 use Rattle.atomic_table.specs.Table.{State, Act, keeps, Valid, Allows, stepped, carried_after}
 use Rattle.atomic_table.proofs.Lists.{exchanged}
 use Rattle.history_lock.specs.declared.view.View.{View}
 use Rattle.history_lock.specs.declared.view.Stage.TheVariants.{Away}
 use Rattle.history_lock.specs.History.{NoneOf}
-use Rattle.history_lock.specs.Rule.{StandsAt, KeptAt, Kept}
+use Rattle.history_lock.specs.Rule.{StandsAt, IsDrawnBy, KeptAt, Kept}
 use Rattle.history_lock.specs.Steps.{Counted, Drew}
 use Rattle.history_lock.proofs.Histories.{All-drop_front, All-drop_more}
-use Rattle.history_lock.proofs.Views.{apart_set}
-use Rattle.history_lock.proofs.Kept.{below_more, turns_set, kept_set, kept_free}
+use Rattle.history_lock.proofs.Views.{apart_set, set_there}
+use Rattle.history_lock.proofs.Kept.{below_more, turns_set, kept_set, kept_free, drawn_set}
 use Rattle.history_lock.proofs.Turns.{away_free, away_live, stays}
 
 module _ {T E : Type 0} (list : T → List E) (pair : T → ℕ × ℕ) (caller : E → ℕ) (start : T) (most : ℕ) where
   drawn_word : (s : State (Maybe T) (View E)) (k : Kept list pair caller start most s) → slice_index s.words 1 ≡ k.drawn
   drawn_word s k = ap (λ ws. slice_index ws 1) k.words
 
-  pub counts : (slots id : ℕ) (v : View E) (c : List (ℕ × Maybe T)) → v.stage ≡ Away → Allows (Kept list pair caller start most) slots id (v, c) 1 (λ n. n) (Counted (v, c))
+  pub counts : (slots id : ℕ) (v : View E) (c : List (ℕ × Maybe T)) → v.stage ≡ Away
+      → Allows (Kept list pair caller start most) slots id (v, c) 1 (λ n. n) (Counted (v, c))
   counts slots id v c away s k len at fits =
       let n : ℕ = slice_index s.words 1 in
       let n_is : n ≡ k.drawn = drawn_word s k in
@@ -39,7 +45,8 @@ module _ {T E : Type 0} (list : T → List E) (pair : T → ℕ × ℕ) (caller 
           sleepers = k.sleepers;
           all = k.all;
           words = ap (λ ws. slice_set ws 1 (slice_index ws 1)) k.words;
-          kept = kept_free list pair caller start most k.turn k.drawn s.homes s.views k.all id v w k.kept at (away_free away) (away_free away)
+          kept = kept_free list pair caller start most k.turn k.drawn s.homes s.views k.all id v w k.kept at
+              (away_free away) (away_free away)
               (λ _. record {
                 seen = m.seen;
                 heard = m.heard;
@@ -53,13 +60,36 @@ module _ {T E : Type 0} (list : T → List E) (pair : T → ℕ × ℕ) (caller 
                 own = m.own;
               })
               (λ g. absurd (away_live away g))
-              (λ numbered. (numbered, refl));
+              (λ numbered. (numbered, refl))
+              (λ number lt. drawn_set s.views id v w number at (λ has. has) (k.kept.drawn_by number lt));
         },
         (refl, omega arith, omega arith, omega arith, below_more v.given v.count n (omega arith) m.given),
       )
 
-  drawer : (slots id : ℕ) (v : View E) (c : List (ℕ × Maybe T)) (s : State (Maybe T) (View E)) (k : Kept list pair caller start most s) (n : ℕ) → StandsAt s.views id v → v.stage ≡ Away → v.numbered ≡ false → k.drawn ≡ n → n < v.most
-      → KeptAt list pair caller start most k.turn (n + 1) s.homes (set s.views id (record v { numbered = true; number = n; count = n + 1 })) k.all × NoneOf caller n (drop (length v.start) v.seen)
+  -- the number that is drawn is the view's, and each lower one some view's
+  drawn_now : (views : List (View E)) (id : ℕ) (v : View E) (n number : ℕ) → StandsAt views id v → v.numbered ≡ false
+      → (number < n → IsDrawnBy views number) → number < n + 1
+      → IsDrawnBy (set views id (record v { numbered = true; number = n; count = n + 1 })) number
+  drawn_now views id v n number at bare before lt =
+      let w : View E = record v { numbered = true; number = n; count = n + 1 } in
+      dite (ℕ_discrete number n)
+      (λ (same : number ≡ n). (
+        id,
+        w,
+        set_there views id v w at,
+        Contains-append_left (n ∷ []) v.met number (0, omega arith, sym same),
+      ))
+      (λ (else : number ≢ n). drawn_set views id v w number at
+      (λ has. Contains-append_right (n ∷ []) v.met number
+      (subst (λ b. Contains (cond b (v.number ∷ []) [] ++ v.met) number) bare has))
+      (before (omega arith)))
+
+  drawer : (slots id : ℕ) (v : View E) (c : List (ℕ × Maybe T)) (s : State (Maybe T) (View E))
+      (k : Kept list pair caller start most s) (n : ℕ) → StandsAt s.views id v → v.stage ≡ Away → v.numbered ≡ false
+      → k.drawn ≡ n → n < v.most
+      → KeptAt list pair caller start most k.turn (n + 1) s.homes
+      (set s.views id (record v { numbered = true; number = n; count = n + 1 })) k.all
+      × NoneOf caller n (drop (length v.start) v.seen)
   drawer slots id v c s k n at away bare n_is room =
       let m = k.kept.known id v at (away_live away) in
       let counted = m.counted in
@@ -67,12 +97,18 @@ module _ {T E : Type 0} (list : T → List E) (pair : T → ℕ × ℕ) (caller 
       let w : View E = record v { numbered = true; number = n; count = n + 1 } in
       let long : length v.start ≤ length v.seen = front_fits v.seen v.start m.begun.0 m.begun.1 in
       let drawn : All (λ e. caller e < n) (drop (length v.start) k.all) =
-      subst (λ l. All (λ e. caller e < n) (drop (length l) k.all)) (sym m.start_is) (subst (λ d. All (λ e. caller e < d) (drop (length (list start)) k.all)) n_is k.kept.entries) in
-      let unused : NoneOf caller n (drop (length v.start) k.all) = All-weaker (λ e. caller e < n) (λ e. caller e ≢ n) (λ e lt same. omega arith) (drop (length v.start) k.all) drawn in (
-        kept_set list pair caller start most k.turn k.drawn k.turn (n + 1) s.homes s.homes s.views k.all k.all id w k.kept
-            (turns_set list pair caller start most k.turn s.homes s.views k.all id v w at (away_free away) (away_free away) k.kept.turns)
+      subst (λ l. All (λ e. caller e < n) (drop (length l) k.all)) (sym m.start_is)
+      (subst (λ d. All (λ e. caller e < d) (drop (length (list start)) k.all)) n_is k.kept.entries) in
+      let unused : NoneOf caller n (drop (length v.start) k.all) =
+      All-weaker (λ e. caller e < n) (λ e. caller e ≢ n) (λ e lt same. omega arith)
+      (drop (length v.start) k.all) drawn in (
+        kept_set list pair caller start most k.turn k.drawn k.turn
+            (n + 1) s.homes s.homes s.views k.all k.all id w k.kept
+            (turns_set list pair caller start most k.turn s.homes s.views k.all id v w at (away_free away)
+            (away_free away) k.kept.turns)
             (omega arith)
-            (All-weaker (λ e. caller e < k.drawn) (λ e. caller e < n + 1) (λ e lt. omega arith) (drop (length (list start)) k.all) k.kept.entries)
+            (All-weaker (λ e. caller e < k.drawn) (λ e. caller e < n + 1) (λ e lt. omega arith)
+            (drop (length (list start)) k.all) k.kept.entries)
             (λ j u _ _ u_knows. record {
               seen = u_knows.seen;
               heard = u_knows.heard;
@@ -103,15 +139,21 @@ module _ {T E : Type 0} (list : T → List E) (pair : T → ℕ × ℕ) (caller 
             let u_knows = k.kept.known j u there (λ g. true≢false (sym nu ∙ k.kept.gone j u there g)) in
             let h = u_knows.counted in
             let b = u_knows.below in
-            omega arith)),
-        All-drop_front (λ e. caller e ≢ n) (length v.start) v.seen m.seen.0 (subst (λ l. NoneOf caller n (drop (length v.start) l)) m.seen.1 unused),
+            omega arith))
+            (λ number lt. drawn_now s.views id v n number at bare (λ below. k.kept.drawn_by number (omega arith)) lt),
+        All-drop_front (λ e. caller e ≢ n) (length v.start) v.seen m.seen.0
+            (subst (λ l. NoneOf caller n (drop (length v.start) l)) m.seen.1 unused),
       )
 
-  pub draws : (slots id : ℕ) (v : View E) (c : List (ℕ × Maybe T)) (n : ℕ) → v.stage ≡ Away → v.numbered ≡ false → n < v.most
-      → Allows (Kept list pair caller start most) slots id (v, c) 1 (λ m. either (m == n) (n + 1) m) (Drew caller n (v, c))
+  pub draws : (slots id : ℕ) (v : View E) (c : List (ℕ × Maybe T)) (n : ℕ) → v.stage ≡ Away → v.numbered ≡ false
+      → n < v.most
+      → Allows (Kept list pair caller start most) slots id (v, c) 1 (λ m. either (m == n) (n + 1) m)
+      (Drew caller n (n + 1) (v, c))
   draws slots id v c n away bare room s k len at fits =
       exchanged (slice_index s.words 1) n (n + 1)
-      (λ m. (w : View E) × (a : Act (Maybe T)) × Valid s.homes c a × Kept list pair caller start most (stepped s 1 m id c w a) × Drew caller n (v, c) (slice_index s.words 1) (w, carried_after c a))
+      (λ m. (w : View E) × (a : Act (Maybe T)) × Valid s.homes c a
+      × Kept list pair caller start most (stepped s 1 m id c w a)
+      × Drew caller n (n + 1) (v, c) (slice_index s.words 1) (w, carried_after c a))
       (λ hit.
       let drawn = drawer slots id v c s k n at away bare (sym (drawn_word s k) ∙ hit) room in (
         record v { numbered = true; number = n; count = n + 1 },
@@ -125,12 +167,13 @@ module _ {T E : Type 0} (list : T → List E) (pair : T → ℕ × ℕ) (caller 
           words = ap (λ ws. slice_set ws 1 (n + 1)) k.words;
           kept = drawn.0;
         },
-        ((λ _. (refl, drawn.1)), (λ miss. absurd (miss hit))),
+        ((λ _. (refl, refl, drawn.1)), (λ miss. absurd (miss hit))),
       ))
       (λ miss. (
         v,
         keeps,
         tt,
-        stays list pair caller start most s (slice_set s.words 1 (slice_index s.words 1)) id v at k k.sleepers (ap (λ ws. slice_set ws 1 (slice_index ws 1)) k.words),
+        stays list pair caller start most s (slice_set s.words 1 (slice_index s.words 1)) id v at k k.sleepers
+            (ap (λ ws. slice_set ws 1 (slice_index ws 1)) k.words),
         ((λ hit. absurd (miss hit)), (λ _. refl)),
       ))

@@ -1,5 +1,6 @@
 -- A list of views in which one is changed, or to which one is added.
-use Rattle.std.proofs.Common.{◌≡◌, ◌≢◌, ℕ, zero, suc, List, [], ◌∷◌, ◌++◌, set, true, false, true≢false, refl, sym, ◌∙◌, subst, ⊎_elim}
+use Rattle.std.proofs.Common.{◌≡◌, ◌≢◌, ℕ, zero, suc, List, [], ◌∷◌, ◌++◌, set, true, false, true≢false, refl, sym}
+use Rattle.std.proofs.Common.{◌∙◌, subst, ⊎_elim}
 use mathlib.Core.Option.{some, some-ne-none}
 use lib.ListN.{get_elem?}
 use Rattle.atomic_table.proofs.Lists.{at_set, at_snoc}
@@ -7,15 +8,18 @@ use Rattle.history_lock.specs.declared.view.View.{View}
 use Rattle.history_lock.specs.Rule.{StandsAt, Apart}
 
 module _ {A : Type 0} (P : ℕ → A → Type 0) where
-  pub all_set : (l : List A) (id : ℕ) (w : A) → ((j : ℕ) (u : A) → j ≢ id → get_elem? l j ≡ some u → P j u) → P id w → (j : ℕ) (u : A) → get_elem? (set l id w) j ≡ some u → P j u
+  pub all_set : (l : List A) (id : ℕ) (w : A) → ((j : ℕ) (u : A) → j ≢ id → get_elem? l j ≡ some u → P j u) → P id w
+      → (j : ℕ) (u : A) → get_elem? (set l id w) j ≡ some u → P j u
   all_set l id w others mine j u at =
       ⊎_elim
       (λ (x : (j ≡ id) × (w ≡ u)). subst (λ (y : ℕ × A). P y.0 y.1) (λ i. (sym x.0 i, x.1 i)) mine)
       (λ (x : (j ≢ id) × (get_elem? l j ≡ some u)). others j u x.0 x.1)
       (at_set l id j w u at)
 
-  pub all_more : (l : List A) (w : A) → ((j : ℕ) (u : A) → get_elem? l j ≡ some u → P j u) → ((j : ℕ) → P j w) → (j : ℕ) (u : A) → get_elem? (l ++ w ∷ []) j ≡ some u → P j u
-  all_more l w others mine j u at = ⊎_elim (λ was. others j u was) (λ (new : w ≡ u). subst (P j) new (mine j)) (at_snoc l w u j at)
+  pub all_more : (l : List A) (w : A) → ((j : ℕ) (u : A) → get_elem? l j ≡ some u → P j u) → ((j : ℕ) → P j w)
+      → (j : ℕ) (u : A) → get_elem? (l ++ w ∷ []) j ≡ some u → P j u
+  all_more l w others mine j u at = ⊎_elim (λ was. others j u was) (λ (new : w ≡ u). subst (P j) new
+      (mine j)) (at_snoc l w u j at)
 
 module _ {A : Type 0} where
   pub set_there : (l : List A) (i : ℕ) (a b : A) → get_elem? l i ≡ some a → get_elem? (set l i b) i ≡ some b
@@ -25,7 +29,8 @@ module _ {A : Type 0} where
 
 module _ {E : Type 0} where
   pub apart_set : (views : List (View E)) (id : ℕ) (w : View E) → Apart views
-      → ((j : ℕ) (u : View E) → j ≢ id → StandsAt views j u → w.numbered ≡ true → u.numbered ≡ true → u.number ≢ w.number) → Apart (set views id w)
+      → ((j : ℕ) (u : View E) → j ≢ id → StandsAt views j u → w.numbered ≡ true → u.numbered ≡ true
+      → u.number ≢ w.number) → Apart (set views id w)
   apart_set views id w apart new i j v u at_i at_j =
       all_set (λ i v. v.numbered ≡ true → u.numbered ≡ true → v.number ≡ u.number → i ≡ j) views id w
       (λ i v i_else was nv nu same.

@@ -1,5 +1,5 @@
 -- What contracts say of a pass, of a turn and of a lock.
-use Rattle.std.specs.Prelude.{◌≡◌, ℕ, ◌<◌, true, List, [], ◌∷◌, drop, length, Option as Maybe, None, IfSome}
+use Rattle.std.specs.Prelude.{◌≡◌, ℕ, ◌+◌, ◌<◌, ◌≤◌, true, List, [], ◌∷◌, drop, length, Option as Maybe, None, IfSome}
 use Rattle.atomic_table.specs.declared.shared.Seat.{Seat}
 use Rattle.history_lock.specs.declared.view.View.{View}
 use Rattle.history_lock.specs.declared.view.Stage.TheVariants.{Away, Holds}
@@ -50,19 +50,22 @@ abbrev pub callers_of : {T A E : Type 0} → Lock T A E → ℕ
 callers_of lock = lock.callers
 
 -- the view knows this lock: the list and the pair of the value at the opening, and the number of callers
-pub record IsViewOf {T A E : Type 0} (list : T → List E) (pair : T → ℕ × ℕ) (lock : Lock T A E) (v : View E) : Type 0 where
+pub record IsViewOf {T A E : Type 0} (list : T → List E) (pair : T → ℕ × ℕ) (lock : Lock T A E)
+    (v : View E) : Type 0 where
   pub start_is : v.start ≡ list (opened_with lock)
   pub pair_is : v.pair ≡ pair (opened_with lock)
   pub most_is : v.most ≡ callers_of lock
 
 -- the pass is of this lock, and what it has seen begins with the list at the opening
-pub record IsPassOf {T A E : Type 0} (list : T → List E) (pair : T → ℕ × ℕ) (lock : Lock T A E) (pass : Pass E) : Type 0 where
+pub record IsPassOf {T A E : Type 0} (list : T → List E) (pair : T → ℕ × ℕ) (lock : Lock T A E)
+    (pass : Pass E) : Type 0 where
   pub table_is : pass.badge.table_id ≡ lock.table.shared.table_id
   pub view_is : IsViewOf list pair lock (view_of pass)
   pub begins : StartsWith (seen_by pass) (list (opened_with lock))
 
 -- the turn is of this lock, and what was taken begins with the list at the opening
-pub record IsTurnOf {T A E : Type 0} (list : T → List E) (pair : T → ℕ × ℕ) (lock : Lock T A E) (turn : Turn T E) : Type 0 where
+pub record IsTurnOf {T A E : Type 0} (list : T → List E) (pair : T → ℕ × ℕ) (lock : Lock T A E)
+    (turn : Turn T E) : Type 0 where
   pub table_is : turn.seat.table_id ≡ lock.table.shared.table_id
   pub view_is : IsViewOf list pair lock turn.seat.me.0
   pub begins : StartsWith (taken_by turn) (list (opened_with lock))
@@ -71,13 +74,18 @@ pub record IsTurnOf {T A E : Type 0} (list : T → List E) (pair : T → ℕ × 
   pub number_is : turn.seat.me.0.number ≡ turn.number
   pub slot_is : turn.seat.me.1 ≡ (0, None) ∷ []
 
--- the seat is new: it has this number, which is none of those that the view knows and that no entry since the opening carries, and has seen what the view has
-pub record IsDrawn {T A E : Type 0} (caller : E → ℕ) (lock : Lock T A E) (v : View E) (number : ℕ) (seat : Seat (Maybe T) (View E)) : Type 0 where
+-- the seat is new: it has this number, which is none of those that the view knows and that no entry since the opening
+-- carries, and has seen what the view has
+pub record IsDrawn {T A E : Type 0} (caller : E → ℕ) (lock : Lock T A E) (v : View E) (number : ℕ)
+    (seat : Seat (Maybe T) (View E)) : Type 0 where
   pub table_is : seat.table_id ≡ lock.table.shared.table_id
-  pub same : (seat.me.0.stage ≡ Away) × (seat.me.0.seen ≡ v.seen) × (seat.me.0.start ≡ v.start) × (seat.me.0.pair ≡ v.pair) × (seat.me.0.most ≡ v.most)
+  pub same : (seat.me.0.stage ≡ Away) × (seat.me.0.seen ≡ v.seen) × (seat.me.0.start ≡ v.start)
+      × (seat.me.0.pair ≡ v.pair) × (seat.me.0.most ≡ v.most)
   pub numbered : (seat.me.0.numbered ≡ true) × (seat.me.0.number ≡ number)
   pub nothing_given : (seat.me.0.given ≡ None) × (seat.me.1 ≡ [])
   pub fits : number < callers_of lock
+  pub counted : seat.me.0.count ≡ number + 1
+  pub next : v.count ≤ number
   pub above : v.number < number
   pub above_given : IfSome v.given (λ given. given < number)
   pub unseen : NoneOf caller number (drop (length v.start) v.seen)

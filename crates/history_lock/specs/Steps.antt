@@ -1,17 +1,24 @@
 -- What each step tells of a seat, before and after it, and of the number that it found.
-use Rattle.std.specs.Prelude.{◌≡◌, ◌≢◌, ℕ, ◌+◌, ◌<◌, ◌≤◌, true, false, List, [], ◌∷◌, drop, length, max, Option as Maybe, Some, None, IfSome}
+use Rattle.std.specs.Prelude.{◌≡◌, ◌≢◌, ℕ, ◌+◌, ◌<◌, ◌≤◌, true, false, List, [], ◌∷◌, drop, length, ◌++◌, max}
+use Rattle.std.specs.Prelude.{Option as Maybe, Some, None, IfSome}
 use Rattle.atomic_table.specs.Table.{Me}
 use Rattle.history_lock.specs.declared.view.View.{View}
 use Rattle.history_lock.specs.declared.view.Stage.TheVariants.{Away, Holds, Ready, Gone}
 use Rattle.history_lock.specs.History.{StartsWith, NoneOf, longer, shorter}
+use Rattle.history_lock.specs.Rule.{numbers_of}
 
--- a copy with no number of its own
+-- a copy with no number
 abbrev pub copy_of : {E : Type 0} → View E → View E
-copy_of v = record v { stage = Away; numbered = false; given = None }
+copy_of v = record v { stage = Away; numbered = false; met = []; given = None }
 
--- both lists were seen
+-- both lists were seen, and the other's numbers are kept
 abbrev pub joined : {E : Type 0} → View E → View E → View E
-joined v w = record v { seen = longer v.seen w.seen; heard = shorter v.seen w.seen; count = max v.count w.count }
+joined v w = record v {
+  met = v.met ++ numbers_of w;
+  seen = longer v.seen w.seen;
+  heard = shorter v.seen w.seen;
+  count = max v.count w.count;
+}
 
 -- a split gave the other's number
 abbrev pub noted : {E : Type 0} → View E → View E → View E
@@ -19,7 +26,19 @@ noted v w = record v { count = max v.count w.count; given = Some w.number }
 
 -- what a join leaves of the other view
 abbrev pub gone : {E : Type 0} → View E
-gone = record { stage = Gone; numbered = false; number = 0; seen = []; heard = []; count = 0; given = None; start = []; pair = (0, 0); most = 0 }
+gone = record {
+  stage = Gone;
+  numbered = false;
+  number = 0;
+  met = [];
+  seen = [];
+  heard = [];
+  count = 0;
+  given = None;
+  start = [];
+  pair = (0, 0);
+  most = 0;
+}
 
 -- the only view of a pass
 abbrev pub the_view : {E : Type 0} → List (View E) → View E
@@ -33,10 +52,12 @@ abbrev pub Opened : {T E : Type 0} → Me (Maybe T) (View E) → Me (Maybe T) (V
 Opened before after = after ≡ (record before.0 { stage = Holds }, (0, None) ∷ [])
 
 -- with 0 found the turn is taken. The list begins with what was seen, and has no further entry of the own number
-abbrev pub Took : {T E : Type 0} → (T → List E) → (T → ℕ × ℕ) → (E → ℕ) → Me (Maybe T) (View E) → ℕ → Me (Maybe T) (View E) → Type 0
+abbrev pub Took : {T E : Type 0} → (T → List E) → (T → ℕ × ℕ) → (E → ℕ) → Me (Maybe T) (View E) → ℕ
+    → Me (Maybe T) (View E) → Type 0
 Took {T} list pair caller before found after =
     (found ≡ 0 → (value : T) × (after ≡ (record before.0 { stage = Holds; seen = list value }, (0, Some value) ∷ []))
-    × StartsWith (list value) before.0.seen × NoneOf caller before.0.number (drop (length before.0.seen) (list value)) × (pair value ≡ before.0.pair))
+    × StartsWith (list value) before.0.seen × NoneOf caller before.0.number (drop (length before.0.seen) (list value))
+    × (pair value ≡ before.0.pair))
     × (found ≢ 0 → after ≡ before)
 
 -- the list of the value in the slot that is held
@@ -59,10 +80,12 @@ Counted before found after =
     (after ≡ (record before.0 { count = found }, before.1)) × (before.0.count ≤ found) × (found ≤ before.0.most)
     × (before.0.number < found) × IfSome before.0.given (λ number. number < found)
 
--- with the expected count found, it is the number that is drawn, and no entry that was added since the opening has it
-abbrev pub Drew : {T E : Type 0} → (E → ℕ) → ℕ → Me (Maybe T) (View E) → ℕ → Me (Maybe T) (View E) → Type 0
-Drew caller expected before found after =
-    (found ≡ expected → (after ≡ (record before.0 { numbered = true; number = expected; count = expected + 1 }, before.1))
+-- with the expected count found, the count goes up by one. The number that is drawn is the count that was found, and no
+-- entry that was added since the opening has it
+abbrev pub Drew : {T E : Type 0} → (E → ℕ) → ℕ → ℕ → Me (Maybe T) (View E) → ℕ → Me (Maybe T) (View E) → Type 0
+Drew caller expected next before found after =
+    (found ≡ expected → (next ≡ expected + 1)
+    × (after ≡ (record before.0 { numbered = true; number = expected; count = next }, before.1))
     × NoneOf caller expected (drop (length before.0.start) before.0.seen))
     × (found ≢ expected → after ≡ before)
 

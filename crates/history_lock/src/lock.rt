@@ -1,4 +1,5 @@
-ghost use Rattle.std.specs.Prelude.{◌≡◌, ◌≢◌, ℕ, ◌+◌, ◌<◌, ◌≤◌, true, [], ◌∷◌, drop, length, Some, None, IfOk, IfErr, IfSome};
+ghost use Rattle.std.specs.Prelude.{◌≡◌, ◌≢◌, ℕ, ◌+◌, ◌<◌, ◌≤◌, true, [], ◌∷◌, drop, length, Some, None, IfOk, IfErr};
+ghost use Rattle.std.specs.Prelude.{IfSome};
 ghost use Rattle.history_lock.specs.declared.view.Stage.TheVariants.{Away, Holds};
 ghost use Rattle.history_lock.specs.History.{StartsWith, NoneOf, AllOf, longer};
 
@@ -40,8 +41,11 @@ pub struct Lock<T: Told, A: Allocator = Global> {
 }
 
 impl<T: Told, A: Allocator> Lock<T, A> {
+    ghost use Rattle.history_lock.specs.Rule.{OneNumberDrawn};
     ghost use Rattle.history_lock.specs.Steps.{Recounted};
-    ghost use Rattle.history_lock.specs.Passes.{seen_by, number_of, given_by, count_of, taken_by, turn_number_of, turn_given_by, turn_count_of, opened_with, callers_of, IsViewOf, IsPassOf, IsTurnOf, IsDrawn};
+    ghost use Rattle.history_lock.specs.Passes.{seen_by, number_of, given_by, count_of, taken_by, turn_number_of};
+    ghost use Rattle.history_lock.specs.Passes.{turn_given_by, turn_count_of, opened_with, callers_of, IsViewOf};
+    ghost use Rattle.history_lock.specs.Passes.{IsPassOf, IsTurnOf, IsDrawn};
 
     /// A lock round the value, for this many callers, and the pass of number 0, which has seen the value's list.
     ///
@@ -59,6 +63,9 @@ impl<T: Told, A: Allocator> Lock<T, A> {
         ensures seen { IfOk result (λ made. seen_by made.1 ≡ T.list value) }
         ensures number { IfOk result (λ made. number_of made.1 ≡ 0) }
         ensures drawn { IfOk result (λ made. (count_of made.1 ≡ 1) × (given_by made.1 ≡ None)) }
+
+        // No lock is born spent: what holds of a new lock leaves each number but the first to be drawn.
+        ensures one_drawn { OneNumberDrawn T.list T.pair T.caller value callers }
         ensures err { IfErr result (λ failed. failed.0 ≡ value) }
     {
         let about = (Snapshot::of(&value), callers);
@@ -162,12 +169,12 @@ impl<T: Told, A: Allocator> Lock<T, A> {
         }
     }
 
-    /// A pass with a new number, below the number of callers and above each that this pass gave before, that has
+    /// A pass with the next number, below the number of callers and above each that this pass gave before, that has
     /// seen the same list. The pass itself then knows the number that it gave.
     ///
     /// # Errors
     ///
-    /// [`Spent`] where all numbers were drawn. The pass then knows that count.
+    /// [`Spent`] where all numbers were drawn, each of them for some pass. The pass then knows that count.
     pub fn split<R: Wait>(&self, rt: &R, pass: &mut Pass<T::Entry>) -> Result<Pass<T::Entry>, Spent>
         requires { IsPassOf T.list T.pair self.now pass.old }
         ensures old { IsPassOf T.list T.pair self.now pass.new }
@@ -175,6 +182,12 @@ impl<T: Told, A: Allocator> Lock<T, A> {
         ensures count { count_of pass.old ≤ count_of pass.new }
         ensures new { IfOk result (λ new. IsPassOf T.list T.pair self.now new) }
         ensures seen { IfOk result (λ new. seen_by new ≡ seen_by pass.old) }
+
+        // Numbers are drawn one after the other: it is at least the count that the pass knew, and both passes then
+        // know one more.
+        ensures next { IfOk result (λ new. count_of pass.old ≤ number_of new) }
+        ensures counted { IfOk result (λ new. (count_of new ≡ number_of new + 1)
+            × (count_of pass.new ≡ number_of new + 1)) }
 
         // The number is new: it isn't the old pass's, it is above each that this pass gave, and no entry that was seen
         // to be added since the opening has it.
@@ -211,6 +224,7 @@ impl<T: Told, A: Allocator> Lock<T, A> {
         ensures same { Recounted seat.old.me.0 seat.new.me.0 × (seat.new.me.1 ≡ []) }
         ensures count { seat.old.me.0.count ≤ seat.new.me.0.count }
         ensures new { IfOk result (λ drawn. IsDrawn T.caller self.now seat.old.me.0 drawn.0 drawn.1) }
+        ensures counted { IfOk result (λ drawn. seat.new.me.0.count ≡ drawn.0 + 1) }
         ensures given { IfOk result (λ drawn. seat.new.me.0.given ≡ Some drawn.0) }
         ensures spent { IfErr result (λ _. seat.new.me.0.count ≡ callers_of self.now) }
         ensures none_given { IfErr result (λ _. seat.new.me.0.given ≡ seat.old.me.0.given) }

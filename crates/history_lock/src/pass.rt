@@ -44,7 +44,8 @@ impl<E> Pass<E> {
 
     // A type with a `Drop` is taken apart only in its own `impl`.
     pub(crate) fn into_parts(self) -> (u32, Badge<View<E>>)
-        ensures { (result.0 ≡ self.number) × (result.1.table_id ≡ self.badge.table_id) × (result.1.views ≡ self.badge.views) }
+        ensures { (result.0 ≡ self.number) × (result.1.table_id ≡ self.badge.table_id)
+            × (result.1.views ≡ self.badge.views) }
     {
         let Self { number, badge } = self;
         (number, badge)

@@ -1,6 +1,7 @@
 // The rule that the table of a lock keeps, and what each step tells. These types are for the proofs alone.
 ghost use Rattle.history_lock.specs.Rule.{Kept, opening_view};
-ghost use Rattle.history_lock.specs.Steps.{Opened, Took, Left, Counted, Drew, Settled, Readied, Stayed, copy_of, joined, noted, gone};
+ghost use Rattle.history_lock.specs.Steps.{Opened, Took, Left, Counted, Drew, Settled, Readied, Stayed, copy_of};
+ghost use Rattle.history_lock.specs.Steps.{joined, noted, gone};
 
 use crate::told::Told;
 use crate::view::View;
@@ -49,7 +50,7 @@ impl<T: Told> Play<Option<T>, View<T::Entry>> for Counts {
 pub(crate) struct Draws;
 
 impl<T: Told> Play<Option<T>, View<T::Entry>> for Draws {
-    ghost then = { λ step before found after. Drew T.caller step.first before found after };
+    ghost then = { λ step before found after. Drew T.caller step.first step.second before found after };
 }
 
 /// The list that was seen is compared with the one that came in by a join.

@@ -20,6 +20,8 @@ limits_of book = book.limits
 abbrev pub Looks : ℕ → List Note → List Note → Type 0
 Looks caller before after = StartsWith after before × NoneOf caller_of caller (drop (length before) after)
 
--- a call of this caller: others may have added to the notes that it had seen, then its own note follows, with so many before it
+-- a call of this caller: others may have added to the notes that it had seen, then its own note follows, with so many
+-- before it
 abbrev pub Adds : ℕ → ℕ → ℕ → List Note → List Note → Type 0
-Adds caller amount at before after = (told : List Note) × Looks caller before told × (at ≡ length told) × (after ≡ told ++ note caller amount ∷ [])
+Adds caller amount at before after = (told : List Note) × Looks caller before told × (at ≡ length told) × (after ≡ told
+    ++ note caller amount ∷ [])

@@ -1,10 +1,10 @@
-ghost use Rattle.std.specs.Prelude.{◌≡◌, ◌++◌, [], ◌∷◌, length, OnErr, IfOk, IfSome, IfNone};
-ghost use Rattle.history_lock.specs.Passes.{IsPassOf, seen_by, number_of};
+ghost use Rattle.std.specs.Prelude.{◌≡◌, ◌≢◌, ◌++◌, [], ◌∷◌, length, OnErr, IfOk, IfSome, IfNone};
+ghost use Rattle.history_lock.specs.Passes.{IsPassOf, seen_by, number_of, given_by, count_of};
 ghost use Rattle.history_notes.specs.Notes.{notes_of, caller_of, limits_of, note, Adds, Looks};
 
 use crate::Pass;
 use cell_value::NoMemory;
-use history_lock::{Lock, Told};
+use history_lock::{Lock, Spent, Told};
 use std::sync::Wait;
 
 /// What a caller left.
@@ -64,7 +64,8 @@ impl<K> Book<K> {
     ///
     /// [`NoMemory`] where memory runs out; the notes are as they were.
     pub fn add(&mut self, caller: u32, amount: u64) -> Result<u64, NoMemory>
-        ensures ok { IfOk result (λ at. (at ≡ length (notes_of self.old)) × (notes_of self.new ≡ notes_of self.old ++ note caller amount ∷ [])) }
+        ensures ok { IfOk result (λ at. (at ≡ length (notes_of self.old))
+            × (notes_of self.new ≡ notes_of self.old ++ note caller amount ∷ [])) }
         ensures err { OnErr result (notes_of self.new ≡ notes_of self.old) }
         ensures limits { limits_of self.new ≡ limits_of self.old }
     {
@@ -83,7 +84,9 @@ pub fn call<K, R: Wait>(
     amount: u64,
 ) -> (Pass, Option<u64>)
     requires { IsPassOf notes_of limits_of lock.now pass }
-    ensures pass { IsPassOf notes_of limits_of lock.now result.0 × (number_of result.0 ≡ number_of pass) }
+    ensures pass { IsPassOf notes_of limits_of lock.now result.0 }
+    ensures number { number_of result.0 ≡ number_of pass }
+    ensures drawn { (count_of result.0 ≡ count_of pass) × (given_by result.0 ≡ given_by pass) }
     ensures added { IfSome result.1 (λ at. Adds (number_of pass) amount at (seen_by pass) (seen_by result.0)) }
     ensures not_added { IfNone result.1 (Looks (number_of pass) (seen_by pass) (seen_by result.0)) }
 {
@@ -91,4 +94,28 @@ pub fn call<K, R: Wait>(
     let (turn, mut book) = lock.take(rt, pass);
     let at = book.add(caller, amount).ok();
     (lock.leave(turn, book), at)
+}
+
+/// Two passes more, with a call before the second. The three numbers differ: a pass knows the greatest that it gave,
+/// and a call changes nothing of that.
+///
+/// # Errors
+///
+/// [`Spent`] where all numbers were drawn.
+pub fn two_more<K, R: Wait>(
+    rt: &R,
+    lock: &Lock<Book<K>>,
+    mut pass: Pass,
+    amount: u64,
+) -> Result<(Pass, Pass, Pass), Spent>
+    requires { IsPassOf notes_of limits_of lock.now pass }
+    ensures passes { IfOk result (λ all. IsPassOf notes_of limits_of lock.now all.0
+        × IsPassOf notes_of limits_of lock.now all.1 × IsPassOf notes_of limits_of lock.now all.2) }
+    ensures old { IfOk result (λ all. (number_of all.0 ≢ number_of all.1) × (number_of all.0 ≢ number_of all.2)) }
+    ensures new { IfOk result (λ all. number_of all.1 ≢ number_of all.2) }
+{
+    let first = lock.split(rt, &mut pass)?;
+    let (mut pass, _) = call(rt, lock, pass, amount);
+    let second = lock.split(rt, &mut pass)?;
+    Ok((pass, first, second))
 }

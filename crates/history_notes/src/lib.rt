@@ -8,7 +8,7 @@ mod book;
 #[cfg(test)]
 mod tests;
 
-pub use book::{Book, Note, call};
+pub use book::{Book, Note, call, two_more};
 
 /// A pass for the lock of a book, whatever the book keeps beside its notes.
 pub type Pass = history_lock::Pass<Note>;

@@ -2,7 +2,7 @@ ghost use Rattle.std.specs.Prelude.{◌≡◌, ◌<◌, IfOk};
 ghost use Rattle.history_lock.specs.Passes.{IsPassOf};
 ghost use Rattle.history_notes.specs.Notes.{notes_of, limits_of};
 
-use crate::{Book, Note, Pass, call};
+use crate::{Book, Note, Pass, call, two_more};
 use cell_value::NoMemory;
 use history_lock::{Lock, Spent, Told};
 use std::alloc::Global;
@@ -42,39 +42,16 @@ fn are_counted(notes: &[Note], caller: u32, count: u64) -> bool {
 }
 
 #[test]
-fn one_pass_alone_sees_its_own_notes(rt: HostRuntime) -> Result<(), Fail> {
-    let (lock, pass) = open(rt.alloc(), Vec::new(rt.alloc()), 1)?;
-    let (pass, first) = call(&rt, &lock, pass, 5);
-    let (pass, second) = call(&rt, &lock, pass, 6);
-    let book = lock.close(&rt, pass);
-    assert!(rt; first == Some(0) && second == Some(1) && book.length() == 2);
-    assert!(rt;
-        book.notes()
-            == [
-                Note {
-                    caller: 0,
-                    amount: 5
-                },
-                Note {
-                    caller: 0,
-                    amount: 6
-                }
-            ]
-            .as_slice()
-    );
-    Ok(())
-}
-
-#[test]
-fn two_callers_have_two_numbers(rt: HostRuntime) -> Result<(), Fail> {
-    let (lock, mut pass) = open(rt.alloc(), Vec::new(rt.alloc()), 2)?;
-    let given = lock.split(&rt, &mut pass);
+fn three_callers_have_three_numbers(rt: HostRuntime) -> Result<(), Fail> {
+    let (lock, pass) = open(rt.alloc(), Vec::new(rt.alloc()), 3)?;
+    let Ok((mut pass, first, second)) = two_more(&rt, &lock, pass, 5) else {
+        panic!(rt; "three callers have three numbers")
+    };
     let further = lock.split(&rt, &mut pass);
-    let number = pass.number();
-    let _book = lock.close(&rt, pass);
-    assert!(rt; number == 0 && further.is_err());
+    let numbers = (pass.number(), first.number(), second.number());
+    let book = lock.close(&rt, pass);
+    assert!(rt; numbers == (0, 1, 2) && further.is_err() && book.length() == 1);
     assert!(rt; format!(in rt.alloc(); "{Spent}")?.as_str() == "all numbers were given");
-    assert!(rt; given.is_ok_and(|new| new.number() == 1));
     Ok(())
 }
 

@@ -1,5 +1,10 @@
 -- What the calls of a disk do to its image, and what a crash may leave of it.
-use Rattle.std.specs.Prelude.{◌<◌, ◌≡◌, ◌⊎◌, ℕ, ◌+◌, ◌≤◌, max, List, ◌++◌, length, take, drop, Result, OnErr, IfErr}
+use Rattle.std.specs.Prelude.{◌≡◌, ◌⊎◌, ℕ, ◌+◌, ◌^◌, ◌≤◌, max, List, ◌++◌, length, take, drop, Result, OnErr, IfErr}
+use Rattle.cell_value.specs.FaultCount.{Rose}
+
+-- the most bytes that an image has
+abbrev pub most_bytes : ℕ
+most_bytes = 2 ^ 62
 
 -- new is old with these bytes from this place on
 abbrev pub Holds : List ℕ → ℕ → List ℕ → List ℕ → Type 0
@@ -28,34 +33,35 @@ pub record Elapses (before now : ℕ) (past since : ℕ → List ℕ → Type 0)
   pub keeps : (t : ℕ) (image : List ℕ) → t ≤ before → past t image → since t image
 
 -- A crash at any moment since old leaves an image that has P.
-pub record LeavesOnly {D : Type 0} (moment : D → ℕ) (left_since : D → ℕ → List ℕ → Type 0) (old new : D) (P : List ℕ → Type 0) : Type 0 where
+pub record LeavesOnly {D : Type 0} (moment : D → ℕ) (left_since : D → ℕ → List ℕ → Type 0) (old new : D)
+    (P : List ℕ → Type 0) : Type 0 where
   pub later : moment old ≤ moment new
   pub each : (image : List ℕ) → left_since new (moment old) image → P image
   -- for a run that began earlier
   pub before : (t : ℕ) (image : List ℕ) → t ≤ moment old → left_since new t image → left_since old t image ⊎ P image
 
--- the last value of a count of faults, at which it stands still
-abbrev pub last_count : ℕ
-last_count = 18446744073709551615
-
--- the count of faults never falls, and where the call failed it rose, or stands at its last value
-pub record Rose {T E : Type 0} (before now : ℕ) (result : Result T E) : Type 0 where
+-- the count of faults never falls, and rose where the call failed
+pub record RisesAtErr {T E : Type 0} (before now : ℕ) (result : Result T E) : Type 0 where
   pub later : before ≤ now
-  pub failed : OnErr result ((before < now) ⊎ (now ≡ last_count))
+  pub failed : OnErr result (Rose before now)
 
--- the count of faults never falls, and where the call failed by this fault it rose, or stands at its last value
-pub record RoseBy {T E : Type 0} (fault : E) (before now : ℕ) (result : Result T E) : Type 0 where
+-- the count of faults never falls, and rose where the call failed by this fault
+pub record RisesAtFault {T E : Type 0} (fault : E) (before now : ℕ) (result : Result T E) : Type 0 where
   pub later : before ≤ now
-  pub failed : IfErr result (λ given. given ≡ fault → (before < now) ⊎ (now ≡ last_count))
+  pub failed : IfErr result (λ given. given ≡ fault → Rose before now)
 
 -- A crash at any moment since old leaves an image that has P, and so does a crash at the new moment.
-pub record Stays {D : Type 0} (moment : D → ℕ) (left_since : D → ℕ → List ℕ → Type 0) (may_leave : D → List ℕ → Type 0) (old new : D) (P : List ℕ → Type 0) : Type 0 where
+pub record Stays {D : Type 0} (moment : D → ℕ) (left_since : D → ℕ → List ℕ → Type 0) (may_leave : D → List ℕ → Type 0)
+    (old new : D) (P : List ℕ → Type 0) : Type 0 where
   pub moments : LeavesOnly moment left_since old new P
   pub now : (image : List ℕ) → may_leave new image → P image
 
--- A run that only read: the bytes are the same, and a crash at any moment of it leaves an image that it might have left before.
-pub record OnlyRead {D : Type 0} (seen : D → List ℕ) (may_leave : D → List ℕ → Type 0) (moment : D → ℕ) (left_since : D → ℕ → List ℕ → Type 0) (old new : D) : Type 0 where
+-- A run that only read: the bytes are the same, and a crash at any moment of it leaves an image that it might have left
+-- before.
+pub record OnlyRead {D : Type 0} (seen : D → List ℕ) (may_leave : D → List ℕ → Type 0) (moment : D → ℕ)
+    (left_since : D → ℕ → List ℕ → Type 0) (old new : D) : Type 0 where
   pub same : seen new ≡ seen old
   pub no_more : (image : List ℕ) → may_leave new image → may_leave old image
   pub later : moment old ≤ moment new
-  pub nothing_else : (t : ℕ) (image : List ℕ) → t ≤ moment old → left_since new t image → left_since old t image ⊎ may_leave old image
+  pub nothing_else : (t : ℕ) (image : List ℕ) → t ≤ moment old → left_since new t image
+      → left_since old t image ⊎ may_leave old image

@@ -1,5 +1,7 @@
 pub mod Disk
+pub mod Failing
 pub mod Laws
 pub mod Log
+pub mod Memory
 pub mod Recorded
 pub mod Records

@@ -1,5 +1,6 @@
 -- What a log keeps on its disk.
-use Rattle.std.specs.Prelude.{◌≡◌, ◌⊎◌, ◌<◌, ◌≤◌, ◌^◌, ℕ, Bool, true, false, List, [], ◌∷◌, ◌++◌, length, Option, Some, None}
+use Rattle.std.specs.Prelude.{◌≡◌, ◌⊎◌, ◌<◌, ◌≤◌, ◌^◌, ℕ, Bool, true, false, List, [], ◌∷◌, ◌++◌, length, Option}
+use Rattle.std.specs.Prelude.{Some, None}
 use Rattle.std.specs.List.{concat}
 use Rattle.journal_disk.specs.Records.{HasPieces, framed, records, AllFit}
 
@@ -28,10 +29,12 @@ pub record IsWhole (piece behind : List ℕ) : Type 0 where
 -- The images behind a log's records: a closed gate, or a gate in doubt before one whole piece.
 abbrev pub Ends : (List ℕ → Type 0) → List ℕ → Bool → Option (List ℕ) → Type 0
 Ends images front in_doubt None = (in_doubt ≡ false) × Each images (IsClosedBehind front)
-Ends images front in_doubt (Some piece) = (in_doubt ≡ true) × ((behind : List ℕ) × IsWhole piece behind × Each images (IsGated front behind))
+Ends images front in_doubt (Some piece) = (in_doubt ≡ true) × ((behind : List ℕ) × IsWhole piece behind
+    × Each images (IsGated front behind))
 
 -- A log keeps these pieces, and nothing or one piece whose gate is open to doubt.
-pub record Keeps (images : List ℕ → Type 0) (end size : ℕ) (in_doubt : Bool) (pieces : List (List ℕ)) (doubted : Option (List ℕ)) : Type 0 where
+pub record Keeps (images : List ℕ → Type 0) (end size : ℕ) (in_doubt : Bool) (pieces : List (List ℕ))
+    (doubted : Option (List ℕ)) : Type 0 where
   pub fit : AllFit pieces
   pub place : end ≡ length (records pieces [])
   pub bytes : size ≡ length (concat pieces)

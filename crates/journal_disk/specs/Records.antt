@@ -11,7 +11,7 @@ framed gate piece rest = gate ∷ (to_be_bytes w64 (length piece) ++ (piece ++ r
 pub record IsRecord (image piece rest : List ℕ) : Type 0 where
   pub split : image ≡ framed 1 piece rest
   pub fits : length piece < 2 ^ 64
-  pub behind : 0 < length rest
+  pub followed : 0 < length rest
 
 -- no record stands there
 abbrev pub NoRecord : List ℕ → Type 0
@@ -34,18 +34,20 @@ AllFit (piece ∷ pieces) = (length piece < 2 ^ 64) × AllFit pieces
 
 -- an image has one list of pieces
 abbrev pub OneListOfPieces : Type 0
-OneListOfPieces = (image : List ℕ) (pieces others : List (List ℕ)) → HasPieces image pieces → HasPieces image others → pieces ≡ others
+OneListOfPieces = (image : List ℕ) (pieces others : List (List ℕ)) → HasPieces image pieces → HasPieces image others
+    → pieces ≡ others
 
 -- Where the byte at the end of the records isn't 1, the bytes behind it don't change the pieces.
 abbrev pub ClosedGateEnds : Type 0
-ClosedGateEnds = (pieces : List (List ℕ)) (gate : ℕ) (rest : List ℕ) → AllFit pieces → (gate ≡ 1 → ⊥) → HasPieces (records pieces (gate ∷ rest)) pieces
+ClosedGateEnds = (pieces : List (List ℕ)) (gate : ℕ) (rest : List ℕ) → AllFit pieces → (gate ≡ 1 → ⊥)
+    → HasPieces (records pieces (gate ∷ rest)) pieces
 
 -- Up to a place the image is records that hold so many bytes, and something stands there.
 pub record IsFront (image : List ℕ) (place held : ℕ) : Type 0 where
   pub pieces : List (List ℕ)
   pub rest : List ℕ
   pub split : image ≡ records pieces rest
-  pub behind : 0 < length rest
+  pub followed : 0 < length rest
   pub fit : AllFit pieces
   pub at : place ≡ length (records pieces [])
   pub bytes : held ≡ length (concat pieces)

@@ -1,5 +1,6 @@
-ghost use Rattle.std.specs.Prelude.{◌≡◌, ◌+◌, ◌-◌, ◌≤◌, ◌<◌, ◌^◌, ◌++◌, List, ℕ, length, take, drop, IfOk, OnOk, OnErr, IsErr};
-ghost use Rattle.journal_disk.specs.Disk.{Only, Follows, Torn, Holds, Elapses, Rose};
+ghost use Rattle.std.specs.Prelude.{◌≡◌, ◌+◌, ◌-◌, ◌≤◌, ◌<◌, ◌++◌, List, ℕ, length, take, drop, IfOk, OnOk};
+ghost use Rattle.std.specs.Prelude.{OnErr, IsErr};
+ghost use Rattle.journal_disk.specs.Disk.{Only, Follows, Torn, Holds, Elapses, RisesAtErr, most_bytes};
 
 use cell_value::Failed;
 
@@ -33,8 +34,9 @@ pub trait Disk {
         ensures size { IfOk result (λ bytes. bytes ≡ length (seen self.old)) }
         ensures seen { seen self.new ≡ seen self.old }
         ensures crash { (image : List ℕ) → may_leave self.new image → may_leave self.old image }
-        ensures time { Elapses (moment self.old) (moment self.new) (left_since self.old) (left_since self.new) (may_leave self.new) }
-        ensures cause { Rose (faults self.old) (faults self.new) result };
+        ensures time { Elapses (moment self.old) (moment self.new) (left_since self.old) (left_since self.new)
+            (may_leave self.new) }
+        ensures cause { RisesAtErr (faults self.old) (faults self.new) result };
 
     /// Reads the bytes from place `at` on into the front of `into`, and tells how many.
     ///
@@ -49,8 +51,9 @@ pub trait Disk {
         ensures some { IfOk result (λ count. at < length (seen self.old) → 0 < length into.old → 0 < count) }
         ensures seen { seen self.new ≡ seen self.old }
         ensures crash { (image : List ℕ) → may_leave self.new image → may_leave self.old image }
-        ensures time { Elapses (moment self.old) (moment self.new) (left_since self.old) (left_since self.new) (may_leave self.new) }
-        ensures cause { Rose (faults self.old) (faults self.new) result };
+        ensures time { Elapses (moment self.old) (moment self.new) (left_since self.old) (left_since self.new)
+            (may_leave self.new) }
+        ensures cause { RisesAtErr (faults self.old) (faults self.new) result };
 
     /// Writes bytes from place `at` on, over what is there and past the end.
     ///
@@ -62,11 +65,12 @@ pub trait Disk {
         requires { at ≤ length (seen self.old) }
         ensures written { OnOk result (Holds (seen self.old) at bytes.now (seen self.new)) }
         ensures partly { OnErr result ((count : ℕ) × Holds (seen self.old) at (take count bytes.now) (seen self.new)) }
-        ensures too_large { 2 ^ 62 < at + length bytes.now → IsErr result × (seen self.new ≡ seen self.old)
+        ensures too_large { most_bytes < at + length bytes.now → IsErr result × (seen self.new ≡ seen self.old)
             × ((image : List ℕ) → may_leave self.new image → may_leave self.old image) }
         ensures crash { Follows (Torn at (length bytes.now)) (may_leave self.old) (may_leave self.new) }
-        ensures time { Elapses (moment self.old) (moment self.new) (left_since self.old) (left_since self.new) (may_leave self.new) }
-        ensures cause { Rose (faults self.old) (faults self.new) result };
+        ensures time { Elapses (moment self.old) (moment self.new) (left_since self.old) (left_since self.new)
+            (may_leave self.new) }
+        ensures cause { RisesAtErr (faults self.old) (faults self.new) result };
 
     /// Settles what was written: after it a crash leaves what a read gives.
     ///
@@ -77,17 +81,19 @@ pub trait Disk {
         ensures durable { OnOk result (Only (seen self.old) (may_leave self.new)) }
         ensures seen { seen self.new ≡ seen self.old }
         ensures crash { (image : List ℕ) → may_leave self.new image → may_leave self.old image }
-        ensures time { Elapses (moment self.old) (moment self.new) (left_since self.old) (left_since self.new) (may_leave self.new) }
-        ensures cause { Rose (faults self.old) (faults self.new) result };
+        ensures time { Elapses (moment self.old) (moment self.new) (left_since self.old) (left_since self.new)
+            (may_leave self.new) }
+        ensures cause { RisesAtErr (faults self.old) (faults self.new) result };
 
     /// What reads give is one of the images.
     ghost seen_is_image: { (disk : Self) → may_leave disk (seen disk) };
 
     /// No image has more than 2^62 bytes.
-    ghost bounded: { (disk : Self) (image : List ℕ) → may_leave disk image → length image ≤ 2 ^ 62 };
+    ghost bounded: { (disk : Self) (image : List ℕ) → may_leave disk image → length image ≤ most_bytes };
 
     /// This moment is one of those since an earlier one.
-    ghost counts_now: { (disk : Self) (since : ℕ) (image : List ℕ) → since ≤ moment disk → may_leave disk image → left_since disk since image };
+    ghost counts_now: { (disk : Self) (since : ℕ) (image : List ℕ) → since ≤ moment disk → may_leave disk image
+        → left_since disk since image };
 
     /// Since this moment there is no other.
     ghost only_now: { (disk : Self) (image : List ℕ) → left_since disk (moment disk) image → may_leave disk image };

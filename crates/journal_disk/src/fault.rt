@@ -1,4 +1,6 @@
 use cell_value::{Failed, NoMemory};
+use std::error::Error;
+use std::fmt;
 
 /// Why a log couldn't be opened or read.
 #[derive(Clone, Copy, Debug, PartialEq, Eq)]
@@ -30,3 +32,14 @@ impl From<NoMemory> for LogFault {
         LogFault::NoMemory
     }
 }
+
+impl fmt::Display for LogFault {
+    fn fmt<W: fmt::Write>(&self, f: &mut fmt::Formatter<W>) -> fmt::Result {
+        f.write_str(match self {
+            LogFault::Failed => "the disk failed",
+            LogFault::NoMemory => "memory ran out",
+        })
+    }
+}
+
+impl Error for LogFault {}

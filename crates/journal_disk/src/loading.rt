@@ -1,6 +1,7 @@
-ghost use Rattle.std.specs.Prelude.{◌≡◌, ◌⊎◌, ◌<◌, ◌≤◌, ◌+◌, ◌^◌, ◌++◌, List, ℕ, length, take, drop, OnOk, OnErr, IfOk, IfErr, MatchOption, IfSome};
+ghost use Rattle.std.specs.Prelude.{◌≡◌, ◌⊎◌, ◌<◌, ◌≤◌, ◌+◌, ◌^◌, ◌++◌, List, ℕ, length, take, drop, OnOk, OnErr};
+ghost use Rattle.std.specs.Prelude.{IfOk, IfErr, MatchOption, IfSome};
 ghost use Rattle.std.specs.List.{concat};
-ghost use Rattle.journal_disk.specs.Disk.{OnlyRead, Rose, RoseBy};
+ghost use Rattle.journal_disk.specs.Disk.{OnlyRead, RisesAtErr, RisesAtFault};
 ghost use Rattle.journal_disk.specs.Records.{HasPieces, IsRecord, NoRecord};
 
 use crate::Disk;
@@ -15,10 +16,12 @@ const ROOM: u64 = 4096;
 /// leaves fewer of them there.
 pub fn read_pieces<D: Disk>(disk: &mut D, most: u64, into: &mut Bytes) -> Result<(), LogFault>
     requires some { 0 < length (D.seen disk.old) }
-    ensures joined { OnOk result ((pieces : List (List ℕ)) → HasPieces (D.seen disk.old) pieces → into.new ≡ into.old ++ take most (concat pieces)) }
-    ensures fewer { OnErr result ((pieces : List (List ℕ)) → HasPieces (D.seen disk.old) pieces → (count : ℕ) × (count ≤ most) × (into.new ≡ into.old ++ take count (concat pieces))) }
+    ensures joined { OnOk result ((pieces : List (List ℕ)) → HasPieces (D.seen disk.old) pieces → into.new ≡ into.old
+        ++ take most (concat pieces)) }
+    ensures fewer { OnErr result ((pieces : List (List ℕ)) → HasPieces (D.seen disk.old) pieces → (count : ℕ)
+        × (count ≤ most) × (into.new ≡ into.old ++ take count (concat pieces))) }
     ensures read { OnlyRead D.seen D.may_leave D.moment D.left_since disk.old disk.new }
-    ensures cause { RoseBy LogFault.Failed (D.faults disk.old) (D.faults disk.new) result }
+    ensures cause { RisesAtFault LogFault.Failed (D.faults disk.old) (D.faults disk.new) result }
 {
     let size = disk.size()?;
     let mut place = 0;
@@ -37,10 +40,11 @@ fn wanted_at<D: Disk>(disk: &mut D, at: u64, size: u64, left: u64) -> Result<Opt
     requires size { size ≡ length (D.seen disk.old) }
     requires within { at ≤ size }
     ensures found { IfOk result (λ found. MatchOption found ((left ≡ 0) ⊎ NoRecord (drop at (D.seen disk.old)))
-        (λ count. (piece : List ℕ) × (rest : List ℕ) × (length piece ≡ count) × IsRecord (drop at (D.seen disk.old)) piece rest)) }
+        (λ count. (piece : List ℕ) × (rest : List ℕ) × (length piece ≡ count)
+        × IsRecord (drop at (D.seen disk.old)) piece rest)) }
     ensures room { IfOk result (λ found. IfSome found (λ count. (0 < left) × (at + 9 + count < size))) }
     ensures read { OnlyRead D.seen D.may_leave D.moment D.left_since disk.old disk.new }
-    ensures cause { Rose (D.faults disk.old) (D.faults disk.new) result }
+    ensures cause { RisesAtErr (D.faults disk.old) (D.faults disk.new) result }
 {
     if left == 0 {
         return Ok(None);
@@ -58,9 +62,10 @@ fn append_range<D: Disk>(
     requires within { at + count ≤ length (D.seen disk.old) }
     requires fits { at + count < 2 ^ 64 }
     ensures all { OnOk result (into.new ≡ into.old ++ take count (drop at (D.seen disk.old))) }
-    ensures fewer { OnErr result ((some : ℕ) × (some ≤ count) × (into.new ≡ into.old ++ take some (drop at (D.seen disk.old)))) }
+    ensures fewer { OnErr result ((some : ℕ) × (some ≤ count)
+        × (into.new ≡ into.old ++ take some (drop at (D.seen disk.old)))) }
     ensures read { OnlyRead D.seen D.may_leave D.moment D.left_since disk.old disk.new }
-    ensures cause { RoseBy LogFault.Failed (D.faults disk.old) (D.faults disk.new) result }
+    ensures cause { RisesAtFault LogFault.Failed (D.faults disk.old) (D.faults disk.new) result }
 {
     let mut room = [0; ROOM as usize];
     let mut done = 0;
@@ -84,7 +89,7 @@ fn append_exact<D: Disk>(
     ensures all { OnOk result (into.new ≡ into.old ++ take (length room.old) (drop at (D.seen disk.old))) }
     ensures none { OnErr result (into.new ≡ into.old) }
     ensures read { OnlyRead D.seen D.may_leave D.moment D.left_since disk.old disk.new }
-    ensures cause { RoseBy LogFault.Failed (D.faults disk.old) (D.faults disk.new) result }
+    ensures cause { RisesAtFault LogFault.Failed (D.faults disk.old) (D.faults disk.new) result }
 {
     read_exact(disk, at, room)?;
     into.extend_from_slice(room)?;

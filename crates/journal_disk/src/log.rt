@@ -23,8 +23,10 @@ pub struct DiskLog<D: Disk> {
 }
 
 impl<D: Disk> DiskLog<D> {
-    ghost use Rattle.std.specs.Prelude.{List, ℕ, Option, Some, None, take, OnOk, OnErr, IfOk, IfErr, ◌+◌, ◌++◌, ◌⊎◌, [], ◌∷◌};
-    ghost use Rattle.journal_disk.specs.Disk.{LeavesOnly, Stays, Rose, RoseBy, last_count};
+    ghost use Rattle.std.specs.Prelude.{List, ℕ, Option, Some, None, take, OnOk, OnErr, IfOk, IfErr, ◌+◌, ◌++◌, ◌⊎◌};
+    ghost use Rattle.std.specs.Prelude.{[], ◌∷◌};
+    ghost use Rattle.cell_value.specs.FaultCount.{Rose};
+    ghost use Rattle.journal_disk.specs.Disk.{LeavesOnly, Stays, RisesAtErr, RisesAtFault};
     ghost use Rattle.std.specs.List.{concat};
     ghost use Rattle.journal_disk.specs.Log.{Each, Keeps, IsKept, IsKeptOrPut, MayHaveThese};
     ghost use Rattle.journal_disk.specs.Records.{HasPieces, OneListOfPieces, ClosedGateEnds};
@@ -44,7 +46,7 @@ impl<D: Disk> DiskLog<D> {
             → LeavesOnly D.moment D.left_since disk log.disk (MayHaveThese (D.may_leave disk) pieces)) }
         ensures any_moment_failed { IfErr result (λ fault. (pieces : List (List ℕ)) → HasPieces (D.seen disk) pieces
             → LeavesOnly D.moment D.left_since disk fault.1 (MayHaveThese (D.may_leave disk) pieces)) }
-        ensures cause { IfErr result (λ fault. (fault.0 ≡ LogFault.Failed) × ((D.faults disk < D.faults fault.1) ⊎ (D.faults fault.1 ≡ last_count))) }
+        ensures cause { IfErr result (λ fault. (fault.0 ≡ LogFault.Failed) × Rose (D.faults disk) (D.faults fault.1)) }
         ensures later { IfOk result (λ log. D.faults disk ≤ D.faults log.disk) }
     {
         let mut disk = disk;
@@ -70,7 +72,8 @@ impl<D: Disk> DiskLog<D> {
     /// the doubted one behind them.
     pub fn close(self) -> D
         ensures disk { result ≡ self.disk }
-        ensures images { (pieces : List (List ℕ)) (doubted : Option (List ℕ)) → Keeps (D.may_leave self.disk) self.end self.kept self.in_doubt pieces doubted
+        ensures images { (pieces : List (List ℕ)) (doubted : Option (List ℕ))
+            → Keeps (D.may_leave self.disk) self.end self.kept self.in_doubt pieces doubted
             → Each (D.may_leave result) (IsKept pieces doubted) }
     {
         self.disk
@@ -97,7 +100,7 @@ impl<D: Disk> DiskLog<D> {
             → Keeps (D.may_leave self.old.disk) self.old.end self.old.kept self.old.in_doubt pieces doubted
             → LeavesOnly D.moment D.left_since self.old.disk self.new.disk (IsKept pieces doubted) }
         ensures same { self.new.kept ≡ self.old.kept }
-        ensures cause { RoseBy LogFault.Failed (D.faults self.old.disk) (D.faults self.new.disk) result }
+        ensures cause { RisesAtFault LogFault.Failed (D.faults self.old.disk) (D.faults self.new.disk) result }
     {
         into.clear();
         read_pieces(&mut self.disk, most.min(self.kept), into)
@@ -116,7 +119,8 @@ impl<D: Disk> DiskLog<D> {
         requires { at ≡ self.old.kept }
         ensures acknowledged { OnOk result ((pieces : List (List ℕ)) (doubted : Option (List ℕ))
             → Keeps (D.may_leave self.old.disk) self.old.end self.old.kept self.old.in_doubt pieces doubted
-            → Keeps (D.may_leave self.new.disk) self.new.end self.new.kept self.new.in_doubt (pieces ++ piece.now ∷ []) None) }
+            → Keeps (D.may_leave self.new.disk) self.new.end self.new.kept self.new.in_doubt
+            (pieces ++ piece.now ∷ []) None) }
         ensures refused { OnErr result ((pieces : List (List ℕ)) (doubted : Option (List ℕ))
             → Keeps (D.may_leave self.old.disk) self.old.end self.old.kept self.old.in_doubt pieces doubted
             → (still : Option (List ℕ)) × ((still ≡ doubted) ⊎ ((still ≡ None) ⊎ (still ≡ Some piece.now)))
@@ -126,7 +130,7 @@ impl<D: Disk> DiskLog<D> {
             → LeavesOnly D.moment D.left_since self.old.disk self.new.disk (IsKeptOrPut pieces doubted piece.now) }
         ensures longer { OnOk result (self.new.kept ≡ self.old.kept + length piece.now) }
         ensures as_long { OnErr result (self.new.kept ≡ self.old.kept) }
-        ensures cause { Rose (D.faults self.old.disk) (D.faults self.new.disk) result }
+        ensures cause { RisesAtErr (D.faults self.old.disk) (D.faults self.new.disk) result }
     {
         let _place = at;
         self.shut_doubted()?;
@@ -145,7 +149,7 @@ impl<D: Disk> DiskLog<D> {
             → Keeps (D.may_leave self.old.disk) self.old.end self.old.kept self.old.in_doubt pieces doubted
             → Stays D.moment D.left_since D.may_leave self.old.disk self.new.disk (IsKept pieces doubted) }
         ensures same { self.new.kept ≡ self.old.kept }
-        ensures cause { Rose (D.faults self.old.disk) (D.faults self.new.disk) result }
+        ensures cause { RisesAtErr (D.faults self.old.disk) (D.faults self.new.disk) result }
     {
         if !self.in_doubt {
             return Ok(());
@@ -159,7 +163,8 @@ impl<D: Disk> DiskLog<D> {
     fn add(&mut self, piece: &[u8]) -> Result<(), Failed>
         ensures acknowledged { OnOk result ((pieces : List (List ℕ))
             → Keeps (D.may_leave self.old.disk) self.old.end self.old.kept self.old.in_doubt pieces None
-            → Keeps (D.may_leave self.new.disk) self.new.end self.new.kept self.new.in_doubt (pieces ++ piece.now ∷ []) None) }
+            → Keeps (D.may_leave self.new.disk) self.new.end self.new.kept self.new.in_doubt
+            (pieces ++ piece.now ∷ []) None) }
         ensures refused { OnErr result ((pieces : List (List ℕ))
             → Keeps (D.may_leave self.old.disk) self.old.end self.old.kept self.old.in_doubt pieces None
             → (still : Option (List ℕ)) × ((still ≡ None) ⊎ (still ≡ Some piece.now))
@@ -169,7 +174,7 @@ impl<D: Disk> DiskLog<D> {
             → Stays D.moment D.left_since D.may_leave self.old.disk self.new.disk (IsKept pieces (Some piece.now)) }
         ensures longer { OnOk result (self.new.kept ≡ self.old.kept + length piece.now) }
         ensures as_long { OnErr result (self.new.kept ≡ self.old.kept) }
-        ensures cause { Rose (D.faults self.old.disk) (D.faults self.new.disk) result }
+        ensures cause { RisesAtErr (D.faults self.old.disk) (D.faults self.new.disk) result }
     {
         stage(&mut self.disk, self.end, piece)?;
         self.in_doubt = true;

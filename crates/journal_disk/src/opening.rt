@@ -1,5 +1,5 @@
 ghost use Rattle.std.specs.Prelude.{◌≡◌, ◌<◌, ◌≤◌, ℕ, List, [], ◌∷◌, false, None, length, OnOk, IfOk};
-ghost use Rattle.journal_disk.specs.Disk.{Only, Stays, Rose};
+ghost use Rattle.journal_disk.specs.Disk.{Only, Stays, RisesAtErr};
 ghost use Rattle.journal_disk.specs.Records.{HasPieces};
 ghost use Rattle.journal_disk.specs.Log.{Each, Keeps, IsShort, HasThese, MayHaveThese};
 
@@ -16,7 +16,7 @@ pub fn prepare<D: Disk>(disk: &mut D) -> Result<Ending, Failed>
         → Stays D.moment D.left_since D.may_leave disk.old disk.new (MayHaveThese (D.may_leave disk.old) pieces) }
     ensures gated { IfOk result (λ ending. ending.place < length (D.seen disk.new)) }
     ensures small { IfOk result (λ ending. ending.held ≤ ending.place) }
-    ensures cause { Rose (D.faults disk.old) (D.faults disk.new) result }
+    ensures cause { RisesAtErr (D.faults disk.old) (D.faults disk.new) result }
 {
     disk.sync()?;
     let size = disk.size()?;
@@ -30,10 +30,11 @@ pub fn prepare<D: Disk>(disk: &mut D) -> Result<Ending, Failed>
 // Writes the closed gate of an empty image.
 fn write_first<D: Disk>(disk: &mut D) -> Result<(), Failed>
     requires { length (D.seen disk.old) ≡ 0 }
-    ensures images { Each (D.may_leave disk.old) IsShort → Stays D.moment D.left_since D.may_leave disk.old disk.new IsShort }
+    ensures images { Each (D.may_leave disk.old) IsShort
+        → Stays D.moment D.left_since D.may_leave disk.old disk.new IsShort }
     ensures closed { OnOk result (Only (0 ∷ []) (D.may_leave disk.new)) }
     ensures some { OnOk result (0 < length (D.seen disk.new)) }
-    ensures cause { Rose (D.faults disk.old) (D.faults disk.new) result }
+    ensures cause { RisesAtErr (D.faults disk.old) (D.faults disk.new) result }
 {
     disk.write(0, &[0])?;
     disk.sync()
@@ -43,13 +44,15 @@ fn write_first<D: Disk>(disk: &mut D) -> Result<(), Failed>
 fn close_end<D: Disk>(disk: &mut D, size: u64) -> Result<Ending, Failed>
     requires size { size ≡ length (D.seen disk.old) }
     requires some { 0 < size }
-    ensures kept { IfOk result (λ ending. Only (D.seen disk.old) (D.may_leave disk.old) → (pieces : List (List ℕ)) × HasPieces (D.seen disk.old) pieces
+    ensures kept { IfOk result (λ ending. Only (D.seen disk.old) (D.may_leave disk.old) → (pieces : List (List ℕ))
+        × HasPieces (D.seen disk.old) pieces
         × Keeps (D.may_leave disk.new) ending.place ending.held false pieces None) }
-    ensures any_moment { (pieces : List (List ℕ)) → HasPieces (D.seen disk.old) pieces → Only (D.seen disk.old) (D.may_leave disk.old)
+    ensures any_moment { (pieces : List (List ℕ)) → HasPieces (D.seen disk.old) pieces
+        → Only (D.seen disk.old) (D.may_leave disk.old)
         → Stays D.moment D.left_since D.may_leave disk.old disk.new (HasThese pieces) }
     ensures gated { IfOk result (λ ending. ending.place < length (D.seen disk.new)) }
     ensures small { IfOk result (λ ending. ending.held ≤ ending.place) }
-    ensures cause { Rose (D.faults disk.old) (D.faults disk.new) result }
+    ensures cause { RisesAtErr (D.faults disk.old) (D.faults disk.new) result }
 {
     let ending = find_ending(disk, size)?;
     let mut gate = [0; 1];

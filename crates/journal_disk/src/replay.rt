@@ -1,7 +1,9 @@
 // What a crash may leave of a disk in memory, made from the record of its calls.
-ghost use Rattle.std.specs.Prelude.{◌≡◌, ◌≤◌, ◌+◌, ◌^◌, ◌-◌, ◌++◌, [], ℕ, List, length, take, drop, OnOk, OnErr, true, false};
-ghost use Rattle.journal_disk.specs.Disk.{Holds, Torn};
-ghost use Rattle.journal_disk.specs.Recorded.{Held, empty, after_call, bytes_end, place_end, IsReplayed};
+ghost use Rattle.std.specs.Prelude.{◌≡◌, ◌≤◌, ◌+◌, ◌-◌, ◌++◌, [], ℕ, List, length, take, drop, OnOk, OnErr};
+ghost use Rattle.std.specs.Prelude.{IsOk, true, false};
+ghost use Rattle.std.specs.Vec.{vec_len, vec_capacity};
+ghost use Rattle.journal_disk.specs.Disk.{Holds, Torn, most_bytes};
+ghost use Rattle.journal_disk.specs.Recorded.{DiskState, empty, state_after_call, bytes_end, place_end, IsReplayed};
 
 use crate::calls::Call;
 use std::alloc::{AllocError, Global};
@@ -38,9 +40,9 @@ impl Replay {
     /// Goes on by one call. `written` are all bytes that were written.
     pub fn step(&mut self, call: Call, written: &[u8], pick: u64) -> Result<(), AllocError>
         requires bytes { bytes_end call ≤ length written.now }
-        requires place { place_end call ≤ 2 ^ 62 }
-        ensures { OnOk result ((held : Held) → IsReplayed held self.old.seen.items self.old.image.items
-            → IsReplayed (after_call written.now held call) self.new.seen.items self.new.image.items) }
+        requires place { place_end call ≤ most_bytes }
+        ensures { OnOk result ((held : DiskState) → IsReplayed held self.old.seen.items self.old.image.items
+            → IsReplayed (state_after_call written.now held call) self.new.seen.items self.new.image.items) }
     {
         match call {
             Call::Write {
@@ -59,7 +61,7 @@ impl Replay {
 
     // Leaves of a write what is picked, and all in what reads give, unless it failed.
     fn write(&mut self, at: usize, bytes: &[u8], failed: bool, pick: u64) -> Result<(), AllocError>
-        requires { at + length bytes.now ≤ 2 ^ 62 }
+        requires { at + length bytes.now ≤ most_bytes }
         ensures torn { OnOk result (Torn at (length bytes.now) self.old.image.items self.new.image.items) }
         ensures failed { OnOk result (failed ≡ true → self.new.seen.items ≡ self.old.seen.items) }
         ensures done { OnOk result (failed ≡ false → Holds self.old.seen.items at bytes.now self.new.seen.items) }
@@ -122,7 +124,7 @@ fn lay(
     filler: Option<u8>,
     limit: usize,
 ) -> Result<(), AllocError>
-    requires { at + length bytes.now ≤ 2 ^ 62 }
+    requires { at + length bytes.now ≤ most_bytes }
     ensures { OnOk result (Torn at (length bytes.now) image.old.items image.new.items) }
 {
     let end = (at + bytes.len()).min(limit);
@@ -150,7 +152,8 @@ fn fill_range(image: &mut Vec<u8>, at: usize, end: usize, bytes: &[u8], filler: 
     requires order { at ≤ end }
     requires within { end ≤ length image.old.items }
     requires enough { end - at ≤ length bytes.now }
-    ensures { (part : List ℕ) × (length part ≡ end - at) × (image.new.items ≡ take at image.old.items ++ part ++ drop end image.old.items) }
+    ensures { (part : List ℕ) × (length part ≡ end - at)
+        × (image.new.items ≡ take at image.old.items ++ part ++ drop end image.old.items) }
 {
     fill(&mut image[at..end], bytes, filler);
 }
@@ -169,6 +172,9 @@ fn fill(part: &mut [u8], bytes: &[u8], filler: Option<u8>)
 pub fn write_over(bytes: &mut Vec<u8>, at: usize, with: &[u8]) -> Result<(), AllocError>
     ensures ok { OnOk result (Holds bytes.old.items at with.now bytes.new.items) }
     ensures err { OnErr result (bytes.new.items ≡ bytes.old.items) }
+    ensures fits { vec_len bytes.old + length with.now ≤ vec_capacity bytes.old → IsOk result }
+    ensures size { length bytes.new.items ≤ length bytes.old.items + length with.now }
+    ensures room { vec_capacity bytes.old ≤ vec_capacity bytes.new }
 {
     let at = at.min(bytes.len());
     let inside = with.len().min(bytes.len() - at);

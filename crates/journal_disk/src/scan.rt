@@ -1,5 +1,6 @@
-ghost use Rattle.std.specs.Prelude.{◌≡◌, ◌<◌, ◌≤◌, ◌+◌, ◌^◌, ◌++◌, ◌∷◌, List, ℕ, length, take, drop, OnOk, IfOk, MatchOption, IfSome};
-ghost use Rattle.journal_disk.specs.Disk.{OnlyRead, Rose};
+ghost use Rattle.std.specs.Prelude.{◌≡◌, ◌<◌, ◌≤◌, ◌+◌, ◌^◌, ◌++◌, ◌∷◌, List, ℕ, length, take, drop, OnOk, IfOk};
+ghost use Rattle.std.specs.Prelude.{MatchOption, IfSome};
+ghost use Rattle.journal_disk.specs.Disk.{OnlyRead, RisesAtErr};
 ghost use Rattle.journal_disk.specs.Records.{IsRecord, NoRecord, IsFront};
 
 use crate::Disk;
@@ -21,7 +22,7 @@ pub fn find_ending<D: Disk>(disk: &mut D, size: u64) -> Result<Ending, Failed>
     ensures small { IfOk result (λ ending. ending.held ≤ ending.place) }
     ensures none { IfOk result (λ ending. NoRecord (drop ending.place (D.seen disk.old))) }
     ensures read { OnlyRead D.seen D.may_leave D.moment D.left_since disk.old disk.new }
-    ensures cause { Rose (D.faults disk.old) (D.faults disk.new) result }
+    ensures cause { RisesAtErr (D.faults disk.old) (D.faults disk.new) result }
 {
     let mut place = 0;
     let mut held = 0;
@@ -37,10 +38,11 @@ pub fn record_at<D: Disk>(disk: &mut D, at: u64, size: u64) -> Result<Option<u64
     requires size { size ≡ length (D.seen disk.old) }
     requires within { at ≤ size }
     ensures found { IfOk result (λ found. MatchOption found (NoRecord (drop at (D.seen disk.old)))
-        (λ count. (piece : List ℕ) × (rest : List ℕ) × (length piece ≡ count) × IsRecord (drop at (D.seen disk.old)) piece rest)) }
+        (λ count. (piece : List ℕ) × (rest : List ℕ) × (length piece ≡ count)
+        × IsRecord (drop at (D.seen disk.old)) piece rest)) }
     ensures room { IfOk result (λ found. IfSome found (λ count. at + 9 + count < size)) }
     ensures read { OnlyRead D.seen D.may_leave D.moment D.left_since disk.old disk.new }
-    ensures cause { Rose (D.faults disk.old) (D.faults disk.new) result }
+    ensures cause { RisesAtErr (D.faults disk.old) (D.faults disk.new) result }
 {
     let left = size - at;
     if left < 10 {
@@ -57,8 +59,10 @@ pub fn record_at<D: Disk>(disk: &mut D, at: u64, size: u64) -> Result<Option<u64
 // are left from the gate on.
 fn record_in(gate: u8, length_bytes: [u8; 8], left: u64) -> Option<u64>
     requires { 10 ≤ left }
-    ensures found { (rest : List ℕ) → 9 + length rest ≡ left → MatchOption result (NoRecord (gate ∷ (length_bytes ++ rest)))
-        (λ count. (piece : List ℕ) × (behind : List ℕ) × (length piece ≡ count) × IsRecord (gate ∷ (length_bytes ++ rest)) piece behind) }
+    ensures found { (rest : List ℕ) → 9 + length rest ≡ left
+        → MatchOption result (NoRecord (gate ∷ (length_bytes ++ rest)))
+        (λ count. (piece : List ℕ) × (behind : List ℕ) × (length piece ≡ count)
+        × IsRecord (gate ∷ (length_bytes ++ rest)) piece behind) }
     ensures room { IfSome result (λ count. 9 + count < left) }
 {
     if gate != 1 {
@@ -77,7 +81,7 @@ pub fn read_exact<D: Disk>(disk: &mut D, at: u64, into: &mut [u8]) -> Result<(),
     requires fits { at + length into.old < 2 ^ 64 }
     ensures bytes { OnOk result (into.new ≡ take (length into.old) (drop at (D.seen disk.old))) }
     ensures read { OnlyRead D.seen D.may_leave D.moment D.left_since disk.old disk.new }
-    ensures cause { Rose (D.faults disk.old) (D.faults disk.new) result }
+    ensures cause { RisesAtErr (D.faults disk.old) (D.faults disk.new) result }
 {
     let mut done = 0;
     while done < into.len() {

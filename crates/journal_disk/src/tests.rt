@@ -125,68 +125,6 @@ fn images_are_torn_in_each_way(rt: HostRuntime) -> Result<(), Fail> {
     Ok(())
 }
 
-// There is room for a record of three calls and of four bytes.
-#[test]
-fn a_call_without_room_for_its_record_fails(rt: HostRuntime) -> Result<(), Fail> {
-    let alloc = rt.alloc();
-    let mut disk = MemoryDisk::new(alloc, 3, 4, Items::of(Vec::new(alloc)), None)?;
-    let first = disk.write(0, &[1, 2, 3]);
-    let too_long = disk.write(0, &[4, 5]);
-    let size = disk.bytes().len() as u64;
-    let last_byte = disk.write(size, &[6]);
-    let settled = disk.sync();
-    let fourth = disk.size();
-    assert_eq!(rt;
-        (
-            first.is_ok(),
-            too_long.is_ok(),
-            last_byte.is_ok(),
-            settled.is_ok(),
-            fourth.is_ok()
-        ),
-        (true, false, true, true, false)
-    );
-    assert_eq!(rt; disk.bytes(), [1, 2, 3, 6].as_slice());
-    assert_eq!(rt; disk.calls().len(), 3);
-    Ok(())
-}
-
-// An empty disk is opened by calls 1 to 4, and the first put makes calls 5 to 10. At the call `stop`
-// and later each call fails, and none is recorded after it: first and last call, and whether an image
-// may have no piece, and the piece.
-const STOPS_OF_A_PUT: [(u64, u64, bool, bool); 3] = [
-    (5, 8, true, false),
-    (9, 10, true, true),
-    (11, 11, false, true),
-];
-
-#[test]
-fn a_crash_after_each_call_of_a_put_leaves_it_whole_or_not_at_all(
-    rt: HostRuntime,
-) -> Result<(), Fail> {
-    let alloc = rt.alloc();
-    for (first, last, may_be_none, may_be_one) in STOPS_OF_A_PUT {
-        for stop in first..=last {
-            let disk = stopped_disk(alloc, [0; 2], stop)?;
-            let Ok(mut log) = DiskLog::open(disk) else {
-                assert!(rt; false, "opens");
-                return Ok(());
-            };
-            let at = log.length();
-            let put = log.put(at, &PIECE);
-            assert_eq!(rt; put.is_ok(), stop == 11);
-            let disk = log.close();
-            let found = found_in(alloc, &disk, &[], &PIECE)?;
-            assert_eq!(rt;
-                found,
-                (may_be_none, may_be_one, false),
-                "stopped at {stop}"
-            );
-        }
-    }
-    Ok(())
-}
-
 // A disk that fails from the call `stop` on, and has no room for a record of a later one.
 fn stopped_disk(alloc: Global, failing: [u64; 2], stop: u64) -> Result<MemoryDisk, NoMemory> {
     let failing = Items::of(Vec::from_array(alloc, failing)?);
@@ -368,6 +306,8 @@ fn a_load_tells_that_the_disk_failed(rt: HostRuntime) -> Result<(), Fail> {
     log.load(u64::MAX, &mut kept)?;
     assert_eq!(rt; kept.as_slice(), PIECE.as_slice());
     assert_eq!(rt; log.load(u64::MAX, &mut kept), Err(LogFault::Failed));
+    let text = format!(in alloc; "{}", LogFault::Failed)?;
+    assert_eq!(rt; text.as_str(), "the disk failed");
     log.load(u64::MAX, &mut kept)?;
     assert_eq!(rt; kept.as_slice(), PIECE.as_slice());
     Ok(())

@@ -1,5 +1,6 @@
 -- A copy that has the items of the first rows, and of the first cells of the next one.
-use Rattle.std.proofs.Common.{◌≡◌, ℕ, ◌+◌, ◌<◌, List, [], ◌∷◌, ◌++◌, false, cond, get_or, length, map, refl, sym, ap, subst, ◌∙◌, arith, append_assoc}
+use Rattle.std.proofs.Common.{◌≡◌, ℕ, ◌+◌, ◌<◌, List, [], ◌∷◌, ◌++◌, false, cond, get_or, length, map, refl, sym, ap}
+use Rattle.std.proofs.Common.{subst, ◌∙◌, arith, append_assoc}
 use Rattle.std.specs.Prelude.{Some, None, Contains}
 use Rattle.std.specs.Ordering.{eq_by_cmp}
 use Rattle.std.specs.List.{IsDistinct, range_with_len}
@@ -8,26 +9,28 @@ use Rattle.std.proofs.lemmas.Cmp.{eq_by_cmp_equiv}
 use Rattle.std.proofs.lemmas.List.{append-nil}
 use Rattle.std.proofs.lemmas.List.Elements.{Contains-append_right}
 use Rattle.std.proofs.lemmas.Map.Keys.{IsDistinct-head, IsDistinct-tail}
-use Rattle.slab.proofs.SlabLemmas.{Contains-cons}
+use Rattle.link_store.proofs.Elements.{Contains-cons}
 use Rattle.cell_store.specs.Table.{by_rows}
 use Rattle.cell_store.specs.Entries.{entry_at}
-use Rattle.cell_store.proofs.Cells.{by_rows_total}
-use Rattle.cell_store.proofs.Scanned.{get-push}
+use Rattle.link_store.proofs.ByRows.{by_rows_total, entry_added}
 use Rattle.link_store.specs.declared.cells.Cell.{Cell}
 use Rattle.link_store.specs.declared.cells.Cells.{Cells}
 use Rattle.link_store.specs.Lines.{ArePositions, line_entries, list_of}
 use Rattle.link_store.specs.Crossings.{IsGrid, IsCellAt, ChangesAt, HasFirstRows, column_of, first_rows, sheet_items}
 use Rattle.link_store.proofs.Elements.{Contains-map, IsDistinct-range, from_each}
-use Rattle.link_store.proofs.Gathered.{column_there, column_told, placed, rows_more}
+use Rattle.link_store.proofs.Gathered.{list_noted, place_told, placed, rows_more}
 use Rattle.link_store.proofs.Sheets.{column_is, distinct_rows, has_column, item_from}
 
 -- where the places differ, no entry before this one is at its place
-none_before : {T : Type 0} (es rest : List ((ℕ × ℕ) × T)) (entry : (ℕ × ℕ) × T) → IsDistinct (eq_by_cmp by_rows) (keys_of (es ++ entry ∷ rest)) → entry_at es entry.0 ≡ None
+none_before : {T : Type 0} (es rest : List ((ℕ × ℕ) × T)) (entry : (ℕ × ℕ) × T)
+    → IsDistinct (eq_by_cmp by_rows) (keys_of (es ++ entry ∷ rest)) → entry_at es entry.0 ≡ None
 none_before [] rest entry apart = refl
 none_before (e ∷ es) rest entry apart =
     let keys = keys_of (es ++ entry ∷ rest) in
-    let later = Contains-map (λ k. k.0) (es ++ entry ∷ rest) entry (Contains-append_right es (entry ∷ rest) entry (0, omega arith, refl)) in
-    let differs = from_each (λ k. eq_by_cmp by_rows e.0 k ≡ false) keys (IsDistinct-head (eq_by_cmp by_rows) e.0 keys apart) entry.0 later in
+    let later = Contains-map (λ k. k.0) (es ++ entry ∷ rest) entry
+    (Contains-append_right es (entry ∷ rest) entry (0, omega arith, refl)) in
+    let differs = from_each (λ k. eq_by_cmp by_rows e.0 k ≡ false) keys
+    (IsDistinct-head (eq_by_cmp by_rows) e.0 keys apart) entry.0 later in
     ap (λ b. cond b (Some e.1) (entry_at es entry.0)) ((eq_by_cmp_equiv by_rows_total).symm entry.0 e.0 ∙ differs)
     ∙ none_before es rest entry (IsDistinct-tail (eq_by_cmp by_rows) e.0 keys apart)
 
@@ -40,7 +43,8 @@ module _ {T : Type 0} (cells : Cells T) (row : ℕ) where
     pub held : (entry : ℕ × Cell T) → Contains left entry → Contains (line_entries cells.rows row) entry
 
   -- before the first cell of the row, and behind its last
-  pub row_starts : (copy : Cells T) (left : List (ℕ × Cell T)) → HasFirstRows cells row copy → left ≡ line_entries cells.rows row → IsRowCopied copy left
+  pub row_starts : (copy : Cells T) (left : List (ℕ × Cell T)) → HasFirstRows cells row copy
+      → left ≡ line_entries cells.rows row → IsRowCopied copy left
   row_starts copy left has same = record {
     done = first_rows cells row;
     items = has;
@@ -48,14 +52,18 @@ module _ {T : Type 0} (cells : Cells T) (row : ℕ) where
     held = λ entry there. subst (λ es. Contains es entry) same there;
   }
 
-  pub row_copied : {copy : Cells T} {left : List (ℕ × Cell T)} → IsRowCopied copy left → left ≡ [] → HasFirstRows cells (row + 1) copy
+  pub row_copied : {copy : Cells T} {left : List (ℕ × Cell T)} → IsRowCopied copy left → left ≡ []
+      → HasFirstRows cells (row + 1) copy
   row_copied is none place =
       is.items place
-      ∙ ap (λ es. entry_at es place) (sym (append-nil is.done) ∙ ap (λ es. is.done ++ map (placed cells row) es) (sym none) ∙ is.all)
+      ∙ ap (λ es. entry_at es place) (sym (append-nil is.done)
+      ∙ ap (λ es. is.done ++ map (placed cells row) es) (sym none) ∙ is.all)
 
 -- the first of the cells that are left
-module _ {T : Type 0} {cells : Cells T} (are : IsGrid cells) {positions : List ℕ} (told : ArePositions cells.columns positions) {row : ℕ} {copy : Cells T}
-    {left rest : List (ℕ × Cell T)} {entry : ℕ × Cell T} (is : IsRowCopied cells row copy left) (steps : left ≡ entry ∷ rest) where
+module _ {T : Type 0} {cells : Cells T} (are : IsGrid cells) {positions : List ℕ}
+    (told : ArePositions cells.columns positions) {row : ℕ} {copy : Cells T}
+    {left rest : List (ℕ × Cell T)} {entry : ℕ × Cell T} (is : IsRowCopied cells row copy left)
+    (steps : left ≡ entry ∷ rest) where
   cell_left : Contains (line_entries cells.rows row) entry
   cell_left = is.held entry (subst (λ es. Contains es entry) (sym steps) (0, omega arith, refl))
 
@@ -64,10 +72,14 @@ module _ {T : Type 0} {cells : Cells T} (are : IsGrid cells) {positions : List �
   column = get_or positions entry.1.column 0
 
   column_is_told : column ≡ column_of cells.columns entry.1
-  column_is_told = column_told cells are positions told row entry cell_left
+  column_is_told =
+      let its = has_column cells are (list_of cells.rows row) entry.0 entry.1 cell_left in
+      place_told cells.columns are.columns_are positions told entry.1.column its.0 its.1 its.2
 
   pub column_listed : entry.1.column < length positions
-  column_listed = column_there cells are positions told row entry cell_left
+  column_listed =
+      let its = has_column cells are (list_of cells.rows row) entry.0 entry.1 cell_left in
+      list_noted cells.columns are.columns_are positions told entry.1.column its.0 its.1 its.2
 
   pub column_within : column < cells.columns.count
   column_within =
@@ -77,23 +89,33 @@ module _ {T : Type 0} {cells : Cells T} (are : IsGrid cells) {positions : List �
   -- its place holds none of the items that are done, so the copy has no cell there
   place_free : entry_at is.done (row, column_of cells.columns entry.1) ≡ None
   place_free = none_before is.done (map (placed cells row) rest) (placed cells row entry)
-      (subst (λ es. IsDistinct (eq_by_cmp by_rows) (keys_of es)) (sym is.all ∙ ap (λ es. is.done ++ map (placed cells row) es) steps)
+      (subst (λ es. IsDistinct (eq_by_cmp by_rows) (keys_of es))
+      (sym is.all ∙ ap (λ es. is.done ++ map (placed cells row) es) steps)
       (distinct_rows cells are (range_with_len 0 (row + 1)) (IsDistinct-range 0 (row + 1))))
 
   pub no_cell_yet : IsGrid copy → (node : ℕ) (cell : Cell T) → IsCellAt copy row column node cell → ⊥
   no_cell_yet grid node cell at =
-      absurd (cc (item_from copy grid row column node cell at, is.items (row, column), ap (λ k. entry_at is.done (row, k)) column_is_told, place_free))
+      absurd (cc (
+        item_from copy grid row column node cell at,
+        is.items (row, column),
+        ap
+            (λ k. entry_at is.done (row, k)) column_is_told,
+        place_free,
+      ))
 
   -- once its item is added, one cell less is left
-  pub cell_copied : {after : Cells T} {item : T} → item ≡ entry.1.item → ChangesAt (sheet_items copy) (sheet_items after) (row, column) (Some item) → IsRowCopied cells row after rest
+  pub cell_copied : {after : Cells T} {item : T} → item ≡ entry.1.item
+      → ChangesAt (sheet_items copy) (sheet_items after) (row, column) (Some item) → IsRowCopied cells row after rest
   cell_copied {item = item} same changes = record {
     done = is.done ++ placed cells row entry ∷ [];
     items = λ place.
         changes place
         ∙ ap (λ o. cond (eq_by_cmp by_rows (row, column) place) (Some item) o) (is.items place)
-        ∙ ap (λ (e : (ℕ × ℕ) × T). cond (eq_by_cmp by_rows e.0 place) (Some e.1) (entry_at is.done place)) (λ i. ((row, column_is_told i), same i))
-        ∙ sym (get-push row (column_of cells.columns entry.1) is.done entry.1.item place place_free);
+        ∙ ap (λ (e : (ℕ × ℕ) × T). cond (eq_by_cmp by_rows e.0 place) (Some e.1) (entry_at is.done place))
+        (λ i. ((row, column_is_told i), same i))
+        ∙ sym (entry_added (row, column_of cells.columns entry.1) is.done entry.1.item place place_free);
     all = append_assoc is.done (placed cells row entry ∷ []) (map (placed cells row) rest)
         ∙ ap (λ es. is.done ++ map (placed cells row) es) (sym steps) ∙ is.all;
-    held = λ other has. is.held other (subst (λ es. Contains es other) (sym steps) (Contains-cons entry other rest has));
+    held = λ other has. is.held other (subst (λ es. Contains es other) (sym steps)
+        (Contains-cons entry other rest has));
   }

@@ -1,13 +1,25 @@
 -- What lists that are made of others have.
-use Rattle.std.proofs.Common.{◌≡◌, inl, inr, ℕ, zero, suc, ◌+◌, ◌<◌, ◌≤◌, List, [], ◌∷◌, ◌++◌, Bool, false, refl, sym, ap, subst, ◌∙◌, arith, map}
+use Rattle.std.proofs.Common.{◌≡◌, ◌⊎◌, length, get_or, inl, inr, ℕ, zero, suc, ◌+◌, ◌-◌, ◌<◌, ◌≤◌, List, [], ◌∷◌}
+use Rattle.std.proofs.Common.{◌++◌, Bool, false, refl, sym, ap, subst, ◌∙◌, arith, map}
 use Rattle.std.specs.Prelude.{Option, Some, None, Contains, nat_eq, slice_get}
 use Rattle.std.specs.Option.{unwrap_or}
 use Rattle.std.proofs.lemmas.Bool.{ne_eqb}
 use Rattle.std.specs.List.{AllByRecursion, IsDistinct, flat_map, range_with_len}
-use Rattle.std.proofs.lemmas.List.Elements.{Contains-append_left, Contains-append_right, Contains-append_cases, Contains-get_or, All-contains}
+use Rattle.std.proofs.lemmas.List.Elements.{Contains-append_left, Contains-append_right, Contains-append_cases}
+use Rattle.std.proofs.lemmas.List.Elements.{Contains-get_or, All-contains}
 use Rattle.std.proofs.lemmas.List.FromFn.{length-range_with_len, get_or-range_with_len}
 use Rattle.std.proofs.lemmas.Map.Keys.{IsDistinct-head, IsDistinct-tail, IsDistinct-cons}
-use Rattle.slab.proofs.SlabLemmas.{Contains-cons, Contains-cons_cases}
+
+pub Contains-cons : {X : Type 0} (head x : X) (rest : List X) → Contains rest x → Contains (head ∷ rest) x
+Contains-cons head x rest has = (suc has.0, omega (arith, has.1), has.2)
+
+pub Contains-cons_cases : {X : Type 0} (head x : X) (rest : List X) → Contains (head ∷ rest) x
+    → (head ≡ x) ⊎ Contains rest x
+Contains-cons_cases {X} head x rest has = by_index has.0 has.1 has.2
+  where
+    by_index : (k : ℕ) → k < suc (length rest) → get_or (head ∷ rest) k x ≡ x → (head ≡ x) ⊎ Contains rest x
+    by_index zero within found = inl found
+    by_index (suc k) within found = inr (k, omega arith, found)
 
 pub nothing_in : {X : Type 0} (x : X) → Contains [] x → ⊥
 nothing_in x has = omega (arith, has.1)
@@ -20,28 +32,33 @@ module _ {X Y : Type 0} where
     | inr there ↦ Contains-cons (f head) (f x) (map f xs) (Contains-map f xs x there)
   ]
 
-  pub Contains-map_from : (f : X → Y) (xs : List X) (y : Y) → Contains (map f xs) y → (x : X) × Contains xs x × (f x ≡ y)
+  pub Contains-map_from : (f : X → Y) (xs : List X) (y : Y) → Contains (map f xs) y
+      → (x : X) × Contains xs x × (f x ≡ y)
   Contains-map_from f [] y has = absurd (nothing_in y has)
   Contains-map_from f (head ∷ xs) y has = elim (Contains-cons_cases (f head) y (map f xs) has) [
     | inl here ↦ (head, (0, omega arith, refl), here)
-    | inr there ↦ let found = Contains-map_from f xs y there in (found.0, Contains-cons head found.0 xs found.1, found.2)
+    | inr there ↦ let found = Contains-map_from f xs y
+        there in (found.0, Contains-cons head found.0 xs found.1, found.2)
   ]
 
-  pub Contains-flat_map : (f : X → List Y) (xs : List X) (x : X) (y : Y) → Contains xs x → Contains (f x) y → Contains (flat_map f xs) y
+  pub Contains-flat_map : (f : X → List Y) (xs : List X) (x : X) (y : Y) → Contains xs x → Contains (f x) y
+      → Contains (flat_map f xs) y
   Contains-flat_map f [] x y has held = absurd (nothing_in x has)
   Contains-flat_map f (head ∷ xs) x y has held = elim (Contains-cons_cases head x xs has) [
     | inl here ↦ Contains-append_left (f head) (flat_map f xs) y (subst (λ z. Contains (f z) y) (sym here) held)
     | inr there ↦ Contains-append_right (f head) (flat_map f xs) y (Contains-flat_map f xs x y there held)
   ]
 
-  pub Contains-flat_map_from : (f : X → List Y) (xs : List X) (y : Y) → Contains (flat_map f xs) y → (x : X) × Contains xs x × Contains (f x) y
+  pub Contains-flat_map_from : (f : X → List Y) (xs : List X) (y : Y) → Contains (flat_map f xs) y
+      → (x : X) × Contains xs x × Contains (f x) y
   Contains-flat_map_from f [] y has = absurd (nothing_in y has)
   Contains-flat_map_from f (head ∷ xs) y has = elim (Contains-append_cases (f head) (flat_map f xs) y has) [
     | inl here ↦ (head, (0, omega arith, refl), here)
-    | inr there ↦ let found = Contains-flat_map_from f xs y there in (found.0, Contains-cons head found.0 xs found.1, found.2)
+    | inr there ↦ let found = Contains-flat_map_from f xs y
+        there in (found.0, Contains-cons head found.0 xs found.1, found.2)
   ]
 
-range_low : (a n i : ℕ) → Contains (range_with_len a n) i → a ≤ i
+pub range_low : (a n i : ℕ) → Contains (range_with_len a n) i → a ≤ i
 range_low a n i has = All-contains (λ k. a ≤ k) (range_with_len a n) i
     (λ k d less. omega (arith, get_or-range_with_len a n k d (omega (arith, length-range_with_len a n)))) has
 
@@ -52,12 +69,34 @@ Contains-range n i less =
 
 pub Contains-range_from : (n i : ℕ) → Contains (range_with_len 0 n) i → i < n
 Contains-range_from n i has = All-contains (λ k. k < n) (range_with_len 0 n) i
-    (λ k d less. omega (arith, get_or-range_with_len 0 n k d (omega (arith, length-range_with_len 0 n)), length-range_with_len 0 n)) has
+    (λ k d less. omega (
+      arith,
+      get_or-range_with_len 0 n k d (omega (arith, length-range_with_len 0 n)),
+      length-range_with_len 0 n,
+    )) has
+
+pub range_high : (a n i : ℕ) → Contains (range_with_len a n) i → i < a + n
+range_high a n i has = All-contains (λ k. k < a + n) (range_with_len a n) i
+    (λ k d less. omega (
+      arith,
+      get_or-range_with_len a n k d (omega (arith, length-range_with_len a n)),
+      length-range_with_len a n,
+    )) has
+
+pub range_has : (a n i : ℕ) → a ≤ i → i < a + n → Contains (range_with_len a n) i
+range_has a n i low high =
+    let there : i - a < n = omega arith in
+    subst (Contains (range_with_len a n)) (get_or-range_with_len a n (i - a) 0 there ∙ omega arith)
+    (Contains-get_or (range_with_len a n) (i - a) 0 (omega (arith, length-range_with_len a n)))
 
 module _ {X : Type 0} where
   pub each_from : (P : X → Type 0) (xs : List X) → ((x : X) → Contains xs x → P x) → AllByRecursion P xs
   each_from P [] holds = tt
-  each_from P (x ∷ xs) holds = (holds x (0, omega arith, refl), each_from P xs (λ y has. holds y (Contains-cons x y xs has)))
+  each_from P (x ∷ xs) holds = (
+    holds x (0, omega arith, refl),
+    each_from P xs
+        (λ y has. holds y (Contains-cons x y xs has)),
+  )
 
   pub from_each : (P : X → Type 0) (xs : List X) → AllByRecursion P xs → (x : X) → Contains xs x → P x
   from_each P [] holds x has = absurd (nothing_in x has)
@@ -82,8 +121,10 @@ unfolding IsDistinct
 IsDistinct-none eq = tt
 
 -- keys made of elements that differ, by a function that tells these apart
-pub IsDistinct-map : {X K L : Type 0} (eq : K → K → Bool) (other : L → L → Bool) (f : X → K) (g : X → L) (xs : List X) → IsDistinct eq (map f xs)
-    → ((x y : X) → Contains xs x → Contains xs y → eq (f x) (f y) ≡ false → other (g x) (g y) ≡ false) → IsDistinct other (map g xs)
+pub IsDistinct-map : {X K L : Type 0} (eq : K → K → Bool) (other : L → L → Bool) (f : X → K) (g : X → L)
+    (xs : List X) → IsDistinct eq (map f xs)
+    → ((x y : X) → Contains xs x → Contains xs y → eq (f x) (f y) ≡ false → other (g x) (g y) ≡ false)
+    → IsDistinct other (map g xs)
 IsDistinct-map eq other f g [] apart tells = IsDistinct-none other
 IsDistinct-map {X} eq other f g (x ∷ xs) apart tells =
     IsDistinct-cons other (g x) (map g xs)
@@ -91,7 +132,8 @@ IsDistinct-map {X} eq other f g (x ∷ xs) apart tells =
     let found = Contains-map_from g xs k has in
     subst (λ l. other (g x) l ≡ false) found.2
     (tells x found.0 (0, omega arith, refl) (Contains-cons x found.0 xs found.1)
-    (from_each (λ l. eq (f x) l ≡ false) (map f xs) (IsDistinct-head eq (f x) (map f xs) apart) (f found.0) (Contains-map f xs found.0 found.1)))))
+    (from_each (λ l. eq (f x) l ≡ false) (map f xs) (IsDistinct-head eq (f x) (map f xs) apart) (f found.0)
+    (Contains-map f xs found.0 found.1)))))
     (IsDistinct-map eq other f g xs (IsDistinct-tail eq (f x) (map f xs) apart)
     (λ a b one two. tells a b (Contains-cons x a xs one) (Contains-cons x b xs two)))
 

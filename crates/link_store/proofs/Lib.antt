@@ -1,3 +1,4 @@
+pub mod ByRows
 pub mod Members
 pub mod Standing
 pub mod Stores
@@ -22,4 +23,5 @@ pub mod Emptied
 pub mod Added
 pub mod Rewritten
 pub mod Replaced
+pub mod Lent
 pub mod Reading

@@ -1,20 +1,24 @@
 -- The lines of one axis after a list was added, and after a change.
-use Rattle.std.proofs.Common.{◌≡◌, ◌≢◌, inl, inr, ℕ, zero, suc, ◌+◌, ◌-◌, ◌<◌, List, [], ◌∷◌, ◌++◌, length, refl, sym, ap, subst, ◌∙◌, arith, get_or}
+use Rattle.std.proofs.Common.{◌≡◌, ◌≢◌, inl, inr, ℕ, zero, suc, ◌+◌, ◌-◌, ◌<◌, List, [], ◌∷◌, ◌++◌, length, refl, sym}
+use Rattle.std.proofs.Common.{ap, subst, ◌∙◌, arith, get_or, eqb}
 use Rattle.std.specs.Prelude.{Contains, nat_eq}
 use Rattle.std.specs.List.{range_with_len}
 use Rattle.std.specs.List.Sorted.{IsPermutation}
-use Rattle.std.proofs.lemmas.Bool.{cases_lt, cases_order, eq-eqb, false≢true}
+use Rattle.std.proofs.lemmas.Bool.{cases_lt, cases_order, eq-eqb, ne_eqb, false≢true}
 use Rattle.std.proofs.lemmas.Grind.{get_or_default_zero}
 use Rattle.std.proofs.lemmas.Bool.Decides.{nat_tests}
 use Rattle.std.proofs.lemmas.List.Elements.{All-contains, Contains-get_or}
 use Rattle.std.proofs.lemmas.Map.Keys.{IsDistinct-IsPermutation, apart_from_distinct}
+use Rattle.cell_store.specs.Table.{most_lines}
 use Rattle.link_store.proofs.Elements.{nothing_in, Contains-range, IsDistinct-range}
 use Rattle.std.proofs.lemmas.List.{length-append, get_or_append_left, get_or-append_right, get_or_past}
 use Rattle.std.proofs.lemmas.List.FromFn.{length-range_with_len, get_or-range_with_len}
-use Rattle.std.proofs.lemmas.List.Sorted.{IsPermutation-append_left, length_permutation, All-permutation, Contains-permutation}
-use Rattle.std.proofs.lemmas.List.Sums.{sum_by-append}
+use Rattle.std.proofs.lemmas.List.Sorted.{IsPermutation-append_left, length_permutation, All-permutation}
+use Rattle.std.proofs.lemmas.List.Sorted.{Contains-permutation}
+use Rattle.std.proofs.lemmas.List.Sums.{position_or_len_is, sum_by-append}
 use Rattle.link_store.specs.declared.lines.Lines.{Lines}
 use Rattle.link_store.specs.Lists.{entries_of, live_nodes}
+use Rattle.link_store.specs.Crossings.{place_in}
 use Rattle.link_store.specs.Lines.{AreLines, AreSameLines, HasSameEntries, list_of}
 
 pub range_more : (a n : ℕ) → range_with_len a (suc n) ≡ range_with_len a n ++ (a + n) ∷ []
@@ -33,21 +37,31 @@ module _ {E : Type 0} where
   )
 
   -- the list of a line is there
-  pub list_within : (lines : Lines E) → AreLines lines → (index : ℕ) → index < length lines.lists.items → list_of lines index < length lines.links
+  pub list_within : (lines : Lines E) → AreLines lines → (index : ℕ) → index < length lines.lists.items
+      → list_of lines index < length lines.links
   list_within lines are index within =
       All-contains (λ list. list < length lines.links) lines.lists.items (list_of lines index)
-      (All-permutation (λ list. list < length lines.links) (range_with_len 0 (length lines.links)) lines.lists.items are.each_list
-      (λ k d less. omega (arith, get_or-range_with_len 0 (length lines.links) k d (omega (arith, length-range_with_len 0 (length lines.links))), length-range_with_len 0 (length lines.links))))
+      (All-permutation (λ list. list < length lines.links) (range_with_len 0 (length lines.links))
+      lines.lists.items are.each_list
+      (λ k d less. omega (
+        arith,
+        get_or-range_with_len 0 (length lines.links) k d
+            (omega (arith, length-range_with_len 0 (length lines.links))),
+        length-range_with_len 0 (length lines.links),
+      )))
       (Contains-get_or lines.lists.items index 0 within)
 
   -- two lines have two lists
-  lists_apart : (lines : Lines E) → AreLines lines → (i j : ℕ) → i < j → j < length lines.lists.items → list_of lines i ≢ list_of lines j
+  lists_apart : (lines : Lines E) → AreLines lines → (i j : ℕ) → i < j → j < length lines.lists.items
+      → list_of lines i ≢ list_of lines j
   lists_apart lines are i j order within same =
       false≢true (sym (apart_from_distinct nat_eq lines.lists.items i j 0
-      (IsDistinct-IsPermutation nat_eq (λ x y. grind (arith, nat_tests)) (range_with_len 0 (length lines.links)) lines.lists.items are.each_list
+      (IsDistinct-IsPermutation nat_eq (λ x y. grind (arith, nat_tests)) (range_with_len 0 (length lines.links))
+      lines.lists.items are.each_list
       (IsDistinct-range 0 (length lines.links))) order within) ∙ eq-eqb (list_of lines i) (list_of lines j) same)
 
-  pub same_line : (lines : Lines E) → AreLines lines → (i j : ℕ) → i < length lines.lists.items → j < length lines.lists.items → list_of lines i ≡ list_of lines j → i ≡ j
+  pub same_line : (lines : Lines E) → AreLines lines → (i j : ℕ) → i < length lines.lists.items
+      → j < length lines.lists.items → list_of lines i ≡ list_of lines j → i ≡ j
   same_line lines are i j one two same = elim (cases_order i j) [
     | inl equal ↦ equal
     | inr rest ↦ elim rest [
@@ -56,19 +70,33 @@ module _ {E : Type 0} where
     ]
   ]
 
+  -- where the line of a list stands
+  pub place_is : (lines : Lines E) → AreLines lines → (list line : ℕ) → line < lines.count
+      → list ≡ list_of lines line → place_in lines list ≡ line
+  place_is lines are list line there is =
+      position_or_len_is (λ other. eqb other list) lines.lists.items line 0 (omega (arith, are.count))
+      (λ k less. ne_eqb (list_of lines k) list (λ same.
+      let equal = same_line lines are k line (omega (arith, are.count)) (omega (arith, are.count)) (same ∙ is) in
+      omega arith))
+      (λ less. eq-eqb (list_of lines line) list (sym is))
+
   -- a list that has an entry is a line's
-  pub line_of : (lines : Lines E) → AreLines lines → (list : ℕ) (entry : ℕ × E) → Contains (entries_of lines.links list) entry
+  pub line_of : (lines : Lines E) → AreLines lines → (list : ℕ) (entry : ℕ × E)
+      → Contains (entries_of lines.links list) entry
       → (line : ℕ) × (line < lines.count) × (list_of lines line ≡ list)
   line_of lines are list entry has =
       let there : list < length lines.links = elim (cases_lt list (length lines.links)) [
         | inl less ↦ less
-        | inr past ↦ absurd (nothing_in entry (subst (λ es. Contains es entry) (get_or_past lines.links list [] past) has))
+        | inr past ↦ absurd (nothing_in entry (subst (λ es. Contains es entry)
+            (get_or_past lines.links list [] past) has))
       ] in
-      let at = Contains-permutation (range_with_len 0 (length lines.links)) lines.lists.items list are.each_list (Contains-range (length lines.links) list there) in
+      let at = Contains-permutation (range_with_len 0 (length lines.links)) lines.lists.items list are.each_list
+      (Contains-range (length lines.links) list there) in
       let is : list_of lines at.0 ≡ list = sym (get_or_default_zero lines.lists.items at.0 list at.1) ∙ at.2 in
       elim (cases_lt at.0 lines.count) [
         | inl less ↦ (at.0, less, is)
-        | inr past ↦ absurd (nothing_in entry (subst (λ es. Contains es entry) (ap (entries_of lines.links) (sym is) ∙ are.spare at.0 past at.1) has))
+        | inr past ↦ absurd (nothing_in entry (subst (λ es. Contains es entry)
+            (ap (entries_of lines.links) (sym is) ∙ are.spare at.0 past at.1) has))
       ]
 
   entries_push : (lists : List (List (ℕ × E))) (list : ℕ) → entries_of (lists ++ [] ∷ []) list ≡ entries_of lists list
@@ -78,7 +106,8 @@ module _ {E : Type 0} where
   entries_push (found ∷ lists) (suc list) = entries_push lists list
 
   module _ (before after : Lines E) (number : ℕ) (are : AreLines before) (links : after.links ≡ before.links ++ [] ∷ [])
-      (lists : after.lists.items ≡ before.lists.items ++ number ∷ []) (numbered : number ≡ length before.lists.items) (count : after.count ≡ before.count) where
+      (lists : after.lists.items ≡ before.lists.items ++ number ∷ [])
+      (numbered : number ≡ length before.lists.items) (count : after.count ≡ before.count) where
     longer : length after.lists.items ≡ length before.lists.items + 1
     longer = omega (arith, ap length lists, length-append before.lists.items (number ∷ []))
 
@@ -89,12 +118,13 @@ module _ {E : Type 0} where
     }
 
     list_kept : (index : ℕ) → index < length before.lists.items → list_of after index ≡ list_of before index
-    list_kept index within = ap (λ xs. get_or xs index 0) lists ∙ get_or_append_left before.lists.items (number ∷ []) 0 index within
+    list_kept index within = ap (λ xs. get_or xs index 0) lists
+        ∙ get_or_append_left before.lists.items (number ∷ []) 0 index within
 
     pub same_added : AreSameLines before after
     same_added = record { count = count; lists = λ line there. list_kept line (omega (arith, are.count)) }
 
-    pub lines_added : length before.lists.items < 2000000000 → AreLines after
+    pub lines_added : length before.lists.items < most_lines → AreLines after
     lines_added room = record {
       count = omega (arith, are.count, longer);
       most = omega (arith, longer);
@@ -102,7 +132,8 @@ module _ {E : Type 0} where
           (subst (IsPermutation (range_with_len 0 (suc (length before.links)))) (sym lists)
           (subst (λ xs. IsPermutation xs (before.lists.items ++ number ∷ []))
           (sym (range_more 0 (length before.links) ∙ ap (λ n. range_with_len 0 (length before.links) ++ n ∷ []) next))
-          (IsPermutation-append_left (number ∷ []) (range_with_len 0 (length before.links)) before.lists.items are.each_list)));
+          (IsPermutation-append_left (number ∷ []) (range_with_len 0 (length before.links)) before.lists.items
+          are.each_list)));
       spare = λ index past within.
           let first : index < length before.lists.items + 1 = omega (arith, longer) in
           entries_added.entries (list_of after index) ∙ elim (cases_lt index (length before.lists.items)) [

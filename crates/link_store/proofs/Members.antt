@@ -1,11 +1,12 @@
 -- Which nodes a list of entries has, which come first and last, and what is left without one.
-use Rattle.std.proofs.Common.{◌≡◌, ◌≢◌, ◌⊎◌, inl, inr, ℕ, zero, suc, ◌+◌, List, [], ◌∷◌, ◌++◌, length, map, false, refl, sym, ap, subst, ◌∙◌, arith}
+use Rattle.std.proofs.Common.{◌≡◌, ◌≢◌, ◌⊎◌, inl, inr, ℕ, zero, suc, ◌+◌, List, [], ◌∷◌, ◌++◌, length, map, false}
+use Rattle.std.proofs.Common.{refl, sym, ap, subst, ◌∙◌, arith}
 use Rattle.std.specs.Prelude.{Option, Some, None, Contains, nat_eq, slice_get, IfSome, IfNone}
 use Rattle.std.specs.List.{AllByRecursion, IsDistinct}
 use Rattle.std.specs.Option.{option_or}
 use Rattle.std.proofs.lemmas.Bool.{cases_eq, eq-eqb, ne_eqb}
 use Rattle.std.proofs.lemmas.List.Sums.{sum_by-cons}
-use Rattle.slab.proofs.SlabLemmas.{Contains-cons, Contains-cons_cases}
+use Rattle.link_store.proofs.Elements.{Contains-cons, Contains-cons_cases}
 use Rattle.link_store.specs.Lists.{entries_of, first_node, node_after, without, without_node, live_nodes}
 use Rattle.link_store.specs.Nodes.{Lacks, last_from, pass}
 
@@ -48,24 +49,29 @@ module _ {T : Type 0} where
   HasOnce [] = Unit {0}
   HasOnce (entry ∷ rest) = Lacks entry.0 rest × HasOnce rest
 
-  pub without_same : (node : ℕ) (entry : ℕ × T) (rest : List (ℕ × T)) → entry.0 ≡ node → without node (entry ∷ rest) ≡ without node rest
+  pub without_same : (node : ℕ) (entry : ℕ × T) (rest : List (ℕ × T)) → entry.0 ≡ node
+      → without node (entry ∷ rest) ≡ without node rest
   without_same node entry rest same = rw (eq-eqb entry.0 node same)
 
-  pub without_other : (node : ℕ) (entry : ℕ × T) (rest : List (ℕ × T)) → entry.0 ≢ node → without node (entry ∷ rest) ≡ entry ∷ without node rest
+  pub without_other : (node : ℕ) (entry : ℕ × T) (rest : List (ℕ × T)) → entry.0 ≢ node
+      → without node (entry ∷ rest) ≡ entry ∷ without node rest
   without_other node entry rest differs = rw (ne_eqb entry.0 node differs)
 
   pub without_lacking : (node : ℕ) (found : List (ℕ × T)) → Lacks node found → without node found ≡ found
   without_lacking node [] lacks = refl
-  without_lacking node (entry ∷ rest) lacks = without_other node entry rest lacks.0 ∙ ap (λ r. entry ∷ r) (without_lacking node rest lacks.1)
+  without_lacking node (entry ∷ rest) lacks = without_other node entry rest lacks.0
+      ∙ ap (λ r. entry ∷ r) (without_lacking node rest lacks.1)
 
   pub Lacks-without : (node other : ℕ) (found : List (ℕ × T)) → Lacks node found → Lacks node (without other found)
   Lacks-without node other [] lacks = tt
   Lacks-without node other (entry ∷ rest) lacks = elim (cases_eq entry.0 other) [
     | inl same ↦ subst (Lacks node) (sym (without_same other entry rest same)) (Lacks-without node other rest lacks.1)
-    | inr differs ↦ subst (Lacks node) (sym (without_other other entry rest differs)) (lacks.0, Lacks-without node other rest lacks.1)
+    | inr differs ↦ subst (Lacks node) (sym (without_other other entry rest differs))
+        (lacks.0, Lacks-without node other rest lacks.1)
   ]
 
-  pub Lacks-push : (node other : ℕ) (item : T) (found : List (ℕ × T)) → Lacks node found → other ≢ node → Lacks node (found ++ (other, item) ∷ [])
+  pub Lacks-push : (node other : ℕ) (item : T) (found : List (ℕ × T)) → Lacks node found → other ≢ node
+      → Lacks node (found ++ (other, item) ∷ [])
   Lacks-push node other item [] lacks differs = (differs, tt)
   Lacks-push node other item (entry ∷ rest) lacks differs = (lacks.0, Lacks-push node other item rest lacks.1 differs)
 
@@ -77,46 +83,60 @@ module _ {T : Type 0} where
   ]
 
   -- the last of some entries is one of them
-  pub last_lacked : (node : ℕ) (before : Option ℕ) (entry : ℕ × T) (rest : List (ℕ × T)) → Lacks node (entry ∷ rest) → last_from before (entry ∷ rest) ≢ Some node
+  pub last_lacked : (node : ℕ) (before : Option ℕ) (entry : ℕ × T) (rest : List (ℕ × T))
+      → Lacks node (entry ∷ rest) → last_from before (entry ∷ rest) ≢ Some node
   last_lacked node before entry [] lacks = λ e. lacks.0 (cc)
   last_lacked node before entry (next ∷ rest) lacks = last_lacked node (Some entry.0) next rest lacks.1
 
-  pub last_push : (before : Option ℕ) (found : List (ℕ × T)) (node : ℕ) (item : T) → last_from before (found ++ (node, item) ∷ []) ≡ Some node
+  pub last_push : (before : Option ℕ) (found : List (ℕ × T)) (node : ℕ) (item : T)
+      → last_from before (found ++ (node, item) ∷ []) ≡ Some node
   last_push before [] node item = refl
   last_push before (entry ∷ rest) node item = last_push (Some entry.0) rest node item
 
   -- the last is the one before where there is no entry, or the node of one
-  pub last_cases : (before : Option ℕ) (found : List (ℕ × T)) (k : ℕ) → last_from before found ≡ Some k → (before ≡ Some k) ⊎ ((item : T) × Contains found (k, item))
+  pub last_cases : (before : Option ℕ) (found : List (ℕ × T)) (k : ℕ) → last_from before found ≡ Some k
+      → (before ≡ Some k) ⊎ ((item : T) × Contains found (k, item))
   last_cases before [] k is = inl is
   last_cases before (entry ∷ rest) k is = elim (last_cases (Some entry.0) rest k is) [
     | inl here ↦ let same : entry.0 ≡ k = cc in inr (entry.1, (0, omega arith, ap (λ n. (n, entry.1)) same))
     | inr there ↦ inr (there.0, Contains-cons entry (k, there.0) rest there.1)
   ]
 
-  pub node_after_same : (entry : ℕ × T) (rest : List (ℕ × T)) (node : ℕ) → entry.0 ≡ node → node_after (entry ∷ rest) node ≡ first_node rest
+  pub node_after_same : (entry : ℕ × T) (rest : List (ℕ × T)) (node : ℕ) → entry.0 ≡ node
+      → node_after (entry ∷ rest) node ≡ first_node rest
   node_after_same entry rest node same = rw (eq-eqb entry.0 node same)
 
-  pub node_after_other : (entry : ℕ × T) (rest : List (ℕ × T)) (node : ℕ) → entry.0 ≢ node → node_after (entry ∷ rest) node ≡ node_after rest node
+  pub node_after_other : (entry : ℕ × T) (rest : List (ℕ × T)) (node : ℕ) → entry.0 ≢ node
+      → node_after (entry ∷ rest) node ≡ node_after rest node
   node_after_other entry rest node differs = rw (ne_eqb entry.0 node differs)
 
   -- what lacks nothing is one shorter without a node that it has
-  pub length-without : (node : ℕ) (item : T) (found : List (ℕ × T)) → HasOnce found → Contains found (node, item) → length (without node found) + 1 ≡ length found
+  pub length-without : (node : ℕ) (item : T) (found : List (ℕ × T)) → HasOnce found → Contains found (node, item)
+      → length (without node found) + 1 ≡ length found
   length-without node item [] once has = absurd (omega (arith, has.1))
   length-without node item (entry ∷ rest) once has = elim (cases_eq entry.0 node) [
     | inl same ↦
-        let rest_is : without node (entry ∷ rest) ≡ rest = without_same node entry rest same ∙ without_lacking node rest (subst (λ n. Lacks n rest) same once.0) in
+        let rest_is : without node (entry ∷ rest) ≡ rest = without_same node entry rest same
+        ∙ without_lacking node rest (subst (λ n. Lacks n rest) same once.0) in
         omega (arith, ap length rest_is)
     | inr differs ↦ elim (Contains-cons_cases entry (node, item) rest has) [
       | inl here ↦ absurd (differs (ap (λ (e : ℕ × T). e.0) here))
-      | inr there ↦ omega (arith, ap length (without_other node entry rest differs), length-without node item rest once.1 there)
+      | inr there ↦ omega (
+        arith,
+        ap length (without_other node entry rest differs),
+        length-without node item rest
+            once.1 there,
+      )
     ]
   ]
 
-  pub first_push : (found : List (ℕ × T)) (node : ℕ) (item : T) → first_node (found ++ (node, item) ∷ []) ≡ option_or (first_node found) (Some node)
+  pub first_push : (found : List (ℕ × T)) (node : ℕ) (item : T)
+      → first_node (found ++ (node, item) ∷ []) ≡ option_or (first_node found) (Some node)
   first_push [] node item = refl
   first_push (entry ∷ rest) node item = refl
 
-  lacks_key : (node : ℕ) (rest : List (ℕ × T)) → Lacks node rest → AllByRecursion (λ other. nat_eq node other ≡ false) (map (λ (e : ℕ × T). e.0) rest)
+  lacks_key : (node : ℕ) (rest : List (ℕ × T)) → Lacks node rest
+      → AllByRecursion (λ other. nat_eq node other ≡ false) (map (λ (e : ℕ × T). e.0) rest)
   lacks_key node [] lacks = tt
   lacks_key node (entry ∷ rest) lacks = (ne_eqb node entry.0 (λ same. lacks.0 (sym same)), lacks_key node rest lacks.1)
 
@@ -126,14 +146,16 @@ module _ {T : Type 0} where
   IsDistinct-once (entry ∷ rest) once = (lacks_key entry.0 rest once.0, IsDistinct-once rest once.1)
 
   -- the first entry of a list
-  pub first_stands : (found : List (ℕ × T)) (node : ℕ) → first_node found ≡ Some node → (item : T) × (slice_get found 0 ≡ Some (node, item)) × Contains found (node, item)
+  pub first_stands : (found : List (ℕ × T)) (node : ℕ) → first_node found ≡ Some node
+      → (item : T) × (slice_get found 0 ≡ Some (node, item)) × Contains found (node, item)
   first_stands [] node is = absurd (cc)
   first_stands (entry ∷ rest) node is =
       let same : entry.0 ≡ node = cc (is) in
       (entry.1, ap (λ n. Some (n, entry.1)) same, (0, omega arith, ap (λ n. (n, entry.1)) same))
 
   -- the node behind another is one of the list's
-  pub node_after_in : (found : List (ℕ × T)) (node next : ℕ) → node_after found node ≡ Some next → (item : T) × Contains found (next, item)
+  pub node_after_in : (found : List (ℕ × T)) (node next : ℕ) → node_after found node ≡ Some next
+      → (item : T) × Contains found (next, item)
   node_after_in [] node next is = absurd (cc)
   node_after_in (entry ∷ rest) node next is = elim (cases_eq entry.0 node) [
     | inl same ↦
@@ -144,18 +166,29 @@ module _ {T : Type 0} where
         (later.0, Contains-cons entry (next, later.0) rest later.1)
   ]
 
-  pub without_none : (node : ℕ) (lists : List (List (ℕ × T))) → ((i : ℕ) → Lacks node (entries_of lists i)) → without_node lists node ≡ lists
+  pub without_none : (node : ℕ) (lists : List (List (ℕ × T))) → ((i : ℕ) → Lacks node (entries_of lists i))
+      → without_node lists node ≡ lists
   without_none node [] lacks = refl
   without_none node (found ∷ lists) lacks =
-      ap (λ f. f ∷ without_node lists node) (without_lacking node found (lacks 0)) ∙ ap (λ fs. found ∷ fs) (without_none node lists (λ i. lacks (suc i)))
+      ap (λ f. f ∷ without_node lists node) (without_lacking node found (lacks 0))
+      ∙ ap (λ fs. found ∷ fs) (without_none node lists (λ i. lacks (suc i)))
 
   -- one live node less
-  pub live_nodes-without : (lists : List (List (ℕ × T))) (list node : ℕ) (item : T) → HasOnce (entries_of lists list) → Contains (entries_of lists list) (node, item)
-      → ((i : ℕ) → i ≢ list → Lacks node (entries_of lists i)) → live_nodes (without_node lists node) + 1 ≡ live_nodes lists
+  pub live_nodes-without : (lists : List (List (ℕ × T))) (list node : ℕ) (item : T)
+      → HasOnce (entries_of lists list) → Contains (entries_of lists list) (node, item)
+      → ((i : ℕ) → i ≢ list → Lacks node (entries_of lists i))
+      → live_nodes (without_node lists node) + 1 ≡ live_nodes lists
   live_nodes-without [] list node item once has lacks = absurd (omega (arith, has.1))
   live_nodes-without (found ∷ lists) zero node item once has lacks =
-      let rest : without_node lists node ≡ lists = without_none node lists (λ i. lacks (suc i) (λ e. omega (arith, e))) in
-      omega (arith, length-without node item found once has, ap live_nodes rest, sum_by-cons length found lists, sum_by-cons length (without node found) (without_node lists node))
+      let rest : without_node lists node ≡ lists = without_none node lists
+      (λ i. lacks (suc i) (λ e. omega (arith, e))) in
+      omega (
+        arith,
+        length-without node item found once has,
+        ap live_nodes rest,
+        sum_by-cons length found lists,
+        sum_by-cons length (without node found) (without_node lists node),
+      )
   live_nodes-without (found ∷ lists) (suc list) node item once has lacks =
       let same : without node found ≡ found = without_lacking node found (lacks 0 (λ e. omega (arith, e))) in
       omega (

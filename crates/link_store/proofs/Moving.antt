@@ -1,6 +1,7 @@
 -- Lines after a change, where two parts of their lists changed places.
-use Rattle.std.proofs.Common.{◌≡◌, ◌⊎◌, inl, inr, ℕ, ◌+◌, ◌-◌, ◌<◌, ◌≤◌, [], length, refl, sym, ap, subst, ◌∙◌, arith, nat_lt, cond}
-use Rattle.std.specs.Prelude.{Some, None, slice_index}
+use Rattle.std.proofs.Common.{◌≡◌, ◌⊎◌, inl, inr, ℕ, ◌+◌, ◌-◌, ◌<◌, ◌≤◌, [], length, refl, sym, ap, subst, ◌∙◌, arith}
+use Rattle.std.proofs.Common.{nat_lt, cond}
+use Rattle.std.specs.Prelude.{Some, None, IfSome, slice_index}
 use Rattle.std.specs.Option.{option_map}
 use Rattle.std.specs.List.{range_with_len}
 use Rattle.std.specs.List.Sorted.{IsPermutation}
@@ -11,7 +12,7 @@ use Rattle.grid_range.specs.declared.change.Change.{Change}
 use Rattle.grid_range.specs.declared.change.Change.TheVariants.{Delete, Move}
 use Rattle.grid_range.specs.Change.{Fits, count_after}
 use Rattle.grid_range.specs.Tracking.{place_of, closed_up, span_moved}
-use Rattle.cell_store.proofs.Injective.{place_apart, place_within}
+use Rattle.grid_range.specs.TrackingLaws.{PlacesStayApart, PlacesStayBelow}
 use Rattle.link_store.specs.declared.lines.Lines.{Lines}
 use Rattle.link_store.proofs.Turns.{source_last, source_within}
 use Rattle.link_store.specs.Lists.{entries_of}
@@ -26,17 +27,15 @@ pub record Turns (change : Change) (count all start middle end : ℕ) (Gone : �
   pub going : (line place : ℕ) → line < count → place_of change line ≡ Some place
       → (place < all) × (source start middle end place ≡ line)
   pub spare : (index : ℕ) → count_after change count ≤ index → index < all
-      → (source start middle end index < all) × ((count ≤ source start middle end index) ⊎ Gone (source start middle end index))
+      → (source start middle end index < all) × ((count ≤ source start middle end index) ⊎ Gone
+      (source start middle end index))
 
--- two lines don't go to one place
-apart : (change : Change) (count line other place : ℕ) → Fits change count → place_of change line ≡ Some place → place_of change other ≡ Some place → line ≡ other
-apart change count line other place fits one two =
-    ap (λ p. p.0) (place_apart Rows change count 0 (line, 0) (other, 0) (place, 0) fits
-    (ap (option_map (λ l. (l, 0))) one) (ap (option_map (λ l. (l, 0))) two))
-
-within : (change : Change) (count line place : ℕ) → Fits change count → line < count → place_of change line ≡ Some place → place < count_after change count
-within change count line place fits there goes =
-    (place_within Rows change count 1 (line, 0) (place, 0) fits (there, omega arith) (ap (option_map (λ l. (l, 0))) goes)).0
+-- where a line goes is below the number of lines
+pub goes_below : PlacesStayBelow → (change : Change) (count line place : ℕ) → Fits change count → line < count
+    → place_of change line ≡ Some place
+    → place < count_after change count
+goes_below below change count line place fits there goes =
+    subst (λ o. IfSome o (λ p. p < count_after change count)) goes (below change count line fits there)
 
 chosen : (a b p : ℕ) → a < b → a ≡ p → option_map (λ (s : ℕ × ℕ). s.0) (cond (nat_lt a b) (Some (a, b)) None) ≡ Some p
 chosen a b p less is = grind (arith, nat_tests)
@@ -47,73 +46,74 @@ deleted_place start end count p some order there =
     chosen (closed_up start end (source start end count p)) (closed_up start end (source start end count p + 1)) p
     (grind (arith, nat_tests)) (grind (arith, nat_tests))
 
-moved_back : (start end to p : ℕ) → start < end → to < start → (span_moved (source to start end p) (source to start end p + 1) start end to).0 ≡ p
+moved_back : (start end to p : ℕ) → start < end → to < start
+    → (span_moved (source to start end p) (source to start end p + 1) start end to).0 ≡ p
 moved_back start end to p some order = grind (arith, nat_tests)
 
-moved_on : (start end to p : ℕ) → start < end → end < to → (span_moved (source start end to p) (source start end to p + 1) start end to).0 ≡ p
+moved_on : (start end to p : ℕ) → start < end → end < to
+    → (span_moved (source start end to p) (source start end to p + 1) start end to).0 ≡ p
 moved_on start end to p some order = grind (arith, nat_tests)
-
-not_moved : (start end to p : ℕ) → start < end → start ≤ to → to ≤ end → (span_moved p (p + 1) start end to).0 ≡ p
-not_moved start end to p some one two = grind (arith, nat_tests)
 
 -- no line
 abbrev pub Nothing : ℕ → Type 0
 Nothing line = ⊥
 
-pub turns_delete : (start end count all : ℕ) → Fits (Delete start end) count → count ≤ all
+pub turns_delete : PlacesStayApart → PlacesStayBelow → (start end count all : ℕ) → Fits (Delete start end) count
+    → count ≤ all
     → Turns (Delete start end) count all start end count (λ line. (start ≤ line) × (line < end))
-turns_delete start end count all fits room = record {
+turns_delete apart below start end count all fits room = record {
   fits = omega arith;
   coming = λ p there. inl (grind (arith, nat_tests), deleted_place start end count p fits.0 fits.1 there);
   going = λ line p there goes.
-      let less = within (Delete start end) count line p fits there goes in (
+      let less = goes_below below (Delete start end) count line p fits there goes in (
         omega arith,
-        apart (Delete start end) count (source start end count p) line p fits (deleted_place start end count p fits.0 fits.1 less) goes,
+        apart (Delete start end) count (source start end count p) line p fits (grind (arith, nat_tests)) there
+            (deleted_place start end count p fits.0 fits.1 less) goes,
       );
   spare = λ i past inside. grind (arith, nat_tests);
 }
 
-pub turns_back : (start end to count all : ℕ) → Fits (Move start end to) count → to < start → count ≤ all
+pub turns_back : PlacesStayApart → PlacesStayBelow → (start end to count all : ℕ) → Fits (Move start end to) count
+    → to < start → count ≤ all
     → Turns (Move start end to) count all to start end Nothing
-turns_back start end to count all fits order room =
-    let back : (p : ℕ) → place_of (Move start end to) (source to start end p) ≡ Some p = λ p. ap Some (moved_back start end to p fits.0 order) in
+turns_back apart below start end to count all fits order room =
+    let back : (p : ℕ) → place_of (Move start end to) (source to start end p) ≡ Some p = λ p. ap Some
+    (moved_back start end to p fits.0 order) in
     record {
       fits = room;
       coming = λ p there. inl (source_within to start end p count (omega arith) (omega arith) fits.1 there, back p);
       going = λ line p there goes.
-          let less = within (Move start end to) count line p fits there goes in
-          (omega arith, apart (Move start end to) count (source to start end p) line p fits (back p) goes);
+          let less = goes_below below (Move start end to) count line p fits there goes in (
+            omega arith,
+            apart (Move start end to) count (source to start end p) line p fits
+                (source_within to start end p count (omega arith) (omega arith) fits.1 less) there (back p) goes,
+          );
       spare = λ i past inside.
           let same = source_last to start end i (omega arith) (omega arith) (omega arith) in
           (omega arith, inl (omega arith));
     }
 
-pub turns_on : (start end to count all : ℕ) → Fits (Move start end to) count → end < to → count ≤ all
+pub turns_on : PlacesStayApart → PlacesStayBelow → (start end to count all : ℕ) → Fits (Move start end to) count
+    → end < to → count ≤ all
     → Turns (Move start end to) count all start end to Nothing
-turns_on start end to count all fits order room =
-    let back : (p : ℕ) → place_of (Move start end to) (source start end to p) ≡ Some p = λ p. ap Some (moved_on start end to p fits.0 order) in
+turns_on apart below start end to count all fits order room =
+    let back : (p : ℕ) → place_of (Move start end to) (source start end to p) ≡ Some p = λ p. ap Some
+    (moved_on start end to p fits.0 order) in
     record {
       fits = room;
       coming = λ p there. inl (source_within start end to p count (omega arith) (omega arith) fits.2 there, back p);
       going = λ line p there goes.
-          let less = within (Move start end to) count line p fits there goes in
-          (omega arith, apart (Move start end to) count (source start end to p) line p fits (back p) goes);
+          let less = goes_below below (Move start end to) count line p fits there goes in (
+            omega arith,
+            apart (Move start end to) count (source start end to p) line p fits
+                (source_within start end to p count (omega arith) (omega arith) fits.2 less) there (back p) goes,
+          );
       spare = λ i past inside.
           let same = source_last start end to i (omega arith) (omega arith) (omega arith) in
           (omega arith, inl (omega arith));
     }
 
 module _ {E : Type 0} where
-  -- a move that moves nothing
-  pub moved_nothing : (lines : Lines E) (start end to : ℕ) → Fits (Move start end to) lines.count → start ≤ to → to ≤ end → AreMoved (Move start end to) lines lines
-  moved_nothing lines start end to fits one two =
-      let back : (p : ℕ) → place_of (Move start end to) p ≡ Some p = λ p. ap Some (not_moved start end to p fits.0 one two) in
-      record {
-        count = refl;
-        going = λ line p there goes. ap (list_of lines) (apart (Move start end to) lines.count p line p fits (back p) goes);
-        coming = λ p there. inl (record { line = p; there = there; goes = back p; list_is = refl });
-      }
-
   -- the lists of two parts changed places, and those of the second are of no line from now on
   pub record IsTurned (before after : Lines E) (start middle end : ℕ) : Type 0 where
     pub links : after.links ≡ before.links
@@ -123,14 +123,16 @@ module _ {E : Type 0} where
         → slice_index after.lists.items index ≡ slice_index before.lists.items (source start middle end index)
 
   module _ (change : Change) (before after : Lines E) (start middle end : ℕ) (Gone : ℕ → Type 0) (are : AreLines before)
-      (turns : Turns change before.count (length before.lists.items) start middle end Gone) (is : IsTurned before after start middle end)
+      (turns : Turns change before.count (length before.lists.items) start middle end Gone)
+      (is : IsTurned before after start middle end)
       (count : after.count ≡ count_after change before.count) where
     pub lines_turned : ((line : ℕ) → Gone line → line_entries before line ≡ []) → AreLines after
     lines_turned empty = record {
       count = omega (arith, turns.fits, count, is.long);
       most = omega (arith, are.most, is.long);
       each_list = subst (λ n. IsPermutation (range_with_len 0 n) after.lists.items) (sym (ap length is.links))
-          (IsPermutation-trans (range_with_len 0 (length before.links)) before.lists.items after.lists.items are.each_list is.numbers);
+          (IsPermutation-trans (range_with_len 0 (length before.links)) before.lists.items after.lists.items
+          are.each_list is.numbers);
       spare = λ index past inside.
           let old : index < length before.lists.items = omega (arith, is.long) in
           let stood = turns.spare index (omega (arith, count)) old in
@@ -151,8 +153,14 @@ module _ {E : Type 0} where
           let inside : place < count_after change before.count = omega (arith, count) in
           let at = is.order place (omega (arith, turns.fits)) in
           elim (turns.coming place inside) [
-            | inl stayed ↦ inl (record { line = source start middle end place; there = stayed.0; goes = stayed.1; list_is = at })
-            | inr spare ↦ inr (ap (λ all. entries_of all (list_of after place)) is.links ∙ ap (entries_of before.links) at
+            | inl stayed ↦ inl (record {
+              line = source start middle end place;
+              there = stayed.0;
+              goes = stayed.1;
+              list_is = at;
+            })
+            | inr spare ↦ inr (ap (λ all. entries_of all (list_of after place)) is.links
+                ∙ ap (entries_of before.links) at
                 ∙ are.spare (source start middle end place) spare.0 spare.1)
           ];
     }

@@ -1,5 +1,6 @@
 -- Lists of no line that come to stand before a line.
-use Rattle.std.proofs.Common.{◌≡◌, ◌≢◌, inl, inr, ℕ, ◌+◌, ◌-◌, ◌<◌, ◌≤◌, List, [], length, refl, sym, ap, subst, ◌∙◌, arith, get_or}
+use Rattle.std.proofs.Common.{◌≡◌, ◌≢◌, inl, inr, ℕ, ◌+◌, ◌-◌, ◌<◌, ◌≤◌, List, [], length, refl, sym, ap, subst, ◌∙◌}
+use Rattle.std.proofs.Common.{arith, get_or}
 use Rattle.std.specs.Prelude.{Some}
 use Rattle.std.specs.Option.{unwrap_or}
 use Rattle.std.specs.List.{range_with_len}
@@ -15,7 +16,8 @@ use Rattle.link_store.specs.Lines.{OpenedFrom, AreLines, AreMoved, AreSameLines,
 
 -- where a number stood that is at an index
 abbrev pub StoodAt : List ℕ → List ℕ → ℕ → ℕ → ℕ → ℕ → Type 0
-StoodAt before after at inserted count index = (old : ℕ) × OpenedFrom at inserted count index old × (get_or after index 0 ≡ get_or before old 0)
+StoodAt before after at inserted count index = (old : ℕ) × OpenedFrom at inserted count index
+    old × (get_or after index 0 ≡ get_or before old 0)
 
 pub opened_none : (xs : List ℕ) (inserted count index : ℕ) → StoodAt xs xs count inserted count index
 opened_none xs inserted count index = elim (cases_lt index count) [
@@ -35,12 +37,20 @@ pub opened_more : (before items next : List ℕ) (line inserted count : ℕ) →
 opened_more before items next line inserted count some there left right others stood index =
     elim (cases_eq index line) [
       | inl here ↦
-          let from = stood (line + inserted) in
-          (from.0, inr (inl (omega arith, omega arith, omega (arith, from.1), omega (arith, from.1))), ap (λ k. get_or next k 0) here ∙ left ∙ from.2)
+          let from = stood (line + inserted) in (
+            from.0,
+            inr (inl (omega arith, omega arith, omega (arith, from.1), omega (arith, from.1))),
+            ap
+                (λ k. get_or next k 0) here ∙ left ∙ from.2,
+          )
       | inr differs ↦ elim (cases_eq index (line + inserted)) [
         | inl landed ↦
-            let from = stood line in
-            (from.0, inr (inr (inl (omega arith, omega arith, omega (arith, from.1)))), ap (λ k. get_or next k 0) landed ∙ right ∙ from.2)
+            let from = stood line in (
+              from.0,
+              inr (inr (inl (omega arith, omega arith, omega (arith, from.1)))),
+              ap (λ k. get_or next k 0)
+                  landed ∙ right ∙ from.2,
+            )
         | inr elsewhere ↦
             let from = stood index in (
               from.0,
@@ -66,16 +76,20 @@ opened_before at n line h = let is : start_opened at n line ≡ line = grind (ar
 opened_behind : (at n line : ℕ) → at ≤ line → place_of (Insert at n) line ≡ Some (line + n)
 opened_behind at n line h = let is : start_opened at n line ≡ line + n = grind (arith, nat_tests) in ap Some is
 
-module _ {E : Type 0} (before middle after : Lines E) (at n : ℕ) (are : AreLines middle) (same : AreSameLines before middle)
-    (links : after.links ≡ middle.links) (count : after.count ≡ before.count + n) (long : length after.lists.items ≡ length middle.lists.items)
+module _ {E : Type 0} (before middle after : Lines E) (at n : ℕ) (are : AreLines middle)
+    (same : AreSameLines before middle)
+    (links : after.links ≡ middle.links) (count : after.count ≡ before.count + n)
+    (long : length after.lists.items ≡ length middle.lists.items)
     (room : before.count + n ≤ length middle.lists.items) (inside : at ≤ before.count)
-    (order : (index : ℕ) → index < length middle.lists.items → StoodAt middle.lists.items after.lists.items at n middle.count index) where
+    (order : (index : ℕ) → index < length middle.lists.items
+    → StoodAt middle.lists.items after.lists.items at n middle.count index) where
   pub lines_opened : IsPermutation middle.lists.items after.lists.items → AreLines after
   lines_opened numbers = record {
     count = omega (arith, count, long);
     most = omega (arith, are.most, long);
     each_list = subst (λ n. IsPermutation (range_with_len 0 n) after.lists.items) (sym (ap length links))
-        (IsPermutation-trans (range_with_len 0 (length middle.links)) middle.lists.items after.lists.items are.each_list numbers);
+        (IsPermutation-trans (range_with_len 0 (length middle.links)) middle.lists.items after.lists.items
+        are.each_list numbers);
     spare = λ index past less.
         let from = order index (omega (arith, long)) in
         let stays : from.0 ≡ index = omega (arith, from.1, count, same.count) in
@@ -115,7 +129,12 @@ module _ {E : Type 0} (before middle after : Lines E) (at n : ℕ) (are : AreLin
           ap (list_of after) is ∙ behind_at line past there
     ];
     coming = λ place there. elim (cases_lt place at) [
-      | inl first ↦ inl (record { line = place; there = omega arith; goes = opened_before at n place first; list_is = before_at place first })
+      | inl first ↦ inl (record {
+        line = place;
+        there = omega arith;
+        goes = opened_before at n place first;
+        list_is = before_at place first;
+      })
       | inr past ↦ elim (cases_lt place (at + n)) [
         | inl new ↦ inr (new_at place past new)
         | inr later ↦

@@ -5,7 +5,7 @@ use Rattle.std.specs.Ordering.{eq_by_cmp}
 use Rattle.std.proofs.lemmas.Map.Views.{tells_apart}
 use Rattle.cell_store.specs.Table.{by_rows}
 use Rattle.cell_store.specs.Entries.{entry_at}
-use Rattle.cell_store.proofs.Cells.{by_rows_exact}
+use Rattle.link_store.proofs.ByRows.{by_rows_exact}
 use Rattle.link_store.specs.declared.cells.Cell.{Cell}
 use Rattle.link_store.specs.declared.cells.Cells.{Cells}
 use Rattle.link_store.specs.Lists.{IsLive}
@@ -20,16 +20,19 @@ module _ {T : Type 0} (cells : Cells T) (row column : ℕ) where
   live_cell node cell at = (cell, (list_of cells.rows row, at.stands))
 
   -- there is no cell
-  pub none_at : IsGrid cells → ((node : ℕ) (cell : Cell T) → IsCellAt cells row column node cell → ⊥) → entry_at (sheet_items cells) (row, column) ≡ None
+  pub none_at : IsGrid cells → ((node : ℕ) (cell : Cell T) → IsCellAt cells row column node cell → ⊥)
+      → entry_at (sheet_items cells) (row, column) ≡ None
   none_at are none = nothing (entry_at (sheet_items cells) (row, column)) (λ item is.
       let held = cell_from cells are row column item is in
       none held.0 held.1 held.2)
 
   -- where there is none, nothing is taken
-  pub nothing_taken : entry_at (sheet_items cells) (row, column) ≡ None → ChangesAt (sheet_items cells) (sheet_items cells) (row, column) None
+  pub nothing_taken : entry_at (sheet_items cells) (row, column) ≡ None
+      → ChangesAt (sheet_items cells) (sheet_items cells) (row, column) None
   nothing_taken none other =
       elim (eq_by_cmp by_rows (row, column) other) as (λ b. eq_by_cmp by_rows (row, column) other ≡ b
       → entry_at (sheet_items cells) other ≡ cond b None (entry_at (sheet_items cells) other)) [
-        | true ↦ λ same. ap (entry_at (sheet_items cells)) (sym (tells_apart by_rows_exact (row, column) other same)) ∙ none
+        | true ↦ λ same. ap (entry_at (sheet_items cells))
+            (sym (tells_apart by_rows_exact (row, column) other same)) ∙ none
         | false ↦ λ _. refl
       ] refl

@@ -1,5 +1,6 @@
 -- The lists after the item of a node was replaced.
-use Rattle.std.proofs.Common.{◌≡◌, ◌≢◌, inl, inr, ℕ, List, [], ◌∷◌, length, refl, sym, ap, subst, ◌∙◌, arith, map, cond, eqb}
+use Rattle.std.proofs.Common.{◌≡◌, ◌≢◌, inl, inr, ℕ, List, [], ◌∷◌, length, refl, sym, ap, subst, ◌∙◌, arith, map}
+use Rattle.std.proofs.Common.{cond, eqb}
 use Rattle.std.specs.Prelude.{Option, Some, None}
 use Rattle.std.specs.Option.{option_map}
 use Rattle.std.proofs.lemmas.Bool.{cases_eq, eq-eqb, ne_eqb}
@@ -35,7 +36,8 @@ module _ {T : Type 0} (node : ℕ) (item : T) where
 
   last_put : (before : Option ℕ) (found : List (ℕ × T)) → last_from before (map put found) ≡ last_from before found
   last_put before [] = refl
-  last_put before (entry ∷ rest) = ap (λ n. last_from (Some n) (map put rest)) (put_node entry) ∙ last_put (Some entry.0) rest
+  last_put before (entry ∷ rest) = ap (λ n. last_from (Some n) (map put rest)) (put_node entry)
+      ∙ last_put (Some entry.0) rest
 
   Lacks-put : (k : ℕ) (found : List (ℕ × T)) → Lacks k found → Lacks k (map put found)
   Lacks-put k [] lacks = tt
@@ -55,27 +57,47 @@ module _ {T : Type 0} (node : ℕ) (item : T) where
       (others : (k : ℕ) → node ≢ k → later k ≡ find k) where
     linked_here : (list : ℕ) (before : Option ℕ) (entry : ℕ × T) (rest : List (ℕ × T))
         → find entry.0 ≡ Some (record { item = entry.1; list = list; previous = before; next = first_node rest })
-        → later (put entry).0 ≡ Some (record { item = (put entry).1; list = list; previous = before; next = first_node (map put rest) })
+        → later (put entry).0 ≡ Some (record {
+          item = (put entry).1;
+          list = list;
+          previous = before;
+          next = first_node (map put rest);
+        })
     linked_here list before entry rest at = elim (cases_eq entry.0 node) [
       | inl same ↦
-          subst (λ (e : ℕ × T). later e.0 ≡ Some (record { item = e.1; list = list; previous = before; next = first_node (map put rest) })) (sym (put_here entry same))
+          subst (λ (e : ℕ × T). later e.0 ≡ Some (record {
+            item = e.1;
+            list = list;
+            previous = before;
+            next = first_node (map put rest);
+          })) (sym (put_here entry same))
           (changed ∙ ap (option_map (with_item item)) (ap find (sym same) ∙ at)
-          ∙ ap (λ next. Some (record { item = item; list = list; previous = before; next = next })) (sym (first_put rest)))
+          ∙ ap (λ next. Some (record { item = item; list = list; previous = before; next = next }))
+          (sym (first_put rest)))
       | inr differs ↦
-          subst (λ (e : ℕ × T). later e.0 ≡ Some (record { item = e.1; list = list; previous = before; next = first_node (map put rest) })) (sym (put_other entry differs))
+          subst (λ (e : ℕ × T). later e.0 ≡ Some (record {
+            item = e.1;
+            list = list;
+            previous = before;
+            next = first_node (map put rest);
+          })) (sym (put_other entry differs))
           (others entry.0 (λ same. differs (sym same)) ∙ at
-          ∙ ap (λ next. Some (record { item = entry.1; list = list; previous = before; next = next })) (sym (first_put rest)))
+          ∙ ap (λ next. Some (record { item = entry.1; list = list; previous = before; next = next }))
+          (sym (first_put rest)))
     ]
 
-    Linked-put : (list : ℕ) (before : Option ℕ) (found : List (ℕ × T)) → Linked find list before found → Linked later list before (map put found)
+    Linked-put : (list : ℕ) (before : Option ℕ) (found : List (ℕ × T)) → Linked find list before found
+        → Linked later list before (map put found)
     Linked-put list before [] linked = tt
     Linked-put list before (entry ∷ rest) linked = (
       linked_here list before entry rest linked.0,
       subst (λ k. Lacks k (map put rest)) (sym (put_node entry)) (Lacks-put entry.0 rest linked.1),
-      subst (λ k. Linked later list (Some k) (map put rest)) (sym (put_node entry)) (Linked-put list (Some entry.0) rest linked.2),
+      subst (λ k. Linked later list (Some k) (map put rest)) (sym (put_node entry))
+          (Linked-put list (Some entry.0) rest linked.2),
     )
 
-    list_put : (list : ℕ) (ends : Ends) (found : List (ℕ × T)) → IsList find list ends found → IsList later list ends (map put found)
+    list_put : (list : ℕ) (ends : Ends) (found : List (ℕ × T)) → IsList find list ends found
+        → IsList later list ends (map put found)
     list_put list ends found is = record {
       count = is.count ∙ sym (length-map found put);
       first = is.first ∙ sym (first_put found);
@@ -83,7 +105,8 @@ module _ {T : Type 0} (node : ℕ) (item : T) where
       linked = Linked-put list None found is.linked;
     }
 
-    pub store_put : (ends : List Ends) (lists : List (List (ℕ × T))) → IsSound find ends → map (entries find) ends ≡ lists
+    pub store_put : (ends : List Ends) (lists : List (List (ℕ × T))) → IsSound find ends
+        → map (entries find) ends ≡ lists
         → StandsFor later ends (with_item_at lists node item)
     store_put ends lists sound view = subst (λ all. StandsFor later ends (with_item_at all node item)) view
         (stands_for later ends _ (simp length-map refl) (λ i one list there seen.

@@ -1,21 +1,29 @@
 -- How the lists of the rows and of the columns stand for a sheet. No public clause cites this
 -- module.
-use Rattle.std.specs.Prelude.{◌≡◌, ◌↔◌, ◌⊎◌, ℕ, ◌+◌, ◌==◌, ◌<◌, ◌≤◌, if◌then◌else◌, Bool, true, false, List, [], Option, Some, None, map, Contains, nat_eq}
+use Rattle.std.specs.Prelude.{◌≡◌, ◌↔◌, ◌⊎◌, ℕ, ◌+◌, ◌==◌, ◌<◌, ◌≤◌, if◌then◌else◌, Bool, true, false, List, []}
+use Rattle.std.specs.Prelude.{Option, Some, None, map, Contains, nat_eq, length, max}
 use Rattle.std.specs.Ordering.{eq_by_cmp}
 use Rattle.std.specs.Option.{IsSome}
 use Rattle.std.specs.List.{IsDistinct, flat_map, position_or_len, range_with_len}
-use Rattle.cell_store.specs.Table.{by_rows}
-use Rattle.cell_store.specs.Entries.{entry_at}
+use Rattle.cell_store.specs.Table.{Table, by_rows, most_lines}
+use Rattle.cell_store.specs.Entries.{entry_at, table_of}
 use Rattle.cell_store.specs.Moved.{place_after, size_after}
 use Rattle.grid_range.specs.declared.axis.Axis.{Axis}
 use Rattle.grid_range.specs.declared.axis.Axis.TheVariants.{Rows, Columns}
 use Rattle.grid_range.specs.declared.change.Change.{Change}
+use Rattle.grid_range.specs.declared.area.Area.{Area}
+use Rattle.grid_range.specs.Area.{Holds}
+use Rattle.link_store.specs.Grid.{ListedTable}
 use Rattle.link_store.specs.declared.cells.Cell.{Cell}
 use Rattle.link_store.specs.declared.cells.Cells.{Cells}
 use Rattle.link_store.specs.declared.cells.Link.{Link}
 use Rattle.link_store.specs.declared.lines.Lines.{Lines}
 use Rattle.link_store.specs.Lists.{entries_of, live_nodes}
 use Rattle.link_store.specs.Lines.{AreLines, HasNothingOnDeleted, line_entries, list_of}
+
+-- where a line with that list stands
+abbrev pub place_in : {E : Type 0} → Lines E → ℕ → ℕ
+place_in lines list = position_or_len (λ other. other == list) lines.lists.items
 
 -- the line of a place on the axis
 abbrev pub line_on : Axis → ℕ × ℕ → ℕ
@@ -25,7 +33,7 @@ line_on Columns place = place.1
 module _ {T : Type 0} where
   -- the column of a cell: the place of its column's list
   abbrev pub column_of : Lines Link → Cell T → ℕ
-  column_of columns cell = position_or_len (λ list. list == cell.column) columns.lists.items
+  column_of columns cell = place_in columns cell.column
 
   -- the items of a row, each with its place
   abbrev pub row_items : Lines (Cell T) → Lines Link → ℕ → List ((ℕ × ℕ) × T)
@@ -40,6 +48,14 @@ module _ {T : Type 0} where
   -- the items of the sheet
   abbrev pub sheet_items : Cells T → List ((ℕ × ℕ) × T)
   sheet_items cells = first_rows cells cells.rows.count
+
+  -- the sheet that the lists stand for, and how many they are
+  abbrev pub listed_table : Cells T → ListedTable T
+  listed_table cells = record {
+    table = table_of cells.rows.count cells.columns.count (sheet_items cells);
+    row_lists = length cells.rows.lists.items;
+    column_lists = length cells.columns.lists.items;
+  }
 
   -- each cell stands in the list of its row and in the list of its column, and each of the two
   -- entries names the other
@@ -56,7 +72,7 @@ module _ {T : Type 0} where
     pub rows_are : AreLines cells.rows
     pub columns_are : AreLines cells.columns
     pub crossed : AreCrossed cells.rows.links cells.columns.links
-    pub size : cells.rows.count + cells.columns.count ≤ 2000000000
+    pub size : cells.rows.count + cells.columns.count ≤ most_lines
     pub filled : live_nodes cells.rows.links ≡ cells.filled
     pub linked : live_nodes cells.columns.links ≡ cells.filled
 
@@ -112,6 +128,26 @@ module _ {T : Type 0} where
     pub columns : after.columns.count ≡ (size_after axis change before.rows.count before.columns.count).1
     pub items : (place : ℕ × ℕ) (item : T)
         → (entry_at (sheet_items after) place ≡ Some item) ↔ CameTo axis change before place item
+
+  -- no more lists were added than the lines need
+  pub record TakesListsAgain (axis : Axis) (change : Change) (before after : Cells T) : Type 0 where
+    pub rows : length after.rows.lists.items
+        ≤ max (length before.rows.lists.items) (size_after axis change before.rows.count before.columns.count).0
+    pub columns : length after.columns.lists.items
+        ≤ max (length before.columns.lists.items) (size_after axis change before.rows.count before.columns.count).1
+
+  -- the places differ, and those that the area holds are the filled ones that it holds
+  pub record HasPlacesOf (cells : Cells T) (area : Area) (places : List (ℕ × ℕ)) : Type 0 where
+    pub distinct : IsDistinct (eq_by_cmp by_rows) places
+    pub exactly : (row col : ℕ) → Holds area row col
+        → Contains places (row, col) ↔ IsSome (entry_at (sheet_items cells) (row, col))
+
+  -- these are the places of the cells on the lines from `start` to `end - 1`
+  pub record ArePlacesOn (axis : Axis) (start end : ℕ) (cells : Cells T) (places : List (ℕ × ℕ)) : Type 0 where
+    pub distinct : IsDistinct (eq_by_cmp by_rows) places
+    pub only : (place : ℕ × ℕ) → Contains places place → IsSome (entry_at (sheet_items cells) place)
+    pub all : (place : ℕ × ℕ) → start ≤ line_on axis place → line_on axis place < end
+        → IsSome (entry_at (sheet_items cells) place) → Contains places place
 
   -- the lines that the change deletes have no items
   abbrev pub HasDeletedEmpty : Axis → Change → Cells T → Type 0

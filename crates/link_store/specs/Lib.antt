@@ -3,3 +3,5 @@ pub mod Nodes
 pub mod Entries
 pub mod Lines
 pub mod Crossings
+pub mod Grid
+pub mod Lending

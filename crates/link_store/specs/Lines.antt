@@ -1,11 +1,13 @@
 -- The lines of one axis, each with a list of entries. No public clause cites this module.
-use Rattle.std.specs.Prelude.{◌≡◌, ℕ, ◌+◌, ◌-◌, ◌<◌, ◌≤◌, ◌⊎◌, nat_lt, if◌then◌else◌, List, [], length, Some, slice_index, ⊤}
+use Rattle.std.specs.Prelude.{◌≡◌, ℕ, ◌+◌, ◌-◌, ◌<◌, ◌≤◌, ◌⊎◌, nat_lt, if◌then◌else◌, List, [], length, Some}
+use Rattle.std.specs.Prelude.{slice_index, ⊤}
 use Rattle.std.specs.List.{range_with_len}
 use Rattle.std.specs.List.Sorted.{IsPermutation}
 use Rattle.grid_range.specs.declared.change.Change.{Change}
 use Rattle.grid_range.specs.declared.change.Change.TheVariants.{Insert, Delete, Move}
 use Rattle.grid_range.specs.Change.{count_after}
 use Rattle.grid_range.specs.Tracking.{place_of}
+use Rattle.cell_store.specs.Table.{most_lines}
 use Rattle.link_store.specs.declared.lines.Lines.{Lines}
 use Rattle.link_store.specs.Lists.{entries_of, live_nodes}
 
@@ -39,7 +41,7 @@ module _ {E : Type 0} where
   -- each line has a list of its own, and the lists of no line are empty
   pub record AreLines (lines : Lines E) : Type 0 where
     pub count : lines.count ≤ length lines.lists.items
-    pub most : length lines.lists.items ≤ 2000000000
+    pub most : length lines.lists.items ≤ most_lines
     pub each_list : IsPermutation (range_with_len 0 (length lines.links)) lines.lists.items
     pub spare : (index : ℕ) → lines.count ≤ index → index < length lines.lists.items → line_entries lines index ≡ []
 

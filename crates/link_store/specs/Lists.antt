@@ -1,5 +1,6 @@
 -- Numbered lists. A list has entries in order, and each is a node, which is a number, and its item.
-use Rattle.std.specs.Prelude.{◌≡◌, ℕ, ◌==◌, nat_eq, not, if◌then◌else◌, List, [], ◌∷◌, ◌++◌, length, Option, Some, None, Contains, map, filter, sum_by, slice_index_or, slice_set}
+use Rattle.std.specs.Prelude.{◌≡◌, ℕ, ◌==◌, nat_eq, not, if◌then◌else◌, List, [], ◌∷◌, ◌++◌, length, Option, Some}
+use Rattle.std.specs.Prelude.{None, Contains, map, filter, sum_by, slice_index_or, slice_set}
 use Rattle.std.specs.List.{IsDistinct}
 
 module _ {T : Type 0} where

@@ -1,5 +1,6 @@
 -- How nodes that are linked by their numbers stand for lists. No public clause cites this module.
-use Rattle.std.specs.Prelude.{◌≡◌, ◌≢◌, ◌==◌, if◌then◌else◌, ℕ, zero, suc, List, [], ◌∷◌, length, Option, Some, None, slice_get}
+use Rattle.std.specs.Prelude.{◌≡◌, ◌≢◌, ◌==◌, if◌then◌else◌, ℕ, zero, suc, List, [], ◌∷◌, length, Option, Some, None}
+use Rattle.std.specs.Prelude.{slice_get}
 use Rattle.std.specs.Option.{option_map_or}
 use Rattle.link_store.specs.Lists.{first_node}
 use Rattle.link_store.specs.declared.nodes.Node.{Node}

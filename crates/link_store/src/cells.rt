@@ -1,4 +1,5 @@
-ghost use Rattle.std.specs.Prelude.{ℕ, ◌≡◌, ◌<◌, ◌+◌, length, Some, None, IfSome, IfNone, IfOk, IfErr, OnOk, OnErr, Contains};
+ghost use Rattle.std.specs.Prelude.{ℕ, ◌≡◌, ◌<◌, ◌+◌, length, Some, None, IfSome, IfNone, IfOk, IfErr, OnOk, OnErr};
+ghost use Rattle.std.specs.Prelude.{Contains};
 ghost use Rattle.cell_store.specs.Entries.{entry_at};
 ghost use Rattle.link_store.specs.Lists.{entries_of, IsLive};
 ghost use Rattle.link_store.specs.Crossings.{IsGrid, IsCellAt, ChangesAt, HasSameItems, HasSameSize, sheet_items};
@@ -169,8 +170,10 @@ impl<T> Cells<T> {
 /// The node of the first cell of a row's list that is in the column's list.
 fn find_in<T>(rows: &Lines<Cell<T>>, list: u32, column: u32) -> Option<u32>
     requires { list < length rows.now.links }
-    ensures found { IfSome result (λ node. (cell : Cell T) × Contains (entries_of rows.now.links list) (node, cell) × (cell.column ≡ column)) }
-    ensures missed { IfNone result ((node : ℕ) (cell : Cell T) → Contains (entries_of rows.now.links list) (node, cell) → cell.column ≡ column → ⊥) }
+    ensures found { IfSome result (λ node. (cell : Cell T)
+        × Contains (entries_of rows.now.links list) (node, cell) × (cell.column ≡ column)) }
+    ensures missed { IfNone result ((node : ℕ) (cell : Cell T)
+        → Contains (entries_of rows.now.links list) (node, cell) → cell.column ≡ column → ⊥) }
 {
     for (node, cell) in rows.links.entries(list) {
         if cell.column == column {

@@ -1,5 +1,7 @@
-ghost use Rattle.std.specs.Prelude.{◌≡◌, ℕ, ◌<◌, ◌+◌, ◌∷◌, ◌++◌, [], length, IfOk, OnErr, IfErr, OnOk, IfSome, IfNone, OnSome, slice_get, Contains};
-ghost use Rattle.link_store.specs.Lists.{entries_of, first_node, node_after, HasEntry, IsLive, live_nodes, with_entry, without_node, HasNodesOnce};
+ghost use Rattle.std.specs.Prelude.{◌≡◌, ℕ, ◌<◌, ◌+◌, ◌∷◌, ◌++◌, [], length, IfOk, OnErr, IfErr, OnOk, IfSome};
+ghost use Rattle.std.specs.Prelude.{IfNone, OnSome, slice_get, Contains};
+ghost use Rattle.link_store.specs.Lists.{entries_of, first_node, node_after, HasEntry, IsLive, live_nodes};
+ghost use Rattle.link_store.specs.Lists.{with_entry, without_node, HasNodesOnce};
 
 use crate::counting::Steps;
 use crate::lists::Links;
@@ -96,7 +98,8 @@ impl<T> Links<T> {
     pub fn next_counted<L: Ledger>(&self, node: u32, steps: &mut Steps<L>) -> Option<u32>
         requires { IsLive self.now node }
         ensures live { IfSome result (λ next. IsLive self.now next) }
-        ensures node { (list : ℕ) (item : T) → Contains (entries_of self.now list) (node, item) → result ≡ node_after (entries_of self.now list) node }
+        ensures node { (list : ℕ) (item : T) → Contains (entries_of self.now list) (node, item)
+            → result ≡ node_after (entries_of self.now list) node }
         ensures step { steps.new ≡ steps.old + 1 }
     {
         steps.tick();

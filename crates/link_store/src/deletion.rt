@@ -17,6 +17,7 @@ impl<T: Drop> Cells<T> {
         requires list { list < length self.old.rows.links }
         ensures grid { IsGrid self.new }
         ensures lost { LosesFirst Rows list self.old self.new result }
+        ensures few { self.new.filled ≤ self.old.filled }
         ensures steps { steps.new + 2 * self.new.filled ≤ steps.old + 2 * self.old.filled + (if result then 0 else 1) }
     {
         match self.rows.links.take_first_counted(list, steps) {
@@ -35,6 +36,7 @@ impl<T: Drop> Cells<T> {
         requires list { list < length self.old.columns.links }
         ensures grid { IsGrid self.new }
         ensures lost { LosesFirst Columns list self.old self.new result }
+        ensures few { self.new.filled ≤ self.old.filled }
         ensures steps { steps.new + 2 * self.new.filled ≤ steps.old + 2 * self.old.filled + (if result then 0 else 1) }
     {
         match self.columns.links.take_first_counted(list, steps) {
@@ -53,6 +55,7 @@ impl<T: Drop> Cells<T> {
         requires there { row < self.old.rows.count }
         ensures grid { IsGrid self.new }
         ensures lost { LosesItems Rows row (row + 1) self.old self.new }
+        ensures few { self.new.filled ≤ self.old.filled }
         ensures steps { steps.new + 2 * self.new.filled ≤ steps.old + 2 * self.old.filled + 1 }
     {
         let list = self.rows.list(row);
@@ -65,6 +68,7 @@ impl<T: Drop> Cells<T> {
         requires there { column < self.old.columns.count }
         ensures grid { IsGrid self.new }
         ensures lost { LosesItems Columns column (column + 1) self.old self.new }
+        ensures few { self.new.filled ≤ self.old.filled }
         ensures steps { steps.new + 2 * self.new.filled ≤ steps.old + 2 * self.old.filled + 1 }
     {
         let list = self.columns.list(column);
@@ -83,6 +87,7 @@ impl<T: Drop> Cells<T> {
         requires there { (start ≤ end) × (end ≤ lines_on axis self.old.rows.count self.old.columns.count) }
         ensures grid { IsGrid self.new }
         ensures lost { LosesItems axis start end self.old self.new }
+        ensures few { self.new.filled ≤ self.old.filled }
         ensures steps { steps.new + 2 * self.new.filled ≤ steps.old + 2 * self.old.filled + (end - start) }
     {
         for line in start..end {

@@ -1,6 +1,6 @@
 ghost use Rattle.std.specs.Prelude.{◌≡◌, ◌<◌, length};
 ghost use Rattle.std.specs.Iterator.{YieldsFirstBy, item_count};
-ghost use Rattle.link_store.specs.Lists.{entries_of};
+ghost use Rattle.link_store.specs.Lists.{entries_of, HasNodesOnce};
 
 use crate::lists::Links;
 use std::marker::Model;
@@ -43,7 +43,8 @@ impl<T> Links<T> {
     /// The entries of the list, from its first on.
     pub fn entries(&self, list: u32) -> Entries<'_, T>
         requires { list < length self.now }
-        ensures { result ≡ entries_of self.now list }
+        ensures entries { result ≡ entries_of self.now list }
+        ensures once { HasNodesOnce self.now }
     {
         Entries {
             links: self,

@@ -1,11 +1,11 @@
 ghost use Rattle.std.specs.Prelude.{◌≡◌, ◌+◌, ◌-◌, ◌*◌, ◌<◌, ◌≤◌, IfOk, OnOk, OnErr};
 ghost use Rattle.grid_range.specs.Change.{Fits};
-ghost use Rattle.cell_store.specs.Table.{empty_table, filled_places};
+ghost use Rattle.cell_store.specs.Table.{empty_table, filled_places, most_lines};
 ghost use Rattle.cell_store.specs.Moved.{GoesWithLines, IsRoomAfter, lines_on, size_after};
 
 use crate::cells::Cells;
 use crate::counting::Steps;
-use cell_store::Grid;
+use cell_store::{Grid, held_by_rows, tables_by_items};
 use cell_value::{Duplicate, Items, NoMemory};
 use grid_range::{Area, Axis, Change};
 use std::alloc::Global;
@@ -13,8 +13,10 @@ use std::marker::{Brand, Model};
 use std::sync::ledger::{Blank, Ledger};
 
 /// The cells of a sheet in lists: each item stands in the list of its row and in the list of its
-/// column. A change of lines moves the lists of lines and touches no item that stays. A look-up walks
-/// the cells of its row.
+/// column. A change of lines moves the lists of lines and touches no item that stays; the lists of
+/// deleted lines are used again. A look-up, and a call that begins with one, walks the cells of its
+/// row: a wide row costs as many steps as it has items. [`Grid::places`] walks the rows of its area or
+/// its columns, and notes where each line of the other axis stands, whichever are fewer lines in all.
 #[derive(Drop)]
 pub struct LinkGrid<T> {
     alloc: Global,
@@ -22,32 +24,35 @@ pub struct LinkGrid<T> {
 }
 
 impl<T> Model for LinkGrid<T> {
-    ghost use Rattle.cell_store.specs.Table.{Table, table_code};
-    ghost use Rattle.cell_store.specs.Entries.{table_of};
-    ghost use Rattle.link_store.specs.Crossings.{IsGrid, sheet_items};
+    ghost use Rattle.link_store.specs.Grid.{ListedTable, listed_table_code};
+    ghost use Rattle.link_store.specs.Crossings.{IsGrid, listed_table};
 
-    ghost Value = { Table T };
+    ghost Value = { ListedTable T };
 
-    ghost coded = { table_code T.code };
+    ghost coded = { listed_table_code T.code };
 
-    ghost view = { λ g. table_of g.cells.rows.count g.cells.columns.count (sheet_items g.cells) };
+    ghost view = { λ g. listed_table g.cells };
 
     ghost invariant = { λ g. IsGrid g.cells };
 }
 
 impl<T: Drop> LinkGrid<T> {
+    ghost use Rattle.link_store.specs.Grid.{ReusesLists};
+
     /// A sheet of that size with nothing in it.
     ///
     /// # Errors
     ///
     /// [`NoMemory`] where memory runs out.
     pub fn new(alloc: Global, rows: u32, cols: u32) -> Result<LinkGrid<T>, NoMemory>
-        requires { rows + cols ≤ 2000000000 }
-        ensures { IfOk result (λ grid. grid ≡ empty_table rows cols) }
+        requires { rows + cols ≤ most_lines }
+        ensures empty { IfOk result (λ grid. grid.table ≡ empty_table rows cols) }
+        ensures lists { IfOk result (λ grid. (grid.row_lists ≡ rows) × (grid.column_lists ≡ cols)) }
     {
+        tables_by_items::<T>();
         Ok(LinkGrid {
             alloc,
-            cells: Cells::new(alloc, rows, cols)?,
+            cells: Cells::new(alloc, rows, cols, 0)?,
         })
     }
 
@@ -65,14 +70,18 @@ impl<T: Drop> LinkGrid<T> {
         change: &Change,
         steps: &mut Steps<L>,
     ) -> Result<(), NoMemory>
-        requires fits { Fits change.now (lines_on axis self.old.rows self.old.cols) }
-        requires room { IsRoomAfter axis change.now self.old }
-        ensures moved { OnOk result (GoesWithLines axis change.now self.old self.new) }
-        ensures unchanged { OnErr result (self.new ≡ self.old) }
-        ensures steps { steps.new ≤ steps.old + 2 * lines_on axis self.old.rows self.old.cols
-            + 2 * lines_on axis (size_after axis change.now self.old.rows self.old.cols).0 (size_after axis change.now self.old.rows self.old.cols).1
-            + 2 * (filled_places self.old - filled_places self.new) }
+        requires fits { Fits change.now (lines_on axis self.old.table.rows self.old.table.cols) }
+        requires room { IsRoomAfter axis change.now self.old.table }
+        ensures moved { OnOk result (GoesWithLines axis change.now self.old.table self.new.table) }
+        ensures unchanged { OnErr result (self.new.table ≡ self.old.table) }
+        ensures filled { filled_places self.new.table ≤ filled_places self.old.table }
+        ensures lists { ReusesLists axis change.now self.old self.new }
+        ensures steps { steps.new ≤ steps.old + 2 * lines_on axis self.old.table.rows self.old.table.cols
+            + 2 * lines_on axis (size_after axis change.now self.old.table.rows self.old.table.cols).0
+            (size_after axis change.now self.old.table.rows self.old.table.cols).1
+            + 2 * (filled_places self.old.table - filled_places self.new.table) }
     {
+        tables_by_items::<T>();
         self.cells.change(axis, change, steps)
     }
 
@@ -86,10 +95,12 @@ impl<T: Drop> LinkGrid<T> {
         requires name { blank.name ≡ L.name }
         requires parts { blank.parts ≡ L.parts }
         requires open { 0 < blank.parts }
-        requires fits { Fits change.now (lines_on axis self.old.rows self.old.cols) }
-        requires room { IsRoomAfter axis change.now self.old }
-        ensures moved { OnOk result (GoesWithLines axis change.now self.old self.new) }
-        ensures unchanged { OnErr result (self.new ≡ self.old) }
+        requires fits { Fits change.now (lines_on axis self.old.table.rows self.old.table.cols) }
+        requires room { IsRoomAfter axis change.now self.old.table }
+        ensures moved { OnOk result (GoesWithLines axis change.now self.old.table self.new.table) }
+        ensures unchanged { OnErr result (self.new.table ≡ self.old.table) }
+        ensures filled { filled_places self.new.table ≤ filled_places self.old.table }
+        ensures lists { ReusesLists axis change.now self.old self.new }
     {
         let mut steps = Steps::<L>::new(blank);
         self.change_counted(axis, change, &mut steps)
@@ -97,20 +108,42 @@ impl<T: Drop> LinkGrid<T> {
 }
 
 impl<T: Duplicate + Drop> Grid<T> for LinkGrid<T> {
-    ghost table = { λ g. g };
+    ghost table = { λ g. g.table };
+
+    fn rows(&self) -> u32 {
+        self.cells.rows.count
+    }
+
+    fn cols(&self) -> u32 {
+        self.cells.columns.count
+    }
 
     fn get(&self, row: u32, column: u32) -> Option<&T> {
+        tables_by_items::<T>();
         match self.cells.find(row, column) {
             Some(node) => Some(&self.cells.rows.links.item(node).item),
             None => None,
         }
     }
 
+    fn get_mut(&mut self, row: u32, column: u32) -> Option<&mut T> {
+        tables_by_items::<T>();
+        match self.cells.find(row, column) {
+            Some(node) => {
+                let cell = self.cells.rows.links.item_mut(node);
+                Some(&mut cell.item)
+            }
+            None => None,
+        }
+    }
+
     fn put(&mut self, row: u32, column: u32, item: T) -> Result<Option<T>, (T, NoMemory)> {
+        tables_by_items::<T>();
         self.cells.put(row, column, item)
     }
 
     fn take(&mut self, row: u32, column: u32) -> Option<T> {
+        tables_by_items::<T>();
         self.cells.take(row, column)
     }
 
@@ -119,14 +152,18 @@ impl<T: Duplicate + Drop> Grid<T> for LinkGrid<T> {
     }
 
     fn places(&self, area: &Area) -> Result<Items<(u32, u32)>, NoMemory> {
-        Ok(Items::of(self.cells.places(self.alloc, area)?))
+        tables_by_items::<T>();
+        let places = self.cells.places(self.alloc, area)?;
+        Ok(held_by_rows(places, area))
     }
 
     fn filled(&self) -> u64 {
+        tables_by_items::<T>();
         u64::from(self.cells.filled)
     }
 
     fn copy(&self) -> Result<LinkGrid<T>, NoMemory> {
+        tables_by_items::<T>();
         Ok(LinkGrid {
             alloc: self.alloc,
             cells: self.cells.copy(self.alloc)?,

@@ -4,18 +4,18 @@
 //! don't grow with the number of items that stay.
 #![tactic(auto)]
 
+mod cell_change;
 mod cells;
-mod changes;
 mod counted;
 mod counting;
 mod deletion;
 mod entries;
 mod grid;
+mod line_change;
 mod lines;
 mod listing;
 mod lists;
 mod nodes;
-mod transfer;
 
 pub use counting::Steps;
 pub use entries::Entries;

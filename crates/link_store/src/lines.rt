@@ -1,5 +1,6 @@
-ghost use Rattle.std.specs.Prelude.{◌≡◌, ℕ, ◌+◌, ◌-◌, ◌*◌, ◌<◌, ◌≤◌, [], length, slice_index, IfOk, OnOk};
+ghost use Rattle.std.specs.Prelude.{◌≡◌, ℕ, ◌+◌, ◌-◌, ◌*◌, ◌<◌, ◌≤◌, [], length, slice_index, IfOk, OnOk, OnErr};
 ghost use Rattle.std.specs.List.Sorted.{IsPermutation};
+ghost use Rattle.cell_store.specs.Table.{most_lines};
 ghost use Rattle.link_store.specs.Lists.{entries_of, live_nodes};
 ghost use Rattle.link_store.specs.Lines.{AreLines, AreSameLines, HasSameEntries, list_of, source};
 
@@ -20,36 +21,43 @@ pub(crate) struct Lines<E> {
 }
 
 impl<E: Drop> Lines<E> {
-    /// So many lines with no entries.
+    /// So many lines with no entries, and room for so many of these.
     ///
     /// # Errors
     ///
     /// [`NoMemory`] where memory runs out.
-    pub(crate) fn new(alloc: Global, count: u32) -> Result<Lines<E>, NoMemory>
-        requires { count ≤ 2000000000 }
+    pub(crate) fn new(alloc: Global, count: u32, entries: u32) -> Result<Lines<E>, NoMemory>
+        requires { count ≤ most_lines }
         ensures lines { IfOk result AreLines }
         ensures count { IfOk result (λ lines. lines.count ≡ count) }
         ensures empty { IfOk result (λ lines. (list : ℕ) → entries_of lines.links list ≡ []) }
         ensures none { IfOk result (λ lines. live_nodes lines.links ≡ 0) }
+        ensures lists { IfOk result (λ lines. length lines.lists.items ≡ count) }
     {
-        Lines::with_steps::<Brand>(alloc, count, Blank::new(1))
+        Lines::with_steps::<Brand>(alloc, count, entries, Blank::new(1))
     }
 
     /// The same, with steps on a ledger of its own.
-    fn with_steps<L: Ledger>(alloc: Global, count: u32, blank: Blank) -> Result<Lines<E>, NoMemory>
+    fn with_steps<L: Ledger>(
+        alloc: Global,
+        count: u32,
+        entries: u32,
+        blank: Blank,
+    ) -> Result<Lines<E>, NoMemory>
         requires name { blank.name ≡ L.name }
         requires parts { blank.parts ≡ L.parts }
         requires open { 0 < blank.parts }
-        requires most { count ≤ 2000000000 }
+        requires most { count ≤ most_lines }
         ensures lines { IfOk result AreLines }
         ensures count { IfOk result (λ lines. lines.count ≡ count) }
         ensures empty { IfOk result (λ lines. (list : ℕ) → entries_of lines.links list ≡ []) }
         ensures none { IfOk result (λ lines. live_nodes lines.links ≡ 0) }
+        ensures lists { IfOk result (λ lines. length lines.lists.items ≡ count) }
     {
         let mut steps = Steps::<L>::new(blank);
         let mut lines = Lines {
-            links: Links::new(alloc),
-            lists: Vec::new(alloc),
+            links: Links::with_capacity(alloc, count, entries)?,
+            lists: Vec::with_capacity(alloc, count as usize)?,
             count: 0,
         };
         lines.reserve(count, &mut steps)?;
@@ -76,11 +84,12 @@ impl<E> Lines<E> {
     /// [`NoMemory`] where memory runs out; the lines are as they were.
     pub(crate) fn add_list<L: Ledger>(&mut self, steps: &mut Steps<L>) -> Result<(), NoMemory>
         requires lines { AreLines self.old }
-        requires room { length self.old.lists.items < 2000000000 }
+        requires room { length self.old.lists.items < most_lines }
         ensures lines { AreLines self.new }
         ensures same { AreSameLines self.old self.new }
         ensures entries { HasSameEntries self.old self.new }
         ensures added { OnOk result (length self.new.lists.items ≡ length self.old.lists.items + 1) }
+        ensures refused { OnErr result (length self.new.lists.items ≡ length self.old.lists.items) }
         ensures steps { steps.new ≤ steps.old + 2 }
     {
         steps.tick();
@@ -109,7 +118,8 @@ impl<E> Lines<E> {
         ensures length { length self.new.lists.items ≡ length self.old.lists.items }
         ensures numbers { IsPermutation self.old.lists.items self.new.lists.items }
         ensures order { (index : ℕ) → index < length self.old.lists.items
-            → slice_index self.new.lists.items index ≡ slice_index self.old.lists.items (source start middle end index) }
+            → slice_index self.new.lists.items index
+            ≡ slice_index self.old.lists.items (source start middle end index) }
         ensures steps { steps.new ≡ steps.old + (end - start) }
     {
         steps.add(end - start);

@@ -1,5 +1,7 @@
-ghost use Rattle.std.specs.Prelude.{◌≡◌, ◌≢◌, ℕ, ◌<◌, ◌+◌, ◌∷◌, ◌++◌, [], length, None, IfOk, OnErr, IfErr, OnOk, IfSome, IfNone, OnSome, slice_get, Contains};
-ghost use Rattle.link_store.specs.Lists.{entries_of, first_node, node_after, HasEntry, IsLive, live_nodes, with_entry, without_node, with_item_at, HasNodesOnce};
+ghost use Rattle.std.specs.Prelude.{◌≡◌, ◌≢◌, ℕ, ◌<◌, ◌+◌, ◌∷◌, ◌++◌, [], length, None, IfOk, OnErr, IfErr, OnOk};
+ghost use Rattle.std.specs.Prelude.{IfSome, IfNone, OnSome, slice_get, Contains};
+ghost use Rattle.link_store.specs.Lists.{entries_of, first_node, node_after, HasEntry, IsLive, live_nodes};
+ghost use Rattle.link_store.specs.Lists.{with_entry, without_node, with_item_at, HasNodesOnce};
 
 use crate::nodes::{Ends, Node, replace_item, set_next, set_previous};
 use cell_value::NoMemory;
@@ -32,6 +34,9 @@ impl<T> Model for Links<T> {
 }
 
 impl<T> Links<T> {
+    ghost use Rattle.link_store.specs.Lending.{lends_item};
+    ghost use Rattle.std.specs.Borrow.{sem};
+
     /// No lists. It takes no memory.
     pub fn new(alloc: Global) -> Links<T>
         ensures { result ≡ [] }
@@ -62,6 +67,13 @@ impl<T> Links<T> {
         Ok(list)
     }
 
+    /// Each node stands in one list, and there once. It does nothing.
+    pub(crate) fn nodes_once(&self)
+        ensures { HasNodesOnce self.now }
+    {
+        let _ends = &self.ends;
+    }
+
     /// The first node of the list; None where the list is empty.
     pub fn first(&self, list: u32) -> Option<u32>
         requires { list < length self.now }
@@ -76,7 +88,8 @@ impl<T> Links<T> {
     pub fn next(&self, node: u32) -> Option<u32>
         requires { IsLive self.now node }
         ensures live { IfSome result (λ next. IsLive self.now next) }
-        ensures node { (list : ℕ) (item : T) → Contains (entries_of self.now list) (node, item) → result ≡ node_after (entries_of self.now list) node }
+        ensures node { (list : ℕ) (item : T) → Contains (entries_of self.now list) (node, item)
+            → result ≡ node_after (entries_of self.now list) node }
     {
         self.nodes[node as usize].next
     }
@@ -87,6 +100,18 @@ impl<T> Links<T> {
         ensures { (item : T) → HasEntry self.now node item → result.now ≡ item }
     {
         &self.nodes[node as usize].item
+    }
+
+    /// The item of the node, lent to be changed in place, which takes no memory.
+    pub fn item_mut(&mut self, node: u32) -> &mut T
+        requires { IsLive self.old node }
+        ensures* writes_back { sem 𝓛 (lends_item T.row self.entry node result) }
+        ensures item { (item : T) → HasEntry self.old node item → result.now ≡ item }
+        ensures count { (item : T) → live_nodes (with_item_at self.old node item) ≡ live_nodes self.old }
+        ensures once { HasNodesOnce self.old }
+    {
+        let held = &mut self.nodes[node as usize];
+        &mut held.item
     }
 
     /// Puts the item in place of the node's, and gives that one. It takes no memory.
@@ -168,5 +193,21 @@ impl<T> Links<T> {
             Some(node) => Some((node, self.unlink(node))),
             None => None,
         }
+    }
+}
+
+impl<T: Drop> Links<T> {
+    /// No lists, with room for so many and for so many nodes in all.
+    ///
+    /// # Errors
+    ///
+    /// [`NoMemory`] where memory runs out.
+    pub fn with_capacity(alloc: Global, lists: u32, nodes: u32) -> Result<Links<T>, NoMemory>
+        ensures { IfOk result (λ links. links ≡ []) }
+    {
+        Ok(Links {
+            nodes: Slab::with_capacity(alloc, nodes as usize)?,
+            ends: Vec::with_capacity(alloc, lists as usize)?,
+        })
     }
 }

@@ -70,7 +70,11 @@ impl Ends {
     /// The ends of the list with one node more behind the last.
     pub(crate) fn with_last(self, node: u32) -> Ends
         requires { self.count < 4294967295 }
-        ensures { result ≡ record { count = self.count + 1; first = option_or self.first (Some node); last = Some node } }
+        ensures { result ≡ record {
+          count = self.count + 1;
+          first = option_or self.first (Some node);
+          last = Some node;
+        } }
     {
         Ends {
             count: self.count + 1,
@@ -82,7 +86,11 @@ impl Ends {
     /// The ends of the list without a node that stood between these.
     pub(crate) fn without(self, node: u32, previous: Option<u32>, next: Option<u32>) -> Ends
         requires { 0 < self.count }
-        ensures { result ≡ record { count = self.count - 1; first = pass node next self.first; last = pass node previous self.last } }
+        ensures { result ≡ record {
+          count = self.count - 1;
+          first = pass node next self.first;
+          last = pass node previous self.last;
+        } }
     {
         Ends {
             count: self.count - 1,

@@ -1,7 +1,6 @@
 ghost use Rattle.std.specs.Prelude.{◌≡◌, ◌<◌, ◌≤◌, ◌+◌, length, IfSome};
 ghost use Rattle.link_store.specs.Lists.{IsLive, live_nodes};
 
-mod counted;
 mod sheets;
 
 use super::*;

@@ -57,7 +57,8 @@ fn time<R: Threads + Wait + Print + Clock + Sync>(
     let mutex = turns_a_second(mutex, start.elapsed(rt)?);
     let hundredths = mutex.saturating_mul(100) / lock.max(1);
     println!(rt;
-        "threads {threads}: {lock} turns a second of the lock, {mutex} of the mutex, so a turn costs {}.{:02} times as much",
+        "threads {threads}: {lock} turns a second of the lock, {mutex} of the mutex, \
+         so a turn costs {}.{:02} times as much",
         hundredths / 100,
         hundredths % 100
     )?;

@@ -27,20 +27,23 @@ module _ {X : Type 0} where
   pub filter_in : (p : X → Bool) (xs : List X) (y : X) → Contains xs y → p y ≡ true → Contains (filter p xs) y
   filter_in p [] y c h = absurd (nothing_in y c)
   filter_in p (x ∷ xs) y c h = elim (head_cases x xs y c) [
-    | inl same ↦ subst (λ b. Contains (cond b (x ∷ filter p xs) (filter p xs)) y) (sym (ap p same ∙ h)) (subst (Contains (x ∷ filter p xs)) same (head_in x (filter p xs)))
+    | inl same ↦ subst (λ b. Contains (cond b (x ∷ filter p xs) (filter p xs)) y) (sym (ap p same ∙ h))
+        (subst (Contains (x ∷ filter p xs)) same (head_in x (filter p xs)))
     | inr rest ↦ elim (p x) as (λ b. Contains (cond b (x ∷ filter p xs) (filter p xs)) y) [
       | true ↦ tail_in x (filter p xs) y (filter_in p xs y rest h)
       | false ↦ filter_in p xs y rest h
     ]
   ]
 
-  later : (p : X → Bool) (x : X) (xs : List X) (y : X) → Contains xs y × (p y ≡ true) → Contains (x ∷ xs) y × (p y ≡ true)
+  later : (p : X → Bool) (x : X) (xs : List X) (y : X) → Contains xs y × (p y ≡ true)
+      → Contains (x ∷ xs) y × (p y ≡ true)
   later p x xs y (c, h) = (tail_in x xs y c, h)
 
   pub in_filter : (p : X → Bool) (xs : List X) (y : X) → Contains (filter p xs) y → Contains xs y × (p y ≡ true)
   in_filter p [] y c = absurd (nothing_in y c)
   in_filter p (x ∷ xs) y c =
-      elim (p x) as (λ b. p x ≡ b → Contains (cond b (x ∷ filter p xs) (filter p xs)) y → Contains (x ∷ xs) y × (p y ≡ true)) [
+      elim (p x) as (λ b. p x ≡ b → Contains (cond b (x ∷ filter p xs) (filter p xs)) y
+      → Contains (x ∷ xs) y × (p y ≡ true)) [
         | true ↦ λ is d. elim (head_cases x (filter p xs) y d) [
           | inl same ↦ (subst (Contains (x ∷ xs)) same (head_in x xs), sym (ap p same) ∙ is)
           | inr rest ↦ later p x xs y (in_filter p xs y rest)
@@ -56,7 +59,8 @@ module _ {X : Type 0} where
       elim (p x) as (λ b. IsDistinct e (cond b (x ∷ filter p xs) (filter p xs))) [
         | true ↦ IsDistinct-cons e x (filter p xs)
             (recursion_from_All (λ y. e x y ≡ false) (filter p xs)
-            (All-filter p (λ y. e x y ≡ false) xs (All-from_recursion (λ y. e x y ≡ false) xs (IsDistinct-head e x xs d)))) rest
+            (All-filter p (λ y. e x y ≡ false) xs
+            (All-from_recursion (λ y. e x y ≡ false) xs (IsDistinct-head e x xs d)))) rest
         | false ↦ rest
       ]
 
@@ -64,9 +68,11 @@ module _ {X : Type 0} where
   unfolding IsDistinct
   no_elements e = tt
 
-  pub distinct-push : (e : X → X → Bool) (xs : List X) (y : X) → AllByRecursion (λ x. e x y ≡ false) xs → IsDistinct e xs → IsDistinct e (xs ++ y ∷ [])
+  pub distinct-push : (e : X → X → Bool) (xs : List X) (y : X) → AllByRecursion (λ x. e x y ≡ false) xs
+      → IsDistinct e xs → IsDistinct e (xs ++ y ∷ [])
   distinct-push e [] y far d = IsDistinct-cons e y [] tt (no_elements e)
-  distinct-push e (x ∷ xs) y far d = IsDistinct-cons e x (xs ++ y ∷ []) (also xs (IsDistinct-head e x xs d)) (distinct-push e xs y far.1 (IsDistinct-tail e x xs d))
+  distinct-push e (x ∷ xs) y far d = IsDistinct-cons e x (xs ++ y ∷ []) (also xs (IsDistinct-head e x xs d))
+      (distinct-push e xs y far.1 (IsDistinct-tail e x xs d))
     where
       also : (zs : List X) → AllByRecursion (λ z. e x z ≡ false) zs → AllByRecursion (λ z. e x z ≡ false) (zs ++ y ∷ [])
       also [] h = (far.0, tt)
@@ -77,21 +83,24 @@ module _ {X Y : Type 0} (h : X → Option Y) where
   pub kept_in : (xs : List X) (x : X) (y : Y) → Contains xs x → h x ≡ Some y → Contains (filter_map h xs) y
   kept_in [] x y c e = absurd (nothing_in x c)
   kept_in (z ∷ zs) x y c e = elim (head_cases z zs x c) [
-    | inl same ↦ subst (λ o. Contains (cons_option o (filter_map h zs)) y) (sym (ap h same ∙ e)) (head_in y (filter_map h zs))
+    | inl same ↦ subst (λ o. Contains (cons_option o (filter_map h zs)) y) (sym (ap h same ∙ e))
+        (head_in y (filter_map h zs))
     | inr rest ↦ elim (h z) as (λ o. Contains (cons_option o (filter_map h zs)) y) [
       | None ↦ kept_in zs x y rest e
       | Some w ↦ tail_in w (filter_map h zs) y (kept_in zs x y rest e)
     ]
   ]
 
-  came_later : (z : X) (zs : List X) (y : Y) → ((x : X) × Contains zs x × (h x ≡ Some y)) → (x : X) × Contains (z ∷ zs) x × (h x ≡ Some y)
+  came_later : (z : X) (zs : List X) (y : Y) → ((x : X) × Contains zs x × (h x ≡ Some y))
+      → (x : X) × Contains (z ∷ zs) x × (h x ≡ Some y)
   came_later z zs y (x, held, is) = (x, tail_in z zs x held, is)
 
   -- and each of its list came of one
   pub came_of : (xs : List X) (y : Y) → Contains (filter_map h xs) y → (x : X) × Contains xs x × (h x ≡ Some y)
   came_of [] y c = absurd (nothing_in y c)
   came_of (z ∷ zs) y c =
-      elim (h z) as (λ o. h z ≡ o → Contains (cons_option o (filter_map h zs)) y → (x : X) × Contains (z ∷ zs) x × (h x ≡ Some y)) [
+      elim (h z) as (λ o. h z ≡ o → Contains (cons_option o (filter_map h zs)) y
+      → (x : X) × Contains (z ∷ zs) x × (h x ≡ Some y)) [
         | None ↦ λ _ d. came_later z zs y (came_of zs y d)
         | Some w ↦ λ is d. elim (head_cases w (filter_map h zs) y d) [
           | inl same ↦ (z, head_in z zs, is ∙ ap Some same)
@@ -101,8 +110,10 @@ module _ {X Y : Type 0} (h : X → Option Y) where
 
   -- elements that are apart come apart
   module _ (e : X → X → Bool) (f : Y → Y → Bool) (Good : X → Type 0)
-      (keeps : (x z : X) (y w : Y) → Good x → Good z → e x z ≡ false → h x ≡ Some y → h z ≡ Some w → f y w ≡ false) where
-    apart_from : (x : X) (y : Y) → Good x → h x ≡ Some y → (zs : List X) → AllByRecursion Good zs → AllByRecursion (λ z. e x z ≡ false) zs
+      (keeps : (x z : X) (y w : Y) → Good x → Good z → e x z ≡ false → h x ≡ Some y → h z ≡ Some w
+      → f y w ≡ false) where
+    apart_from : (x : X) (y : Y) → Good x → h x ≡ Some y → (zs : List X) → AllByRecursion Good zs
+        → AllByRecursion (λ z. e x z ≡ false) zs
         → AllByRecursion (λ w. f y w ≡ false) (filter_map h zs)
     apart_from x y good is [] all far = tt
     apart_from x y good is (z ∷ zs) all far =
@@ -117,5 +128,6 @@ module _ {X Y : Type 0} (h : X → Option Y) where
         let rest = distinct-filter_map xs all.1 (IsDistinct-tail e x xs d) in
         elim (h x) as (λ o. h x ≡ o → IsDistinct f (cons_option o (filter_map h xs))) [
           | None ↦ λ _. rest
-          | Some y ↦ λ is. IsDistinct-cons f y (filter_map h xs) (apart_from x y all.0 is xs all.1 (IsDistinct-head e x xs d)) rest
+          | Some y ↦ λ is. IsDistinct-cons f y (filter_map h xs)
+              (apart_from x y all.0 is xs all.1 (IsDistinct-head e x xs d)) rest
         ] refl

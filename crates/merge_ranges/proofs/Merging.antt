@@ -20,12 +20,14 @@ use Rattle.grid_range.specs.declared.area.Area.{Area}
 use Rattle.grid_range.specs.Band.{first_line}
 use Rattle.merge_ranges.specs.Merges.{IsRectangle, IsMerge, AreMerges, Overlap, HoldsAll, by_first_cell}
 use Rattle.merge_ranges.specs.Calls.{Cuts, ListsJust, IsLeft, IsLeftOrNew}
-use Rattle.merge_ranges.specs.Tests.{holds_all, cuts, first_cell, by_rows}
+use Rattle.merge_ranges.specs.Tests.{holds_all, cuts}
+use Rattle.grid_range.specs.Area.{first_cell, by_rows}
 use Rattle.merge_ranges.proofs.Rectangles.{holds_all_cells, all_cells_hold, cuts_cells, from_cuts, meets, meets_turned, meeting, apart, not_overlapping, same_first_meets}
 use Rattle.merge_ranges.proofs.Lists.{filter_in, in_filter, distinct-filter, distinct-push}
 
 by_first_total : IsTotalOrder by_first_cell
-by_first_total = then_total (on_total (λ (a : Area). first_line a.rows) nat_cmp_total) (on_total (λ (a : Area). first_line a.cols) nat_cmp_total)
+by_first_total = then_total (on_total (λ (a : Area). first_line a.rows) nat_cmp_total)
+    (on_total (λ (a : Area). first_line a.cols) nat_cmp_total)
 
 by_rows_total : IsTotalOrder by_rows
 by_rows_total = then_total (on_total (λ (p : ℕ × ℕ). p.0) nat_cmp_total) (on_total (λ (p : ℕ × ℕ). p.1) nat_cmp_total)
@@ -44,9 +46,11 @@ no_merges merges none = subst AreMerges (sym none) record {
 -- no two have a cell in common, by the test
 pub distinct_merges : (merges : List Area) → AreMerges merges → IsDistinct meets merges
 distinct_merges merges are = IsDistinct-from_apart meets merges (λ i j d l m.
-    apart (get_or merges i d) (get_or merges j d) (are.each i d (omega arith)).0 (are.each j d m).0 (are.apart i j d l m))
+    apart (get_or merges i d) (get_or merges j d) (are.each i d (omega arith)).0 (are.each j d m).0
+    (are.apart i j d l m))
 
-pub merges_are : (merges : List Area) → All IsMerge merges → IsDistinct meets merges → IsStrictlySortedBy by_first_cell merges → AreMerges merges
+pub merges_are : (merges : List Area) → All IsMerge merges → IsDistinct meets merges
+    → IsStrictlySortedBy by_first_cell merges → AreMerges merges
 merges_are merges each distinct sorted = record {
   each = each;
   apart = λ i j d l m. not_overlapping (get_or merges i d) (get_or merges j d) (each i d (omega arith)).0 (each j d m).0
@@ -55,26 +59,34 @@ merges_are merges each distinct sorted = record {
 }
 
 -- two that have no cell in common, the first of which doesn't come later, rise
-rising : (one other : Area) → IsRectangle one → IsRectangle other → is_lt (by_first_cell other one) ≡ false → meets one other ≡ false
+rising : (one other : Area) → IsRectangle one → IsRectangle other → is_lt (by_first_cell other one) ≡ false
+    → meets one other ≡ false
     → by_first_cell one other ≡ Less
-rising one other is also low far = elim (by_first_cell one other) as (λ o. by_first_cell one other ≡ o → by_first_cell one other ≡ Less) [
-  | Less ↦ λ h. h
-  | Equal ↦ λ h. absurd (false≢true (sym far ∙ same_first_meets one other is also (exact_pairs nat_cmp nat_cmp exact_unsigned exact_unsigned (first_cell one) (first_cell other) h)))
-  | Greater ↦ λ h. absurd (false≢true (sym low ∙ ap is_lt (by_first_total.antisymm other one ∙ ap ordering_reverse h)))
-] refl
+rising one other is also low far = elim (by_first_cell one other) as (λ o. by_first_cell one other ≡ o
+    → by_first_cell one other ≡ Less) [
+      | Less ↦ λ h. h
+      | Equal ↦ λ h. absurd (false≢true (sym far
+          ∙ same_first_meets one other is also
+          (exact_pairs nat_cmp nat_cmp exact_unsigned exact_unsigned (first_cell one) (first_cell other) h)))
+      | Greater ↦ λ h.
+          absurd (false≢true (sym low ∙ ap is_lt (by_first_total.antisymm other one ∙ ap ordering_reverse h)))
+    ] refl
 
-pub sorted_merges : (merges : List Area) → All IsMerge merges → IsDistinct meets merges → IsSortedByKey first_cell by_rows merges
+pub sorted_merges : (merges : List Area) → All IsMerge merges → IsDistinct meets merges
+    → IsSortedByKey first_cell by_rows merges
     → IsStrictlySortedBy by_first_cell merges
 sorted_merges [] each distinct sorted = nothing_sorted
 sorted_merges (m ∷ ms) each distinct sorted =
     let all : List Area = m ∷ ms in
     sorted_from_all_adjacent by_first_total all m (λ k l.
     rising (get_or all k m) (get_or all (k + 1) m) (each k m (omega arith)).0 (each (k + 1) m l).0
-    (sorted_far (λ x y. is_lt (by_first_cell x y)) (ranks_by by_rows_total first_cell) all sorted k (k + 1) m (omega arith) l)
+    (sorted_far (λ x y. is_lt (by_first_cell x y)) (ranks_by by_rows_total first_cell) all sorted k (k + 1) m
+    (omega arith) l)
     (apart_from_distinct meets all k (k + 1) m distinct (omega arith) l))
 
 -- areas in order with the merges of a list
-pub permuted_merges : (areas merges : List Area) → All IsMerge areas → IsDistinct meets areas → IsPermutation areas merges
+pub permuted_merges : (areas merges : List Area) → All IsMerge areas → IsDistinct meets areas
+    → IsPermutation areas merges
     → IsSortedByKey first_cell by_rows merges → AreMerges merges
 permuted_merges areas merges each distinct moved sorted =
     let all = All-permutation IsMerge areas merges moved each in
@@ -82,14 +94,17 @@ permuted_merges areas merges each distinct moved sorted =
     merges_are merges all far (sorted_merges merges all far sorted)
 
 -- some are cut
-pub cut_some : (area : Area) (merges : List Area) → All IsMerge merges → list_any (cuts area) merges ≡ true → Any (Cuts area) merges
+pub cut_some : (area : Area) (merges : List Area) → All IsMerge merges → list_any (cuts area) merges ≡ true
+    → Any (Cuts area) merges
 cut_some area merges each h =
     let (k, merge, l, at, cut) = Any-from_list_any (cuts area) merges h in
     (k, merge, l, at, cuts_cells area merge (All-contains IsMerge merges merge each (k, l, at)).0 cut)
 
-pub from_cut_some : (area : Area) (merges : List Area) → All IsMerge merges → Any (Cuts area) merges → list_any (cuts area) merges ≡ true
+pub from_cut_some : (area : Area) (merges : List Area) → All IsMerge merges → Any (Cuts area) merges
+    → list_any (cuts area) merges ≡ true
 from_cut_some area merges each (k, merge, l, at, cut) =
-    list_any-from_Any (cuts area) merges (k, merge, l, at, from_cuts area merge (All-contains IsMerge merges merge each (k, l, at)).0 cut)
+    list_any-from_Any (cuts area) merges
+    (k, merge, l, at, from_cuts area merge (All-contains IsMerge merges merge each (k, l, at)).0 cut)
 
 module _ (area : Area) (merges : List Area) (are : AreMerges merges) where
   -- the merges that the area doesn't hold whole
@@ -111,7 +126,8 @@ module _ (area : Area) (merges : List Area) (are : AreMerges merges) where
       (both.0, left_out merge (All-contains IsMerge merges merge are.each both.0).0 both.1)
 
   in_left : (merge : Area) → IsLeft area merges merge → Contains left merge
-  in_left merge (c, out) = filter_in (λ m. not (holds_all area m)) merges merge c (out_left merge (All-contains IsMerge merges merge are.each c).0 out)
+  in_left merge (c, out) = filter_in (λ m. not (holds_all area m)) merges merge c
+      (out_left merge (All-contains IsMerge merges merge are.each c).0 out)
 
   pub lists_left : ListsJust (IsLeft area merges) left
   lists_left = record {
@@ -130,7 +146,8 @@ module _ (area : Area) (merges : List Area) (are : AreMerges merges) where
       | inl h ↦
           let it = is_left merge c in
           let rect = (All-contains IsMerge merges merge are.each it.0).0 in
-          let cut = from_cut_some area merges are.each (any_of (Cuts area) merges merge it.0 (turned merge rect h, it.1)) in
+          let cut = from_cut_some area merges are.each
+          (any_of (Cuts area) merges merge it.0 (turned merge rect h, it.1)) in
           absurd (false≢true (sym whole ∙ cut))
       | inr h ↦ h
     ]
@@ -143,20 +160,24 @@ module _ (area : Area) (merges : List Area) (are : AreMerges merges) where
 
     joined : IsDistinct meets (left ++ area ∷ [])
     joined = distinct-push meets left area
-        (recursion_from_All (λ m. meets m area ≡ false) left (λ k d l. far (get_or left k d) (Contains-get_or left k d l)))
+        (recursion_from_All (λ m. meets m area ≡ false) left
+        (λ k d l. far (get_or left k d) (Contains-get_or left k d l)))
         (distinct_merges left left_are_merges)
 
     pub added_are_merges : AreMerges after
-    added_are_merges = permuted_merges (left ++ area ∷ []) after (All-push IsMerge left area left_are_merges.each is) joined moved sorted
+    added_are_merges = permuted_merges (left ++ area ∷ []) after
+        (All-push IsMerge left area left_are_merges.each is) joined moved sorted
 
     pub lists_added : ListsJust (IsLeftOrNew area merges) after
     lists_added = record {
       in_order = added_are_merges.in_order;
       exactly = λ merge. (
-        (λ c. elim (Contains-push_cases left area merge (Contains-permutation after (left ++ area ∷ []) merge (IsPermutation-sym (left ++ area ∷ []) after moved) c)) [
-          | inl old ↦ inl (is_left merge old)
-          | inr same ↦ inr (sym same)
-        ]),
+        (λ c. elim (Contains-push_cases left area merge
+            (Contains-permutation after (left ++ area ∷ []) merge
+            (IsPermutation-sym (left ++ area ∷ []) after moved) c)) [
+              | inl old ↦ inl (is_left merge old)
+              | inr same ↦ inr (sym same)
+            ]),
         (λ some. Contains-permutation (left ++ area ∷ []) after merge moved (elim some [
           | inl old ↦ Contains-append_left left (area ∷ []) merge (in_left merge old)
           | inr same ↦ subst (Contains (left ++ area ∷ [])) (sym same) (Contains-push left area)

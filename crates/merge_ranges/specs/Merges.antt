@@ -2,14 +2,13 @@
 -- `GridRange` whose four indexes are given. They lie on one sheet, which isn't looked at.
 use Rattle.std.specs.Prelude.{◌≡◌, ℕ, ◌+◌, ◌<◌, List, ◌⊎◌}
 use Rattle.std.specs.declared.cmp.Ordering.{Ordering}
-use Rattle.std.specs.Ordering.{nat_cmp, ordering_then}
 use Rattle.std.specs.List.{All, AllPairs}
 use Rattle.std.specs.List.Sorted.{IsStrictlySortedBy}
 use Rattle.grid_range.specs.declared.area.Area.{Area}
 use Rattle.grid_range.specs.declared.band.Band.{Band}
 use Rattle.grid_range.specs.declared.band.Band.TheVariants.{Whole, From, Span}
 use Rattle.grid_range.specs.Band.{first_line}
-use Rattle.grid_range.specs.Area.{Holds}
+use Rattle.grid_range.specs.Area.{Holds, first_cell, by_rows}
 
 -- the band has both a first and a last line
 abbrev pub HasEnds : Band → Type 0
@@ -46,11 +45,9 @@ pub record Overlap (one other : Area) : Type 0 where
 abbrev pub HoldsAll : Area → Area → Type 0
 HoldsAll area other = (row col : ℕ) → Holds other row col → Holds area row col
 
--- the order of areas by their first row, then by their first column
+-- the order of areas by the rows and columns of their first cells
 abbrev pub by_first_cell : Area → Area → Ordering
-by_first_cell one other =
-    ordering_then (nat_cmp (first_line one.rows) (first_line other.rows))
-    (nat_cmp (first_line one.cols) (first_line other.cols))
+by_first_cell one other = by_rows (first_cell one) (first_cell other)
 
 -- rectangles of more than one cell each, no two of which have a cell in common, in order
 pub record AreMerges (merges : List Area) : Type 0 where

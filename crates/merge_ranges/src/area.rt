@@ -1,36 +1,23 @@
 //! Tests of an area beside a merge, whose bands have both ends.
 
 ghost use Rattle.std.specs.Prelude.{◌≡◌};
-ghost use Rattle.grid_range.specs.Band.{first_line};
+ghost use Rattle.grid_range.specs.Area.{first_cell};
 ghost use Rattle.merge_ranges.specs.Tests.{has_all, has_some, past_line, holds_all, cuts, has_many_lines, has_many_cells};
 
 use grid_range::{Area, Band};
 
-/// The band's first line.
-pub(crate) fn first_line(band: Band) -> u32
-    ensures { result ≡ first_line band }
+/// The first cell, by which merges are ordered.
+pub(crate) fn first_cell(area: &Area) -> (u32, u32)
+    ensures { result ≡ first_cell area.now }
 {
-    match band {
-        Band::Whole => 0,
-        Band::From(start) | Band::Span(start, _) => start,
-    }
+    (area.rows.first_line(), area.cols.first_line())
 }
 
 /// The line past the band's last one.
-pub(crate) fn past_line(band: Band) -> u32
+fn past_line(band: Band) -> u32
     ensures { result ≡ past_line band }
 {
-    match band {
-        Band::Whole | Band::From(_) => 0,
-        Band::Span(_, end) => end,
-    }
-}
-
-/// The first cell, by which merges are ordered.
-pub(crate) fn first_cell(area: &Area) -> (u32, u32)
-    ensures { result ≡ (first_line area.now.rows, first_line area.now.cols) }
-{
-    (first_line(area.rows), first_line(area.cols))
+    band.end_line(0)
 }
 
 /// Whether the band has all lines from `first` to `past - 1`.
@@ -59,16 +46,16 @@ fn has_some(band: Band, first: u32, past: u32) -> bool
 pub(crate) fn holds_all(area: &Area, merge: &Area) -> bool
     ensures { result ≡ holds_all area.now merge.now }
 {
-    has_all(area.rows, first_line(merge.rows), past_line(merge.rows))
-        && has_all(area.cols, first_line(merge.cols), past_line(merge.cols))
+    has_all(area.rows, merge.rows.first_line(), past_line(merge.rows))
+        && has_all(area.cols, merge.cols.first_line(), past_line(merge.cols))
 }
 
 /// Whether the area has a cell of the merge, and not all of them.
 pub(crate) fn cuts(area: &Area, merge: &Area) -> bool
     ensures { result ≡ cuts area.now merge.now }
 {
-    has_some(area.rows, first_line(merge.rows), past_line(merge.rows))
-        && has_some(area.cols, first_line(merge.cols), past_line(merge.cols))
+    has_some(area.rows, merge.rows.first_line(), past_line(merge.rows))
+        && has_some(area.cols, merge.cols.first_line(), past_line(merge.cols))
         && !holds_all(area, merge)
 }
 

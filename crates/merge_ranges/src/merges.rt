@@ -1,17 +1,21 @@
 ghost use Rattle.std.specs.Prelude.{◌≡◌, ◌↔◌, ◌∷◌, ◌++◌, [], not, length, vec_len, vec_capacity, ◌≤◌, IsTrue, IsErr, IfOk, OnOk, OnErr, Any, filter};
-ghost use Rattle.std.specs.List.{list_any};
+ghost use Rattle.std.specs.List.{list_any, filter_map};
 ghost use Rattle.std.specs.List.Sorted.{IsPermutation, IsSortedByKey};
+ghost use Rattle.grid_range.specs.Area.{band_on, first_cell, by_rows};
 ghost use Rattle.grid_range.specs.Change.{Fits, count_after};
+ghost use Rattle.grid_range.specs.Tearing.{IsTorn};
 ghost use Rattle.merge_ranges.specs.Merges.{IsMerge, AreMerges, Covers};
 ghost use Rattle.merge_ranges.specs.Calls.{Cuts, ListsJust, IsLeft, IsLeftOrNew};
-ghost use Rattle.merge_ranges.specs.Following.{band_on, AreWithin, CameFrom, IsTorn, KeepsAll};
-ghost use Rattle.merge_ranges.specs.Tests.{holds_all, cuts, first_cell, by_rows};
+ghost use Rattle.merge_ranges.specs.Following.{AreWithin, CameFrom, KeepsAll};
+ghost use Rattle.merge_ranges.specs.Tests.{holds_all, cuts, merge_after};
 
 use crate::area::{cuts, first_cell, holds_all};
 use crate::fault::{Cut, MergeFault};
-use crate::follow::{follow_all, is_tearing};
+use crate::follow::{LineChange, is_tearing};
 use cell_value::{Duplicate, Items, NoMemory};
-use grid_range::{Area, Axis, Change};
+use grid_range::{
+    Area, Axis, Change, spans_stay_apart, tears_where_torn, torn_or_whole, tracks_stay_within,
+};
 use std::alloc::Global;
 use std::marker::Model;
 
@@ -88,7 +92,7 @@ impl Merges {
         if is_cutting(self.items.as_slice(), area) {
             return Err(MergeFault::Cut);
         }
-        let mut merges = self.take();
+        let mut merges = self.items.take().into_vec();
         let added = put(&mut merges, area);
         self.items = Items::of(merges);
         match added {
@@ -112,7 +116,7 @@ impl Merges {
         if is_cutting(self.items.as_slice(), area) {
             return Err(Cut);
         }
-        let mut merges = self.take();
+        let mut merges = self.items.take().into_vec();
         dissolve(&mut merges, area);
         self.items = Items::of(merges);
         Ok(())
@@ -134,24 +138,20 @@ impl Merges {
         ensures within { OnOk result (AreWithin axis (count_after change.now count) self.new) }
         ensures unchanged { OnErr result (self.new ≡ self.old) }
     {
-        if is_tearing(self.items.as_slice(), axis, change) {
+        tears_where_torn();
+        torn_or_whole();
+        tracks_stay_within();
+        spans_stay_apart();
+        if is_tearing(self.items.as_slice(), axis, count, change) {
             return Err(Cut);
         }
-        let mut merges = self.take();
-        follow_all(&mut merges, axis, count, change);
-        sort(&mut merges);
-        self.items = Items::of(merges);
+        let by = LineChange {
+            axis,
+            count,
+            change,
+        };
+        follow_all(&mut self.items, &by);
         Ok(())
-    }
-
-    /// The merges as a vector; none are left.
-    fn take(&mut self) -> Vec<Area>
-        ensures merges { result.items ≡ self.old }
-        ensures sound { AreMerges self.old }
-        ensures left { self.new ≡ [] }
-    {
-        let none = Items::of(Vec::new(self.alloc));
-        std::mem::replace(&mut self.items, none).into_vec()
     }
 }
 
@@ -190,7 +190,9 @@ fn dissolve(merges: &mut Vec<Area>, area: &Area)
 
 /// Puts the area in the place of the merges that it holds whole.
 fn put(merges: &mut Vec<Area>, area: &Area) -> Result<(), NoMemory>
-    ensures put { OnOk result (IsPermutation (filter (λ merge. not (holds_all area.now merge)) merges.old.items ++ area.now ∷ []) merges.new.items) }
+    ensures put { OnOk result (IsPermutation
+        (filter (λ merge. not (holds_all area.now merge)) merges.old.items ++ area.now ∷ [])
+        merges.new.items) }
     ensures in_order { OnOk result (IsSortedByKey first_cell by_rows merges.new.items) }
     ensures unchanged { OnErr result (merges.new.items ≡ merges.old.items) }
 {
@@ -207,4 +209,19 @@ fn sort(areas: &mut Vec<Area>)
     ensures in_order { IsSortedByKey first_cell by_rows areas.new.items }
 {
     areas.sort_unstable_by_key(|area| first_cell(area));
+}
+
+/// Has the merges follow the change, and puts those that are left in order.
+fn follow_all(merges: &mut Items<Area>, by: &LineChange)
+    requires fits { Fits by.now.change.now by.now.count }
+    requires within { AreWithin by.now.axis by.now.count merges.old }
+    ensures followed { IsPermutation
+        (filter_map (merge_after by.now.axis by.now.count by.now.change.now) merges.old) merges.new }
+    ensures in_order { IsSortedByKey first_cell by_rows merges.new }
+    ensures within { AreWithin by.now.axis (count_after by.now.change.now by.now.count) merges.new }
+{
+    merges.follow(by);
+    let mut areas = merges.take().into_vec();
+    sort(&mut areas);
+    *merges = Items::of(areas);
 }

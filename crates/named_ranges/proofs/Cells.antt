@@ -9,10 +9,12 @@ use Rattle.std.proofs.lemmas.Bool.Decides.{nat_tests}
 use Rattle.std.proofs.lemmas.List.{take_at, drop_at, take-append-drop}
 use Rattle.a1_notation.specs.Column.{IsColumn, AreLetters}
 use Rattle.a1_notation.specs.Area.{IsRow}
+use Rattle.a1_notation.specs.Run.{begins}
 use Rattle.named_ranges.specs.NameRule.{IsCell}
 
 -- a row is found where the text is the number of one
-pub row_told : (text : List ℕ) (found : Option ℕ) → IfSome found (IsRow text) → IfNone found ((row : ℕ) → ¬ (IsRow text row))
+pub row_told : (text : List ℕ) (found : Option ℕ) → IfSome found (IsRow text)
+    → IfNone found ((row : ℕ) → ¬ (IsRow text row))
     → (is_some found ≡ true) ↔ ((row : ℕ) × IsRow text row)
 row_told text (Some row) is none = (λ _. (row, is), λ _. refl)
 row_told text None is none = (λ yes. absurd (false≢true yes), λ row. absurd (none row.0 row.1))
@@ -21,13 +23,17 @@ row_told text None is none = (λ yes. absurd (false≢true yes), λ row. absurd 
 digit_is_no_letter : (byte : ℕ) → digit_value byte < 10 → is_ascii_alphabetic byte ≡ false
 digit_is_no_letter byte small = grind (arith, nat_tests)
 
-letters_end : (letters digits : List ℕ) → list_all is_ascii_alphabetic letters ≡ true
-    → AllDigits 10 digits → prefix_len is_ascii_alphabetic (letters ++ digits) ≡ length letters
-letters_end [] [] letter digit = refl
-letters_end [] (d ∷ ds) letter digit = rw (digit_is_no_letter d digit.0) refl
-letters_end (x ∷ xs) digits letter digit =
+digits_begin : (digits : List ℕ) → AllDigits 10 digits → begins is_ascii_alphabetic digits ≡ false
+digits_begin [] digit = refl
+digits_begin (d ∷ ds) digit = digit_is_no_letter d digit.0
+
+letters_end : (letters rest : List ℕ) → list_all is_ascii_alphabetic letters ≡ true
+    → begins is_ascii_alphabetic rest ≡ false → prefix_len is_ascii_alphabetic (letters ++ rest) ≡ length letters
+letters_end [] [] letter ends = refl
+letters_end [] (b ∷ bs) letter ends = rw ends refl
+letters_end (x ∷ xs) rest letter ends =
     let parts = and_parts (is_ascii_alphabetic x) (list_all is_ascii_alphabetic xs) letter in
-    rw parts.0 (rw (letters_end xs digits parts.1 digit) (omega arith))
+    rw parts.0 (rw (letters_end xs rest parts.1 ends) (omega arith))
 
 -- the letters that a text begins with, and what stands behind them
 abbrev pub letters_of : List ℕ → List ℕ
@@ -36,13 +42,20 @@ letters_of text = take (prefix_len is_ascii_alphabetic text) text
 abbrev pub behind_letters : List ℕ → List ℕ
 behind_letters text = drop (prefix_len is_ascii_alphabetic text) text
 
+pub run_is : (text letters rest : List ℕ) → text ≡ letters ++ rest
+    → list_all is_ascii_alphabetic letters ≡ true → begins is_ascii_alphabetic rest ≡ false
+    → (letters ≡ letters_of text) × (rest ≡ behind_letters text)
+run_is text letters rest parts all ends =
+    let n = letters_end letters rest all ends in (
+      sym (rw (parts, n) (take_at letters rest (length letters) refl)),
+      sym (rw (parts, n) (drop_at letters rest (length letters) refl)),
+    )
+
 cell_split : (text : List ℕ) (cell : IsCell text)
     → (letters_of text ≡ cell.letters) × (behind_letters text ≡ cell.digits)
 cell_split text cell =
-    let n = letters_end cell.letters cell.digits cell.column_is.letters.all cell.row_is.digits.1 in (
-      rw (cell.parts, n) (take_at cell.letters cell.digits (length cell.letters) refl),
-      rw (cell.parts, n) (drop_at cell.letters cell.digits (length cell.letters) refl),
-    )
+    let is = run_is text cell.letters cell.digits cell.parts cell.column_is.letters.all
+    (digits_begin cell.digits cell.row_is.digits.1) in (sym is.0, sym is.1)
 
 -- the text is a cell where the letters are a column's and a row's number stands behind them
 pub cell_from_parts : (text letters digits : List ℕ) (column : Option ℕ) → letters ≡ letters_of text

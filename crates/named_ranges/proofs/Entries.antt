@@ -2,9 +2,8 @@
 use Rattle.std.proofs.Common.{◌≡◌, ◌≢◌, ℕ, suc, zero, ◌+◌, ◌<◌, Bool, true, false, not, cond, ◌&&◌, Option, None, Some, List, [], ◌∷◌, ◌++◌, All, IfSome, set, take, length, get_or, refl, sym, ap, ◌∙◌, subst, arith}
 use Rattle.std.specs.Prelude.{filter, find, slice_get, is_some, ◌==◌}
 use Rattle.std.specs.List.{filter_map, cons_option, swap}
-use Rattle.named_ranges.proofs.InPlace.{Keeps, Keeps-read, Keeps-lost, Keeps-between, Keeps-swapped}
 use Rattle.std.specs.Option.{option_map}
-use Rattle.std.specs.Str.{bytes_eq}
+use Rattle.std.specs.Str.{bytes_eq, str_to_ascii_lowercase as lower_case}
 use Rattle.std.specs.String.{string_bytes}
 use Rattle.std.specs.Map.{lookup, remove_entry}
 use Rattle.std.proofs.lemmas.Bool.{cond-true, cond-false, false≢true, false_from_ne_true, or_parts}
@@ -17,13 +16,14 @@ use Rattle.std.proofs.lemmas.List.{map_push, get_or-map}
 use Rattle.std.proofs.lemmas.List.Quantifiers.{all_pairs_push}
 use Rattle.std.specs.declared.string.String.{String}
 use Rattle.std.specs.declared.alloc.Global.{Global}
-use Rattle.named_ranges.specs.NameRule.{lower_case}
 use Rattle.std.proofs.lemmas.List.Elements.{All-nil, All-cons, All-head, All-tail, All-push, All-weaker, All-set, All-filter}
 use Rattle.std.proofs.lemmas.List.Kept.{AllPairs-cons, AllPairs-filter}
 use Rattle.named_ranges.specs.declared.range.NamedRange.{NamedRange}
 use Rattle.named_ranges.specs.Listed.{AreApart, AreNames, is_same_name, with_id, with_name, without_id, with_changed, is_name_of_other}
-use Rattle.named_ranges.specs.Kept.{Entry, ranges_of, IsKept, entry_followed}
-use Rattle.named_ranges.specs.Following.{area_followed, range_followed, ranges_elsewhere}
+use Rattle.named_ranges.specs.Kept.{Entry, ranges_of, IsKept}
+use Rattle.cell_value.specs.Entries.{entry_followed}
+use Rattle.grid_range.specs.Tracking.{area_followed}
+use Rattle.named_ranges.specs.Following.{range_followed, ranges_elsewhere}
 use Rattle.grid_range.specs.declared.axis.Axis.{Axis}
 use Rattle.grid_range.specs.declared.change.Change.{Change}
 
@@ -86,7 +86,8 @@ IsKept-push entries entry kept key no_id no_name = record {
         ids = λ same. texts_differ entry.1.id (get_or (ranges_of entries) k d).id
             (find_none (λ range. bytes_eq entry.1.id range.id) (ranges_of entries) no_id k d there) (sym same);
         names = λ same. texts_differ (lower_case entry.1.name) (lower_case (get_or (ranges_of entries) k d).name)
-            (find_none (λ range. is_same_name entry.1.name range.name) (ranges_of entries) no_name k d there) (sym same);
+            (find_none (λ range. is_same_name entry.1.name range.name) (ranges_of entries) no_name k d there)
+            (sym same);
       }));
 }
 
@@ -354,12 +355,12 @@ range_of-followed sheet axis count change first rest None = refl
 range_of-followed sheet axis count change first rest (Some range) = refl
 
 pub ranges_of-followed : (sheet : ℕ) (axis : Axis) (count : ℕ) (change : Change) (entries : List Entry)
-    → ranges_of (filter_map (entry_followed sheet axis count change) entries)
+    → ranges_of (filter_map (entry_followed (range_followed sheet axis count change)) entries)
     ≡ filter_map (range_followed sheet axis count change) (ranges_of entries)
 ranges_of-followed sheet axis count change [] = refl
 ranges_of-followed sheet axis count change (first ∷ rest) =
     range_of-followed sheet axis count change first
-    (filter_map (entry_followed sheet axis count change) rest)
+    (filter_map (entry_followed (range_followed sheet axis count change)) rest)
     (range_followed sheet axis count change first.1)
     ∙ ap (cons_option (range_followed sheet axis count change first.1))
     (ranges_of-followed sheet axis count change rest)
@@ -438,16 +439,16 @@ keyed_option sheet axis count change first rest (Some range) is key keyed =
     (key ∙ sym (KeepsNames-followed sheet axis count change first.1 range is).0) keyed
 
 keyed-followed : (sheet : ℕ) (axis : Axis) (count : ℕ) (change : Change) (entries : List Entry)
-    → All IsKeyed entries → All IsKeyed (filter_map (entry_followed sheet axis count change) entries)
+    → All IsKeyed entries → All IsKeyed (filter_map (entry_followed (range_followed sheet axis count change)) entries)
 keyed-followed sheet axis count change [] keyed = keyed
 keyed-followed sheet axis count change (first ∷ rest) keyed =
     keyed_option sheet axis count change first
-    (filter_map (entry_followed sheet axis count change) rest)
+    (filter_map (entry_followed (range_followed sheet axis count change)) rest)
     (range_followed sheet axis count change first.1) refl (All-head IsKeyed first rest keyed)
     (keyed-followed sheet axis count change rest (All-tail IsKeyed first rest keyed))
 
 pub IsKept-followed : (sheet : ℕ) (axis : Axis) (count : ℕ) (change : Change) (entries : List Entry)
-    → IsKept entries → IsKept (filter_map (entry_followed sheet axis count change) entries)
+    → IsKept entries → IsKept (filter_map (entry_followed (range_followed sheet axis count change)) entries)
 IsKept-followed sheet axis count change entries kept = record {
   keyed = keyed-followed sheet axis count change entries kept.keyed;
   apart = subst (λ (ranges : List NamedRange). AreNames ranges)
@@ -502,54 +503,3 @@ new_name_before (first ∷ rest) (suc i) range names read =
     (differing_texts (lower_case range.name) (lower_case first.name)
     (λ same. (apart_from_later first rest i range names read).names (sym same)))
     ∙ new_name_before rest i range (ranges_tail first rest names) read
-
--- the loop that has each entry follow
-pub follow_kept : (sheet : ℕ) (axis : Axis) (count : ℕ) (change : Change) (before now : List Entry)
-    (kept at : ℕ) (old new : NamedRange) → at < length before
-    → slice_get (ranges_of now) at ≡ Some old → range_followed sheet axis count change old ≡ Some new
-    → Keeps (entry_followed sheet axis count change) before now kept at
-    → Keeps (entry_followed sheet axis count change) before (swap (set_value_at now at new) kept at)
-    (kept + 1) (at + 1)
-follow_kept sheet axis count change before now kept at old new there read is keeps =
-    let becomes = entry_followed sheet axis count change in
-    let long = keeps.long in
-    let entry = entry_at now at old read in
-    let here : at < length now = omega arith in
-    let same = Keeps-read becomes before now kept at entry.0 there keeps entry.1 in
-    subst
-    (λ (list : List Entry). Keeps becomes before (swap list kept at) (kept + 1) (at + 1))
-    (sym (set_value_at-set now at entry.0 new here entry.1))
-    (Keeps-swapped becomes before now kept at (entry.0.0, new) entry.0 there
-    (ap becomes (sym same)
-    ∙ ap (λ range. option_map (λ range. (entry.0.0, range)) (range_followed sheet axis count change range)) entry.2
-    ∙ ap (option_map (λ range. (entry.0.0, range))) is)
-    keeps)
-
-pub follow_lost : (sheet : ℕ) (axis : Axis) (count : ℕ) (change : Change) (before now : List Entry)
-    (kept at : ℕ) (old new : NamedRange) → at < length before
-    → slice_get (ranges_of now) at ≡ Some old → range_followed sheet axis count change old ≡ None
-    → Keeps (entry_followed sheet axis count change) before now kept at
-    → Keeps (entry_followed sheet axis count change) before (set_value_at now at new) kept (at + 1)
-follow_lost sheet axis count change before now kept at old new there read is keeps =
-    let becomes = entry_followed sheet axis count change in
-    let long = keeps.long in
-    let entry = entry_at now at old read in
-    let here : at < length now = omega arith in
-    let same = Keeps-read becomes before now kept at entry.0 there keeps entry.1 in
-    subst (λ (list : List Entry). Keeps becomes before list kept (at + 1))
-    (sym (set_value_at-set now at entry.0 new here entry.1))
-    (Keeps-between becomes before now kept (at + 1) at (entry.0.0, new) keeps.room (omega arith)
-    (Keeps-lost becomes before now kept at entry.0 there
-    (ap becomes (sym same)
-    ∙ ap (λ range. option_map (λ range. (entry.0.0, range)) (range_followed sheet axis count change range)) entry.2
-    ∙ ap (option_map (λ range. (entry.0.0, range))) is)
-    keeps))
-
-pub range_before : (becomes : Entry → Option Entry) (before now : List Entry) (kept at : ℕ)
-    (range : NamedRange) → at < length before → slice_get (ranges_of now) at ≡ Some range
-    → Keeps becomes before now kept at → get_or (ranges_of before) at range ≡ range
-range_before becomes before now kept at range there read keeps =
-    let entry = entry_at now at range read in
-    get_or-map (λ (entry : Entry). entry.1) before at entry.0 range there
-    ∙ ap (λ (entry : Entry). entry.1) (sym (Keeps-read becomes before now kept at entry.0 there keeps entry.1))
-    ∙ entry.2

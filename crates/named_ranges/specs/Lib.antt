@@ -1,4 +1,5 @@
 pub mod NameRule
+pub mod Laws
 pub mod Given
 pub mod Listed
 pub mod Following

@@ -1,24 +1,24 @@
 -- The named ranges of a spreadsheet in order of creation: the `NamedRange` of the Google Sheets API
 -- v4. Ids are unique, and names ignoring ASCII case.
-use Rattle.std.specs.Prelude.{ℕ, ◌≡◌, ◌≢◌, ◌≤◌, ◌<◌, Bool, true, false, not, ◌&&◌, List, [], ◌∷◌, ◌++◌, Option, None, Some, IsSomeAnd, is_some, AllPairs, filter, find, map, if◌then◌else◌}
+use Rattle.std.specs.Prelude.{ℕ, ◌≡◌, ◌≢◌, Bool, true, not, ◌&&◌, List, [], ◌∷◌, ◌++◌, Option, IsSomeAnd, is_some, AllPairs, filter, find, map, if◌then◌else◌, codes}
 use Rattle.std.specs.List.{list_any}
-use Rattle.std.specs.Option.{option_map_or}
-use Rattle.std.specs.Str.{bytes_eq}
+use Rattle.std.specs.Str.{bytes_eq, str_to_ascii_lowercase}
 use Rattle.std.specs.Fmt.{decimal}
+use Rattle.cell_value.specs.Ids.{IsLeastUnused}
 use Rattle.grid_range.specs.declared.area.Area.{Area}
 use Rattle.named_ranges.specs.declared.range.NamedRange.{NamedRange}
-use Rattle.named_ranges.specs.NameRule.{lower_case, IsName}
+use Rattle.named_ranges.specs.NameRule.{IsName}
 use Rattle.named_ranges.specs.declared.range.NameFault.{NameFault}
 use Rattle.named_ranges.specs.declared.range.NameFault.TheVariants.{NoMemory}
 
 -- the two texts are one, ignoring ASCII case
 abbrev pub is_same_name : List ℕ → List ℕ → Bool
-is_same_name one other = bytes_eq (lower_case one) (lower_case other)
+is_same_name one other = bytes_eq (str_to_ascii_lowercase one) (str_to_ascii_lowercase other)
 
 -- ids are unique, and names ignoring ASCII case
 pub record AreApart (one other : NamedRange) : Type 0 where
   pub ids : one.id ≢ other.id
-  pub names : lower_case one.name ≢ lower_case other.name
+  pub names : str_to_ascii_lowercase one.name ≢ str_to_ascii_lowercase other.name
 
 abbrev pub AreNames : List NamedRange → Type 0
 AreNames ranges = AllPairs AreApart ranges
@@ -49,27 +49,19 @@ IsTakenName id name ranges =
 abbrev pub TakesNoMemory : NameFault → Type 0
 TakesNoMemory fault = fault ≢ NoMemory
 
--- the id with a number: nr (110, 114) and its digits
+-- the id with a number: nr and its digits
 abbrev pub numbered_id : ℕ → List ℕ
-numbered_id number = 110 ∷ 114 ∷ decimal number
+numbered_id number = codes "nr" ++ decimal number
+
+-- one has the id
+abbrev pub has_id : List NamedRange → List ℕ → Bool
+has_id ranges id = is_some (with_id id ranges)
 
 -- the first of nr1, nr2 and so on that none has
-pub record IsLeastUnused (ranges : List NamedRange) (id : List ℕ) : Type 0 where
-  pub number : ℕ
-  pub positive : 1 ≤ number
-  pub is : id ≡ numbered_id number
-  pub unused : with_id id ranges ≡ None
-  pub least : (lesser : ℕ) → 1 ≤ lesser → lesser < number
-      → is_some (with_id (numbered_id lesser) ranges) ≡ true
-
--- an id that is asked for is one that some range has
-abbrev pub is_taken : Option (List ℕ) → List NamedRange → Bool
-is_taken asked ranges = option_map_or (λ id. is_some (with_id id ranges)) asked false
-
--- a new range has the id that is asked for, or else the first unused one
-abbrev pub IsNewId : Option (List ℕ) → List NamedRange → List ℕ → Type 0
-IsNewId (Some asked) ranges id = id ≡ asked
-IsNewId None ranges id = IsLeastUnused ranges id
+abbrev pub IsFirstUnused : List NamedRange → List ℕ → Type 0
+IsFirstUnused ranges id =
+    (number : ℕ) × (id ≡ numbered_id number)
+    × IsLeastUnused (λ number. has_id ranges (numbered_id number)) number
 
 -- a new range stands last
 abbrev pub with_one_more : List ℕ → List ℕ → Area → List NamedRange → List NamedRange

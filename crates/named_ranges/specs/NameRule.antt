@@ -2,15 +2,12 @@
 -- value and no cell in A1 text (the help of Google Sheets on naming a range of cells, for the name of a
 -- `NamedRange` of the Google Sheets API v4). That letters are those of ASCII, and that a text may begin
 -- with a truth value or be a cell in R1C1 notation, is this project's profile.
-use Rattle.std.specs.Prelude.{ℕ, ◌≡◌, ◌≢◌, ◌<◌, ◌≤◌, Bool, false, ◌||◌, ◌==◌, List, [], ◌∷◌, ◌++◌, length, map, IsTrue, slice_index}
+use Rattle.std.specs.Prelude.{ℕ, ◌≡◌, ◌≢◌, ◌<◌, ◌≤◌, Bool, false, ◌||◌, ◌==◌, List, ◌++◌, length, IsTrue, slice_index, codes}
 use Rattle.std.specs.List.{list_all}
-use Rattle.std.specs.Char.{is_ascii_alphanumeric, is_ascii_digit, to_ascii_lowercase}
+use Rattle.std.specs.Char.{is_ascii_alphanumeric, is_ascii_digit}
+use Rattle.std.specs.Str.{str_to_ascii_lowercase}
 use Rattle.a1_notation.specs.Column.{IsColumn}
 use Rattle.a1_notation.specs.Area.{IsRow}
-
--- the text in small letters, by which texts are one ignoring ASCII case
-abbrev pub lower_case : List ℕ → List ℕ
-lower_case text = map to_ascii_lowercase text
 
 -- a letter, a digit or _ (95)
 abbrev pub is_name_byte : ℕ → Bool
@@ -32,6 +29,6 @@ pub record IsName (text : List ℕ) : Type 0 where
   pub short : length text ≤ 250
   pub bytes : IsTrue (list_all is_name_byte text)
   pub first : is_ascii_digit (slice_index text 0) ≡ false
-  pub not_true : lower_case text ≢ 116 ∷ 114 ∷ 117 ∷ 101 ∷ []
-  pub not_false : lower_case text ≢ 102 ∷ 97 ∷ 108 ∷ 115 ∷ 101 ∷ []
+  pub not_true : str_to_ascii_lowercase text ≢ codes "true"
+  pub not_false : str_to_ascii_lowercase text ≢ codes "false"
   pub no_cell : ¬ (IsCell text)

@@ -3,10 +3,12 @@
 #![tactic(auto)]
 
 mod following;
+mod laws;
 mod list;
 mod name;
 mod range;
 
+pub use laws::names_are_words;
 pub use list::Names;
 pub use range::{NameFault, NamedRange};
 

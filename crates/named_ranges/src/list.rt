@@ -1,10 +1,11 @@
 ghost use Rattle.std.specs.Prelude.{◌≡◌, ◌≢◌, ◌↔◌, ◌⊎◌, true, false, None, Some, IsSome, IfSome, IfNone, All, [], ◌∷◌, ◌++◌, length, slice_get, is_some, IfOk, OnOk, OnErr, IfErr};
 ghost use Rattle.std.specs.Option.{option_copied};
-ghost use Rattle.named_ranges.specs.Listed.{AreNames, IsNewId, IsLeastUnused, is_taken, with_id, with_name, with_one_more, with_changed, without_id, is_name_of_other, IsBadName, IsTakenName, TakesNoMemory};
+ghost use Rattle.named_ranges.specs.Listed.{AreNames, has_id, IsFirstUnused, with_id, with_name, with_one_more, with_changed, without_id, is_name_of_other, IsBadName, IsTakenName, TakesNoMemory};
+ghost use Rattle.cell_value.specs.Ids.{is_taken, IsNewId};
 ghost use Rattle.named_ranges.specs.Given.{given_range};
 ghost use Rattle.std.specs.List.{filter_map};
-ghost use Rattle.grid_range.specs.Change.{Fits};
-ghost use Rattle.named_ranges.specs.Following.{IsWithinOn, range_followed, ranges_elsewhere};
+ghost use Rattle.grid_range.specs.Change.{Fits, count_after};
+ghost use Rattle.named_ranges.specs.Following.{IsRangeWithinOn, range_followed, ranges_elsewhere};
 ghost use Rattle.named_ranges.specs.NameRule.{IsName};
 ghost use Rattle.named_ranges.specs.declared.range.NameFault.TheVariants.{NoId, IdTaken, BadName, NameTaken};
 
@@ -84,14 +85,14 @@ impl Names {
     /// has the name, ignoring ASCII case, and [`NameFault::NoMemory`] where memory runs out; the list is
     /// as it was.
     pub fn add(&mut self, id: Option<Text>, name: Text, area: Area) -> Result<Text, NameFault>
-        ensures taken { (result ≡ Err IdTaken) ↔ (is_taken id self.old ≡ true) }
+        ensures taken { (result ≡ Err IdTaken) ↔ (is_taken (has_id self.old) id ≡ true) }
         ensures bad_name { (result ≡ Err BadName)
-            ↔ ((is_taken id self.old ≡ false) × ¬ (IsName name)) }
+            ↔ ((is_taken (has_id self.old) id ≡ false) × ¬ (IsName name)) }
         ensures name_taken { (result ≡ Err NameTaken)
-            ↔ ((is_taken id self.old ≡ false) × IsName name
+            ↔ ((is_taken (has_id self.old) id ≡ false) × IsName name
             × (is_some (with_name name self.old) ≡ true)) }
         ensures no_other { result ≢ Err NoId }
-        ensures id { IfOk result (IsNewId id self.old) }
+        ensures id { IfOk result (IsNewId (IsFirstUnused self.old) id) }
         ensures added { IfOk result (λ new. self.new ≡ with_one_more new name area self.old) }
         ensures unchanged { OnErr result (self.new ≡ self.old) }
     {
@@ -112,7 +113,7 @@ impl Names {
 
     /// Whether the id that is asked for is one that some range has.
     fn is_taken(&self, asked: &Option<Text>) -> bool
-        ensures { result ≡ is_taken asked.now self.now }
+        ensures { result ≡ is_taken (has_id self.now) asked.now }
     {
         match asked {
             Some(id) => self.has_id(id.as_str()),
@@ -122,16 +123,16 @@ impl Names {
 
     /// Whether some range has the id.
     fn has_id(&self, id: &str) -> bool
-        ensures { result ≡ is_some (with_id id.now self.now) }
+        ensures { result ≡ has_id self.now id.now }
     {
         self.by_id.contains_key(id)
     }
 
     /// Adds a range with a new id, and gives the id.
     fn add_last(&mut self, id: Option<Text>, name: Text, area: Area) -> Result<Text, NoMemory>
-        requires id { is_taken id self.old ≡ false }
+        requires id { is_taken (has_id self.old) id ≡ false }
         requires name { with_name name self.old ≡ None }
-        ensures id { IfOk result (IsNewId id self.old) }
+        ensures id { IfOk result (IsNewId (IsFirstUnused self.old) id) }
         ensures added { IfOk result (λ new. self.new ≡ with_one_more new name area self.old) }
         ensures unchanged { OnErr result (self.new ≡ self.old) }
     {
@@ -143,8 +144,8 @@ impl Names {
 
     /// The id that a new range gets.
     fn new_id(&self, asked: Option<Text>) -> Result<Text, NoMemory>
-        requires { is_taken asked self.now ≡ false }
-        ensures id { IfOk result (IsNewId asked self.now) }
+        requires { is_taken (has_id self.now) asked ≡ false }
+        ensures id { IfOk result (IsNewId (IsFirstUnused self.now) asked) }
         ensures unused { IfOk result (λ id. with_id id self.now ≡ None) }
     {
         match asked {
@@ -167,7 +168,7 @@ impl Names {
 
     /// The first of `nr1`, `nr2` and so on that no range has.
     fn unused_id(&self) -> Result<Text, NoMemory>
-        ensures { IfOk result (IsLeastUnused self.now) }
+        ensures { IfOk result (IsFirstUnused self.now) }
     {
         for number in 1..u64::MAX {
             let id = format!(in self.alloc; "nr{number}")?;
@@ -285,8 +286,10 @@ impl Names {
     /// range whose area is lost goes; ids, names and the order stay. It takes no memory.
     pub fn change(&mut self, sheet: u32, axis: Axis, count: u32, change: &Change)
         requires fits { Fits change.now count }
-        requires within { All (IsWithinOn sheet axis count) self.old }
-        ensures { self.new ≡ filter_map (range_followed sheet axis count change.now) self.old }
+        requires within { All (IsRangeWithinOn sheet axis count) self.old }
+        ensures followed { self.new ≡
+            filter_map (range_followed sheet axis count change.now) self.old }
+        ensures within { All (IsRangeWithinOn sheet axis (count_after change.now count)) self.new }
     {
         follow_all(&mut self.by_id, sheet, axis, count, change);
     }

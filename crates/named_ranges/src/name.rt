@@ -1,9 +1,9 @@
-ghost use Rattle.std.specs.Prelude.{◌≡◌, ◌↔◌, IsTrue, slice_index, take, drop};
-ghost use Rattle.std.specs.List.{list_all, prefix_len};
-ghost use Rattle.std.specs.Char.{is_ascii_alphabetic, is_ascii_digit};
+ghost use Rattle.std.specs.Prelude.{◌≡◌, ◌↔◌, IsTrue, slice_index};
+ghost use Rattle.std.specs.List.{list_all};
+ghost use Rattle.std.specs.Char.{is_ascii_digit};
 ghost use Rattle.named_ranges.specs.NameRule.{IsName, IsCell, is_name_byte};
 
-use a1_notation::{read_column, read_row};
+use a1_notation::{Class, read_column, read_row};
 
 /// The longest name, in bytes.
 const LONGEST: usize = 250;
@@ -41,24 +41,6 @@ fn begins_with_digit(text: &str) -> bool
 fn is_cell(text: &str) -> bool
     ensures { IsTrue result ↔ IsCell text.now }
 {
-    let (letters, digits) = split_letters(text);
+    let (letters, digits) = Class::Letter.split(text);
     read_column(letters).is_some() && read_row(digits).is_some()
-}
-
-/// The letters that a text begins with, and what stands behind them.
-fn split_letters(text: &str) -> (&str, &str)
-    ensures letters { result.0.now ≡ take (prefix_len is_ascii_alphabetic text.now) text.now }
-    ensures behind { result.1.now ≡ drop (prefix_len is_ascii_alphabetic text.now) text.now }
-{
-    text.split_at(count_letters(text.as_bytes()))
-}
-
-/// How many letters a text begins with.
-fn count_letters(bytes: &[u8]) -> usize
-    ensures { result ≡ prefix_len is_ascii_alphabetic bytes.now }
-{
-    bytes
-        .iter()
-        .take_while(|byte| byte.is_ascii_alphabetic())
-        .count()
 }

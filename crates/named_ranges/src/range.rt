@@ -1,7 +1,7 @@
-ghost use Rattle.std.specs.Prelude.{◌≡◌, unwrap_or};
+ghost use Rattle.std.specs.Prelude.{◌≡◌};
 ghost use Rattle.named_ranges.specs.Given.{given_range};
 
-use cell_value::{Duplicate, NoMemory, Text};
+use cell_value::{Duplicate, NoMemory, Text, put_given};
 use grid_range::Area;
 use std::error::Error;
 use std::fmt;
@@ -21,17 +21,8 @@ impl NamedRange {
     pub(crate) fn give(&mut self, name: Option<Text>, area: Option<Area>)
         ensures { self.new ≡ given_range name area self.old }
     {
-        replace(&mut self.name, name);
-        replace(&mut self.area, area);
-    }
-}
-
-/// Puts what is given into the place, if it is.
-fn replace<T: Drop>(place: &mut T, given: Option<T>)
-    ensures { place.new ≡ unwrap_or given place.old }
-{
-    if let Some(given) = given {
-        *place = given;
+        put_given(&mut self.name, name);
+        put_given(&mut self.area, area);
     }
 }
 

@@ -1,5 +1,5 @@
 ghost use Rattle.std.specs.Prelude.{IsTrue, All};
-ghost use Rattle.named_ranges.specs.Following.{IsWithinOn};
+ghost use Rattle.named_ranges.specs.Following.{IsRangeWithinOn};
 
 use super::*;
 use crate::name::is_name;
@@ -224,7 +224,7 @@ fn change(rt: &impl Abort, names: &mut Names, sheet: u32, axis: Axis, change: &C
 
 /// Whether every band on that axis of that sheet is within `count` lines.
 fn are_within(names: &Names, sheet: u32, axis: Axis, count: u32) -> bool
-    ensures { IsTrue result → All (IsWithinOn sheet axis count) names.now }
+    ensures { IsTrue result → All (IsRangeWithinOn sheet axis count) names.now }
 {
     for at in 0..u32::MAX {
         let Some(range) = names.list(at) else {
@@ -238,7 +238,7 @@ fn are_within(names: &Names, sheet: u32, axis: Axis, count: u32) -> bool
 }
 
 fn is_within(range: &NamedRange, sheet: u32, axis: Axis, count: u32) -> bool
-    ensures { IsTrue result → IsWithinOn sheet axis count range.now }
+    ensures { IsTrue result → IsRangeWithinOn sheet axis count range.now }
 {
     range.area.sheet != sheet
         || match axis {

@@ -7,7 +7,7 @@ use Rattle.std.proofs.lemmas.List.Elements.{All-nil, All-cons, All-head, All-tai
 use Rattle.std.proofs.lemmas.List.Kept.{AllPairs-cons}
 use Rattle.std.proofs.lemmas.Option.{slice_get_read}
 use Rattle.protection.specs.declared.range.Protection.{Protection}
-use Rattle.protection.specs.Listed.{IsInOrder, with_id, with_one_more, without_id, with_changed}
+use Rattle.protection.specs.Listed.{IsInOrder, has_id, with_id, with_one_more, without_id, with_changed}
 use Rattle.protection.proofs.Ordered.{ordered_head, ordered_tail}
 
 -- the one that a look-up finds has the id
@@ -46,6 +46,17 @@ with_id_missing id (first ∷ rest) others =
     cond-false (first.id == id) (Some first) (with_id id rest)
     (ne_eqb first.id id (All-head (λ one. ¬ (one.id ≡ id)) first rest others))
     ∙ with_id_missing id rest (All-tail (λ one. ¬ (one.id ≡ id)) first rest others)
+
+pub has_id-missing : (id : ℕ) (list : List Protection) → All (λ one. ¬ (one.id ≡ id)) list
+    → has_id list id ≡ false
+has_id-missing id list others = ap is_some (with_id_missing id list others)
+
+no_one : (found : Option Protection) → is_some found ≡ false → found ≡ None
+no_one None none = refl
+no_one (Some one) none = cc
+
+pub with_id_none_has : (id : ℕ) (list : List Protection) → has_id list id ≡ false → with_id id list ≡ None
+with_id_none_has id list none = no_one (with_id id list) none
 
 -- where it finds none, none has it
 none_rest : (id : ℕ) (first : Protection) (found : Option Protection) (same : Bool)

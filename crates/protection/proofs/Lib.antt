@@ -1,5 +1,5 @@
 pub mod Sweeping
 pub mod Ordered
-pub mod InPlace
 pub mod Places
 pub mod Edits
+pub mod Fewer

@@ -13,7 +13,8 @@ use Rattle.protection.specs.Denial.{DeniesSome, IsFirstDenial}
 use Rattle.protection.specs.Listed.{IsInOrder}
 use Rattle.grid_range.specs.declared.axis.Axis.{Axis}
 use Rattle.grid_range.specs.declared.change.Change.{Change}
-use Rattle.protection.specs.Following.{area_followed, protection_followed, protection_without_sheet}
+use Rattle.grid_range.specs.Tracking.{area_followed}
+use Rattle.protection.specs.Following.{protection_followed, protection_without_sheet}
 
 -- those of lesser ids stand before a place
 pub is_before : (list : List Protection) (i k : ℕ) (one d : Protection) → IsInOrder list

@@ -1,12 +1,12 @@
 -- Ids and places in a list of protections.
-use Rattle.std.proofs.Common.{◌≡◌, ℕ, suc, zero, ◌+◌, ◌<◌, ◌≤◌, None, Some, List, [], ◌∷◌, All, Contains, take, drop, length, get_or, refl, sym, ap, ◌∙◌, subst, ⊎_elim, arith}
-use Rattle.std.specs.Prelude.{◌==◌, slice_get}
+use Rattle.std.proofs.Common.{◌≡◌, ℕ, suc, zero, ◌+◌, ◌<◌, ◌≤◌, Bool, true, false, cond, Option, None, Some, List, [], ◌∷◌, All, take, drop, length, get_or, refl, sym, ap, ◌∙◌, subst, ⊎_elim, arith}
+use Rattle.std.specs.Prelude.{◌==◌, slice_get, is_some}
 use Rattle.std.proofs.lemmas.Bool.{cases_lt, ne_eqb, eq-eqb, cond-true, cond-false}
 use Rattle.std.proofs.lemmas.List.{get_or-take, get_or-drop, get_or_read, length-take-le, length-drop, drop_more, drop_all}
 use Rattle.std.proofs.lemmas.List.Elements.{All-head, All-tail, All-more, All-weaker}
 use Rattle.std.proofs.lemmas.Option.{slice_get_read}
 use Rattle.protection.specs.declared.range.Protection.{Protection}
-use Rattle.protection.specs.Listed.{IsInOrder, with_id}
+use Rattle.protection.specs.Listed.{IsInOrder, has_id, with_id}
 
 -- a look-up goes past those that don't have the id
 pub with_id_behind : (id : ℕ) (list : List Protection) (i : ℕ)
@@ -82,12 +82,27 @@ unused_above list i id one ordered there read is =
     (λ other upto same. omega arith)
     (take (i + 1) list) (before_place list i one ordered there read)
 
+is_some_behind : (first : Protection) (found : Option Protection) (here : Bool) → is_some found ≡ true
+    → is_some (cond here (Some first) found) ≡ true
+is_some_behind first found true some = refl
+is_some_behind first found false some = some
+
+-- one has the id of one at a place
+has_id-at : (id : ℕ) (list : List Protection) (i : ℕ) (d : Protection) → i < length list
+    → (get_or list i d).id ≡ id → has_id list id ≡ true
+has_id-at id [] i d there has = absurd (omega arith)
+has_id-at id (first ∷ rest) zero d there has =
+    ap is_some (cond-true (first.id == id) (Some first) (with_id id rest) (eq-eqb first.id id has))
+has_id-at id (first ∷ rest) (suc i) d there has =
+    is_some_behind first (with_id id rest) (first.id == id) (has_id-at id rest i d (omega arith) has)
+
 pub used_below : (list : List Protection) (i id : ℕ) (one : Protection)
     → i < length list → one ≡ get_or list i one → one.id ≡ id
-    → ((lesser : ℕ) → 1 ≤ lesser → lesser < id → (other : Protection) × Contains list other × (other.id ≡ lesser))
-    → (lesser : ℕ) → 1 ≤ lesser → lesser < id + 1
-    → (other : Protection) × Contains list other × (other.id ≡ lesser)
+    → ((lesser : ℕ) → 1 ≤ lesser → lesser < id → has_id list lesser ≡ true)
+    → (lesser : ℕ) → 1 ≤ lesser → lesser < id + 1 → has_id list lesser ≡ true
 used_below list i id one there read is used lesser positive below = ⊎_elim
     (λ (less : lesser < id). used lesser positive less)
-    (λ (more : id ≤ lesser). (one, (i, there, sym read), let same : one.id ≡ lesser = omega arith in same))
+    (λ (more : id ≤ lesser).
+    let same : one.id ≡ lesser = omega arith in
+    has_id-at lesser list i one there (ap (λ (p : Protection). p.id) (sym read) ∙ same))
     (cases_lt lesser id)

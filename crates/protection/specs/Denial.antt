@@ -21,7 +21,8 @@ pub record Denies (user owner : List ℕ) (sheet row col : ℕ) (protection : Pr
   pub not_opened : IsOutside sheet row col protection.unprotected
 
 -- it denies the user some cell of the area, on a sheet of that size
-pub record DeniesSome (user owner : List ℕ) (area : Area) (rows cols : ℕ) (protection : Protection) : Type 0 where
+pub record DeniesSome (user owner : List ℕ) (area : Area) (rows cols : ℕ)
+    (protection : Protection) : Type 0 where
   pub row : ℕ
   pub col : ℕ
   pub row_there : row < rows
@@ -30,7 +31,8 @@ pub record DeniesSome (user owner : List ℕ) (area : Area) (rows cols : ℕ) (p
   pub denied : Denies user owner area.sheet row col protection
 
 -- that is the least id of a protection that does
-pub record IsFirstDenial (user owner : List ℕ) (area : Area) (rows cols : ℕ) (protections : List Protection) (id : ℕ) : Type 0 where
+pub record IsFirstDenial (user owner : List ℕ) (area : Area) (rows cols : ℕ)
+    (protections : List Protection) (id : ℕ) : Type 0 where
   pub protection : Protection
   pub listed : Contains protections protection
   pub has_id : protection.id ≡ id

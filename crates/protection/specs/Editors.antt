@@ -1,13 +1,9 @@
 -- Who may edit what a protected range covers: `editors` and `warningOnly` of the `ProtectedRange` of
 -- the Google Sheets API v4. A user is the text of his name.
 use Rattle.std.specs.Prelude.{ℕ, ◌≡◌, Bool, false, ◌||◌, List, [], ◌∷◌, ◌++◌, Option, IsSomeAnd, if◌then◌else◌}
-use Rattle.std.specs.List.{list_any}
 use Rattle.std.specs.Str.{bytes_eq}
+use Rattle.cell_value.specs.Texts.{is_among}
 use Rattle.protection.specs.declared.range.Protection.{Protection}
-
--- the user is one of these
-abbrev pub is_among : List ℕ → List (List ℕ) → Bool
-is_among user users = list_any (λ other. bytes_eq other user) users
 
 -- a warning keeps nobody off; else the editors may edit, and the owner of the spreadsheet
 abbrev pub may_edit : List ℕ → List ℕ → Protection → Bool

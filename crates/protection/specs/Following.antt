@@ -1,44 +1,22 @@
 -- What the protected ranges of a spreadsheet become when lines of one of its sheets are inserted,
 -- deleted or moved, or when a sheet is deleted: insertDimension, deleteDimension, moveDimension and
 -- deleteSheet of the Google Sheets API v4.
-use Rattle.std.specs.Prelude.{ℕ, ◌≡◌, not, ◌==◌, List, Option, None, Some, All, filter, if◌then◌else◌}
+use Rattle.std.specs.Prelude.{ℕ, not, ◌==◌, List, Option, None, Some, All, filter, if◌then◌else◌}
 use Rattle.std.specs.List.{filter_map}
 use Rattle.std.specs.Option.{option_map}
 use Rattle.grid_range.specs.declared.area.Area.{Area}
 use Rattle.grid_range.specs.declared.axis.Axis.{Axis}
-use Rattle.grid_range.specs.declared.axis.Axis.TheVariants.{Rows, Columns}
-use Rattle.grid_range.specs.declared.band.Band.{Band}
 use Rattle.grid_range.specs.declared.change.Change.{Change}
-use Rattle.grid_range.specs.Band.{Within}
-use Rattle.grid_range.specs.Tracking.{track_of}
+use Rattle.grid_range.specs.Area.{IsWithinOn}
+use Rattle.grid_range.specs.Tracking.{area_followed}
 use Rattle.protection.specs.declared.range.Protection.{Protection}
 
--- the area's lines on the axis
-abbrev pub band_on : Axis → Area → Band
-band_on Rows area = area.rows
-band_on Columns area = area.cols
-
--- the area with other lines on the axis
-abbrev pub with_band : Axis → Area → Band → Area
-with_band Rows area band = record area { rows = band }
-with_band Columns area band = record area { cols = band }
-
--- on that axis of that sheet the area's lines are among `count`
-abbrev pub IsWithinOn : ℕ → Axis → ℕ → Area → Type 0
-IsWithinOn sheet axis count area = area.sheet ≡ sheet → Within (band_on axis area) count
-
--- and those of the protection's area and of its unprotected ranges
+-- on that axis of that sheet the lines of the protection's area and of its unprotected ranges are
+-- among `count`
 abbrev pub IsKeptWithin : ℕ → Axis → ℕ → Protection → Type 0
 IsKeptWithin sheet axis count protection =
     IsWithinOn sheet axis count protection.area
     × All (IsWithinOn sheet axis count) protection.unprotected
-
--- an area follows the changes of its own sheet; None where it is lost
-abbrev pub area_followed : ℕ → Axis → ℕ → Change → Area → Option Area
-area_followed sheet axis count change area =
-    if area.sheet == sheet
-    then option_map (with_band axis area) (track_of (band_on axis area) count change)
-    else Some area
 
 -- a protection follows with its area, and goes with it; its unprotected ranges follow each for itself,
 -- and those that are lost go

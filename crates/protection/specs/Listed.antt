@@ -1,7 +1,6 @@
 -- The protected ranges of a spreadsheet, in order of id: `protectedRangeId` of the Google Sheets
 -- API v4.
-use Rattle.std.specs.Prelude.{ℕ, ◌≡◌, ◌≤◌, ◌<◌, Bool, false, not, ◌==◌, nat_lt, List, ◌∷◌, ◌++◌, Option, None, Some, is_some, All, AllPairs, Contains, filter, find, map, if◌then◌else◌}
-use Rattle.std.specs.Option.{option_map_or}
+use Rattle.std.specs.Prelude.{ℕ, ◌<◌, Bool, not, ◌==◌, nat_lt, List, ◌∷◌, ◌++◌, Option, is_some, AllPairs, filter, find, map, if◌then◌else◌}
 use Rattle.protection.specs.declared.range.Protection.{Protection}
 
 -- each has a lesser id than those behind it
@@ -13,24 +12,8 @@ abbrev pub with_id : ℕ → List Protection → Option Protection
 with_id id protections = find (λ protection. protection.id == id) protections
 
 -- one has the id
-abbrev pub has_id : ℕ → List Protection → Bool
-has_id id protections = is_some (with_id id protections)
-
--- the least id from 1 on that none has
-pub record IsLeastUnused (protections : List Protection) (id : ℕ) : Type 0 where
-  pub positive : 1 ≤ id
-  pub unused : All (λ protection. ¬ (protection.id ≡ id)) protections
-  pub least : (lesser : ℕ) → 1 ≤ lesser → lesser < id
-      → (protection : Protection) × Contains protections protection × (protection.id ≡ lesser)
-
--- an id that is asked for is one that some protection has
-abbrev pub is_taken : Option ℕ → List Protection → Bool
-is_taken asked protections = option_map_or (λ id. has_id id protections) asked false
-
--- a new protection has the id that is asked for, or else the least unused one
-abbrev pub IsNewId : Option ℕ → List Protection → ℕ → Type 0
-IsNewId (Some asked) protections id = id ≡ asked
-IsNewId None protections id = IsLeastUnused protections id
+abbrev pub has_id : List Protection → ℕ → Bool
+has_id protections id = is_some (with_id id protections)
 
 -- the list with one more, behind those of lesser ids and before those of greater ones
 abbrev pub with_one_more : Protection → List Protection → List Protection

@@ -1,8 +1,8 @@
 ghost use Rattle.std.specs.Prelude.{◌≡◌, IfOk};
-ghost use Rattle.protection.specs.Editors.{is_among, may_edit, with_requester};
+ghost use Rattle.protection.specs.Editors.{may_edit, with_requester};
 
 use crate::range::Protection;
-use cell_value::{Items, NoMemory, Text};
+use cell_value::{Items, NoMemory, Text, is_among};
 use std::alloc::Global;
 
 impl Protection {
@@ -12,13 +12,6 @@ impl Protection {
     {
         self.warning_only || user == owner || is_among(user, self.editors.as_slice())
     }
-}
-
-/// Whether the user is one of these.
-fn is_among(user: &str, users: &[Text]) -> bool
-    ensures { result ≡ is_among user.now users.now }
-{
-    users.iter().any(|other| other.as_str() == user)
 }
 
 /// The editors with the user at their end, unless he is one of them or owns the spreadsheet.

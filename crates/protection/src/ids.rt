@@ -1,22 +1,23 @@
 ghost use Rattle.std.specs.Prelude.{◌≡◌, ◌<◌, ◌≤◌, ◌^◌, Bool, true, false, None, OnOk, OnErr, IfSome, IfNone, All, length, slice_get, take, drop};
-ghost use Rattle.protection.specs.Listed.{IsInOrder, IsNewId, IsLeastUnused, is_taken, with_id, with_one_more};
+ghost use Rattle.cell_value.specs.Ids.{IsNewId, IsLeastUnused, is_taken};
+ghost use Rattle.protection.specs.Listed.{IsInOrder, has_id, with_id, with_one_more};
 
-use crate::range::Protection;
+use crate::indexed::Indexed;
 use cell_value::NoMemory;
 
 /// The id that a new protection gets, which is the one that is asked for, or else the least from 1 on
 /// that none has; None where the one that is asked for is taken.
-pub(crate) fn new_id(protections: &[Protection], asked: Option<u32>) -> Option<u32>
+pub(crate) fn new_id(protections: &[Indexed], asked: Option<u32>) -> Option<u32>
     requires order { IsInOrder protections.now }
     requires room { length protections.now < 4294967295 }
-    ensures taken { IfNone result (is_taken asked protections.now ≡ true) }
-    ensures free { IfSome result (λ _. is_taken asked protections.now ≡ false) }
+    ensures taken { IfNone result (is_taken (has_id protections.now) asked ≡ true) }
+    ensures free { IfSome result (λ _. is_taken (has_id protections.now) asked ≡ false) }
     ensures unused { IfSome result (λ id. with_id id protections.now ≡ None) }
-    ensures id { IfSome result (IsNewId asked protections.now) }
+    ensures id { IfSome result (IsNewId (IsLeastUnused (has_id protections.now)) asked) }
 {
     match asked {
         None => Some(least_unused(protections)),
-        Some(id) => match place_of(protections, id) {
+        Some(id) => match position_of(protections, id) {
             None => Some(id),
             Some(_) => None,
         },
@@ -24,14 +25,14 @@ pub(crate) fn new_id(protections: &[Protection], asked: Option<u32>) -> Option<u
 }
 
 /// The least id from 1 on that no protection has.
-fn least_unused(protections: &[Protection]) -> u32
+fn least_unused(protections: &[Indexed]) -> u32
     requires order { IsInOrder protections.now }
     requires room { length protections.now < 4294967295 }
-    ensures { IsLeastUnused protections.now result }
+    ensures { IsLeastUnused (has_id protections.now) result }
 {
     let mut id = 1;
     for protection in protections {
-        if protection.id == id {
+        if protection.get().id == id {
             id += 1;
         }
     }
@@ -39,13 +40,13 @@ fn least_unused(protections: &[Protection]) -> u32
 }
 
 /// The place of the protection with the id, None where none has it.
-pub(crate) fn place_of(protections: &[Protection], id: u32) -> Option<usize>
+pub(crate) fn position_of(protections: &[Indexed], id: u32) -> Option<usize>
     ensures there { IfSome result (λ at. at < length protections.now) }
     ensures found { IfSome result (λ at. with_id id protections.now ≡ slice_get protections.now at) }
     ensures none { IfNone result (with_id id protections.now ≡ None) }
 {
     for (place, protection) in protections.iter().enumerate() {
-        if protection.id == id {
+        if protection.get().id == id {
             return Some(place);
         }
     }
@@ -53,14 +54,14 @@ pub(crate) fn place_of(protections: &[Protection], id: u32) -> Option<usize>
 }
 
 /// How many protections have a lesser id: the place where one with the id stands.
-pub(crate) fn place_for(protections: &[Protection], id: u32) -> usize
+pub(crate) fn place_for(protections: &[Indexed], id: u32) -> usize
     requires order { IsInOrder protections.now }
     ensures there { result ≤ length protections.now }
     ensures before { All (λ one. one.id < id) (take result protections.now) }
     ensures behind { All (λ one. id ≤ one.id) (drop result protections.now) }
 {
     for (place, protection) in protections.iter().enumerate() {
-        if id <= protection.id {
+        if id <= protection.get().id {
             return place;
         }
     }
@@ -73,8 +74,8 @@ pub(crate) fn place_for(protections: &[Protection], id: u32) -> usize
 ///
 /// [`NoMemory`] where memory runs out; the list is as it was.
 pub(crate) fn add_at_place(
-    protections: &mut Vec<Protection>,
-    protection: Protection,
+    protections: &mut Vec<Indexed>,
+    protection: Indexed,
 ) -> Result<(), NoMemory>
     requires order { IsInOrder protections.old.items }
     requires unused { with_id protection.id protections.old.items ≡ None }
@@ -83,7 +84,7 @@ pub(crate) fn add_at_place(
     ensures order { IsInOrder protections.new.items }
     ensures unchanged { OnErr result (protections.new.items ≡ protections.old.items) }
 {
-    let place = place_for(protections, protection.id);
+    let place = place_for(protections, protection.get().id);
     protections.insert(place, protection)?;
     Ok(())
 }

@@ -2,13 +2,15 @@
 //! ranges follow the lines of the sheets.
 #![tactic(auto)]
 
-mod denial;
 mod editors;
 mod following;
 mod ids;
+mod indexed;
 mod list;
+mod orders;
 mod patch;
 mod range;
+mod sweep;
 
 pub use list::Protections;
 pub use range::{Protection, ProtectionFault, ProtectionPatch};

@@ -1,27 +1,30 @@
 ghost use Rattle.std.specs.Prelude.{◌≡◌, ◌≢◌, ◌↔◌, ◌⊎◌, ℕ, ◌<◌, true, false, None, [], length, slice_get, IsSome, IfSome, IfNone, IfOk, OnOk, OnErr, IfErr, All};
 ghost use Rattle.std.specs.Option.{option_copied};
 ghost use Rattle.std.specs.List.{filter_map};
-ghost use Rattle.grid_range.specs.Change.{Fits};
+ghost use Rattle.grid_range.specs.Change.{Fits, count_after};
 ghost use Rattle.protection.specs.Denial.{DeniesSome, IsFirstDenial};
 ghost use Rattle.protection.specs.Editors.{IsKeptOff};
-ghost use Rattle.protection.specs.Listed.{IsInOrder, IsNewId, is_taken, with_id, with_one_more, with_changed, without_id};
+ghost use Rattle.cell_value.specs.Ids.{IsNewId, IsLeastUnused, is_taken};
+ghost use Rattle.protection.specs.Listed.{IsInOrder, has_id, with_id, with_one_more, with_changed, without_id};
 ghost use Rattle.protection.specs.Patch.{is_bad, patched, blank};
 ghost use Rattle.protection.specs.declared.range.ProtectionFault.TheVariants.{Bad, NoId, IdTaken, NotEditor};
 ghost use Rattle.protection.specs.Following.{IsKeptWithin, protection_followed, protection_without_sheet};
 
-use crate::following::{follow_all, lose_all};
-use crate::ids::{add_at_place, new_id, place_of};
+use crate::following::{LineChange, SheetLoss};
+use crate::ids::{add_at_place, new_id, position_of};
+use crate::indexed::Indexed;
 use crate::range::{Protection, ProtectionFault, ProtectionPatch};
-use cell_value::{Duplicate, NoMemory};
+use cell_value::{Duplicate, Items, NoMemory};
 use grid_range::{Area, Axis, Change};
 use std::alloc::Global;
 use std::marker::Model;
+use std::mem;
 
 /// The protected ranges of a spreadsheet. Contracts see a list in order of id.
 #[derive(Drop)]
 pub struct Protections {
     alloc: Global,
-    items: Vec<Protection>,
+    items: Vec<Indexed>,
 }
 
 impl Model for Protections {
@@ -59,12 +62,13 @@ impl Protections {
         ensures protection { option_copied result ≡ slice_get self.now at }
         ensures order { IsInOrder self.now }
     {
-        self.items.get(at as usize)
+        Some(self.items.get(at as usize)?.get())
     }
 
     /// The least id of a protection that denies the user a cell of the area, on a sheet of `rows` rows
-    /// and `cols` columns; None exactly where none does. It goes over the protections and not over the
-    /// cells: the cost doesn't grow with the area.
+    /// and `cols` columns; None exactly where none does. It takes no memory. The cost doesn't grow with the
+    /// area: n unprotected ranges cost n times the logarithm of n where they don't overlap, and n squared
+    /// at worst.
     pub fn first_denial(
         &self,
         user: &str,
@@ -79,7 +83,7 @@ impl Protections {
     {
         for protection in &self.items {
             if protection.denies_some(user, owner, area, rows, cols) {
-                return Some(protection.id);
+                return Some(protection.get().id);
             }
         }
         None
@@ -105,9 +109,9 @@ impl Protections {
         requires room { length self.old < 4294967295 }
         ensures bad { (result ≡ Err Bad) ↔ (is_bad patch None ≡ true) }
         ensures taken { (result ≡ Err IdTaken)
-            ↔ ((is_bad patch None ≡ false) × (is_taken id self.old ≡ true)) }
+            ↔ ((is_bad patch None ≡ false) × (is_taken (has_id self.old) id ≡ true)) }
         ensures no_other { (result ≢ Err NoId) × (result ≢ Err NotEditor) }
-        ensures id { IfOk result (IsNewId id self.old) }
+        ensures id { IfOk result (IsNewId (IsLeastUnused (has_id self.old)) id) }
         ensures added { IfOk result (λ new.
             self.new ≡ with_one_more (patched user.now owner.now patch (blank new)) self.old) }
         ensures unchanged { OnErr result (self.new ≡ self.old) }
@@ -138,7 +142,7 @@ impl Protections {
         ensures unchanged { OnErr result (self.new ≡ self.old) }
     {
         let made = Protection::made(self.alloc, user, owner, id, patch)?;
-        add_at_place(&mut self.items, made)?;
+        add_at_place(&mut self.items, Indexed::of(self.alloc, made)?)?;
         Ok(())
     }
 
@@ -171,17 +175,17 @@ impl Protections {
             (self.new ≡ with_changed id (patched user.now owner.now patch) self.old) }
         ensures unchanged { OnErr result (self.new ≡ self.old) }
     {
-        let Some(at) = place_of(&self.items, id) else {
+        let Some(at) = position_of(&self.items, id) else {
             return Err(if patch.is_bad(None) {
                 ProtectionFault::Bad
             } else {
                 ProtectionFault::NoId
             });
         };
-        if patch.is_bad(Some(&self.items[at])) {
+        if patch.is_bad(Some(self.items[at].get())) {
             return Err(ProtectionFault::Bad);
         }
-        if !self.items[at].may_edit(user, owner) {
+        if !self.items[at].get().may_edit(user, owner) {
             return Err(ProtectionFault::NotEditor);
         }
         match self.items[at].patch(self.alloc, user, owner, patch) {
@@ -204,10 +208,10 @@ impl Protections {
         ensures dropped { OnOk result (self.new ≡ without_id id self.old) }
         ensures unchanged { OnErr result (self.new ≡ self.old) }
     {
-        let Some(at) = place_of(&self.items, id) else {
+        let Some(at) = position_of(&self.items, id) else {
             return Err(ProtectionFault::NoId);
         };
-        if !self.items[at].may_edit(user, owner) {
+        if !self.items[at].get().may_edit(user, owner) {
             return Err(ProtectionFault::NotEditor);
         }
         self.items.remove(at);
@@ -215,14 +219,22 @@ impl Protections {
     }
 
     /// Has every area follow a change of the lines on the axis of the sheet, where it had `count`. A
-    /// protection whose area is lost goes, and so do unprotected ranges that are lost. It takes no
-    /// memory.
+    /// protection whose area is lost goes, and so do unprotected ranges that are lost. Those that are left
+    /// are within the new number of lines. It takes no memory.
     pub fn change(&mut self, sheet: u32, axis: Axis, count: u32, change: &Change)
         requires fits { Fits change.now count }
         requires within { All (IsKeptWithin sheet axis count) self.old }
-        ensures { self.new ≡ filter_map (protection_followed sheet axis count change.now) self.old }
+        ensures followed { self.new ≡ filter_map (protection_followed sheet axis count change.now) self.old }
+        ensures within { All (IsKeptWithin sheet axis (count_after change.now count)) self.new }
     {
-        follow_all(self.alloc, &mut self.items, sheet, axis, count, change);
+        let mut items = self.take_items();
+        items.follow(&LineChange {
+            sheet,
+            axis,
+            count,
+            change,
+        });
+        self.items = items.into_vec();
     }
 
     /// Takes out the protections of a sheet that is deleted, and the unprotected ranges on it of those
@@ -230,7 +242,18 @@ impl Protections {
     pub fn lose_sheet(&mut self, sheet: u32)
         ensures { self.new ≡ filter_map (protection_without_sheet sheet) self.old }
     {
-        lose_all(self.alloc, &mut self.items, sheet);
+        let mut items = self.take_items();
+        items.follow(&SheetLoss { sheet });
+        self.items = items.into_vec();
+    }
+
+    /// Takes all protected ranges out, for a change in place.
+    fn take_items(&mut self) -> Items<Indexed>
+        ensures taken { result ≡ self.old }
+        ensures order { IsInOrder result }
+        ensures left { self.new ≡ [] }
+    {
+        Items::of(mem::replace(&mut self.items, Vec::new(self.alloc)))
     }
 }
 

@@ -6,7 +6,7 @@ ghost use Rattle.protection.specs.Settled.{given_editors, given_ranges};
 
 use crate::editors::with_requester;
 use crate::range::{Protection, ProtectionPatch};
-use cell_value::{Items, NoMemory, Text};
+use cell_value::{Items, NoMemory, Text, put_given};
 use grid_range::{Area, Band};
 use std::alloc::Global;
 
@@ -107,10 +107,10 @@ impl Protection {
         let warns = patch.warning_only.unwrap_or(self.warning_only);
         let editors = given_editors(alloc, user, owner, warns, patch.editors)?;
         let ranges = given_ranges(alloc, patch.area, patch.unprotected);
-        replace(&mut self.area, patch.area);
-        replace(&mut self.description, patch.description);
-        replace(&mut self.unprotected, ranges);
-        replace(&mut self.editors, editors);
+        put_given(&mut self.area, patch.area);
+        put_given(&mut self.description, patch.description);
+        put_given(&mut self.unprotected, ranges);
+        put_given(&mut self.editors, editors);
         self.warning_only = warns;
         Ok(())
     }
@@ -150,17 +150,8 @@ fn given_ranges(
 }
 
 /// Whether the area has all cells of its sheet, for good: no index was given.
-fn is_whole_sheet(area: &Area) -> bool
+pub(crate) fn is_whole_sheet(area: &Area) -> bool
     ensures { result ≡ is_whole_sheet area.now }
 {
     matches!(area.rows, Band::Whole) && matches!(area.cols, Band::Whole)
-}
-
-/// Puts what is given into the place, if it is.
-fn replace<T: Drop>(place: &mut T, given: Option<T>)
-    ensures { place.new ≡ unwrap_or given place.old }
-{
-    if let Some(given) = given {
-        *place = given;
-    }
 }

@@ -1,5 +1,6 @@
 ghost use Rattle.std.specs.Prelude.{◌↔◌, IsTrue, All};
-ghost use Rattle.protection.specs.Following.{IsWithinOn, IsKeptWithin};
+ghost use Rattle.grid_range.specs.Area.{IsWithinOn};
+ghost use Rattle.protection.specs.Following.{IsKeptWithin};
 
 use super::*;
 use cell_value::{Duplicate, Items, NoMemory, Text};
@@ -14,54 +15,28 @@ type Place = (u32, Band, Band);
 const WHOLE: Place = (0, Band::Whole, Band::Whole);
 
 /// What is denied of B2:C3, of which `ann` is an editor: an area, a user and the id.
-const DENIALS: [(Place, &str, Option<u32>); 9] = [
+const DENIALS: [(Place, &str, Option<u32>); 7] = [
     ((0, Band::Span(0, 2), Band::Span(0, 2)), "bob", Some(1)),
-    ((0, Band::Span(1, 2), Band::Whole), "bob", Some(1)),
     ((0, Band::Whole, Band::From(2)), "bob", Some(1)),
     ((0, Band::Span(0, 1), Band::Span(0, 9)), "bob", None),
     ((0, Band::Span(3, 9), Band::Span(0, 9)), "bob", None),
     ((0, Band::From(1000), Band::Whole), "bob", None),
     ((1, Band::Whole, Band::Whole), "bob", None),
     ((0, Band::Span(0, 2), Band::Span(0, 2)), "ann", None),
-    ((0, Band::Span(0, 2), Band::Span(0, 2)), "owner", None),
 ];
 
 #[test]
 fn an_area_is_denied_but_to_editors(rt: HostRuntime) -> Result<(), Fail> {
     let mut list = Protections::new(rt.alloc());
-    let given = patch(
-        rt.alloc(),
-        Some(cells((1, 3), (1, 3))),
-        None,
-        None,
-        Some(&["ann"]),
-    )?;
-    assert_eq!(rt; add(&mut list, "owner", None, given), Ok(1));
+    let b2_to_c3 = cells((1, 3), (1, 3));
+    let given = patch(rt.alloc(), b2_to_c3, None, Some(&["ann"]))?;
+    assert_eq!(rt; add(&mut list, None, given), Ok(1));
     for (place, user, denied) in DENIALS {
         let asked = area(place);
-        assert_eq!(rt;
-            list.first_denial(user, "owner", &asked, 1000, 26),
-            denied,
-            "{asked:?} {user}"
-        );
+        let id = list.first_denial(user, "owner", &asked, 1000, 26);
+        assert_eq!(rt; id, denied, "{asked:?} {user}");
     }
     let copy = list.duplicate()?;
-    change(
-        &rt,
-        &mut list,
-        0,
-        Axis::Rows,
-        1000,
-        &Change::Insert { at: 1, count: 1 },
-    );
-    assert_eq!(rt;
-        list.list(0).map(|one| one.area),
-        Some(cells((2, 4), (1, 3)))
-    );
-    let (b2, b3) = (cells((1, 2), (1, 2)), cells((2, 3), (1, 2)));
-    assert_eq!(rt; list.first_denial("bob", "owner", &b2, 1001, 26), None);
-    assert_eq!(rt; list.first_denial("bob", "owner", &b3, 1001, 26), Some(1));
-    assert_eq!(rt; list.first_denial("ann", "owner", &b3, 1001, 26), None);
     assert_eq!(rt;
         list.drop("bob", "owner", 1),
         Err(ProtectionFault::NotEditor)
@@ -69,89 +44,87 @@ fn an_area_is_denied_but_to_editors(rt: HostRuntime) -> Result<(), Fail> {
     assert_eq!(rt; list.drop("ann", "owner", 1), Ok(()));
     assert_eq!(rt; list.drop("ann", "owner", 1), Err(ProtectionFault::NoId));
     assert_eq!(rt; (list.count(), copy.count()), (0, 1));
-    assert_eq!(rt; copy.first_denial("bob", "owner", &b2, 1000, 26), Some(1));
+    assert_eq!(rt;
+        copy.first_denial("bob", "owner", &b2_to_c3, 1000, 26),
+        Some(1)
+    );
     Ok(())
 }
 
-/// Unprotected ranges of a whole sheet, an area, and whether it is denied.
-const RANGES: [(&[Place], Place, bool); 9] = [
-    (
-        &[(0, Band::Span(0, 2), Band::Span(0, 1))],
-        (0, Band::Span(1, 2), Band::Span(0, 1)),
-        false,
-    ),
-    (
-        &[(0, Band::Span(0, 2), Band::Span(0, 1))],
-        (0, Band::Span(2, 3), Band::Span(0, 1)),
-        true,
-    ),
-    (
-        &[(0, Band::Span(0, 2), Band::Span(0, 1))],
-        (0, Band::Span(0, 1), Band::Whole),
-        true,
-    ),
+/// Unprotected ranges of a whole sheet, by the ends of their rows and columns, the rows and columns of
+/// an area, and whether it is denied.
+const RANGES: [(&[Ends], Ends, bool); 9] = [
+    (&[((0, 2), (0, 1))], ((1, 2), (0, 1)), false),
+    (&[((0, 2), (0, 1))], ((0, 3), (0, 1)), true),
     // Ranges that cover the area together, and that leave its last cell.
     (
-        &[
-            (0, Band::Span(0, 4), Band::Span(0, 2)),
-            (0, Band::Span(0, 2), Band::Span(1, 4)),
-            (0, Band::Span(2, 4), Band::Span(2, 4)),
-        ],
-        (0, Band::Span(0, 4), Band::Span(0, 4)),
+        &[((0, 4), (0, 2)), ((0, 2), (1, 4)), ((2, 4), (2, 4))],
+        ((0, 4), (0, 4)),
         false,
     ),
     (
-        &[
-            (0, Band::Span(0, 4), Band::Span(0, 2)),
-            (0, Band::Span(0, 2), Band::Span(1, 4)),
-            (0, Band::Span(2, 4), Band::Span(2, 3)),
-        ],
-        (0, Band::Span(0, 4), Band::Span(0, 4)),
+        &[((0, 4), (0, 2)), ((0, 2), (1, 4)), ((2, 4), (2, 3))],
+        ((0, 4), (0, 4)),
         true,
     ),
     // A hole in the middle.
     (
         &[
-            (0, Band::Span(0, 3), Band::Span(0, 1)),
-            (0, Band::Span(0, 1), Band::Span(0, 3)),
-            (0, Band::Span(2, 3), Band::Span(0, 3)),
-            (0, Band::Span(0, 3), Band::Span(2, 3)),
+            ((0, 3), (0, 1)),
+            ((0, 1), (0, 3)),
+            ((2, 3), (0, 3)),
+            ((0, 3), (2, 3)),
         ],
-        (0, Band::Span(0, 3), Band::Span(0, 3)),
+        ((0, 3), (0, 3)),
         true,
     ),
-    (&[WHOLE], WHOLE, false),
+    // Ranges that touch at a corner, with one cell left between them, and with none.
     (
         &[
-            (0, Band::From(5), Band::Whole),
-            (0, Band::Span(0, 5), Band::From(0)),
+            ((0, 2), (0, 2)),
+            ((0, 2), (2, 4)),
+            ((2, 4), (0, 2)),
+            ((2, 4), (3, 4)),
+            ((3, 4), (2, 3)),
         ],
-        WHOLE,
+        ((0, 4), (0, 4)),
+        true,
+    ),
+    (
+        &[
+            ((2, 4), (2, 4)),
+            ((2, 4), (0, 2)),
+            ((0, 2), (2, 4)),
+            ((0, 2), (0, 2)),
+        ],
+        ((1, 3), (1, 3)),
         false,
     ),
-    // A range of another sheet covers nothing.
+    // The last row alone is left.
     (
-        &[(1, Band::Whole, Band::Whole)],
-        (0, Band::Span(0, 1), Band::Span(0, 1)),
+        &[((0, 3), (0, 4)), ((3, 4), (0, 2))],
+        ((0, 4), (0, 4)),
         true,
+    ),
+    // A range in another one.
+    (
+        &[((1, 2), (1, 2)), ((0, 4), (0, 4)), ((1, 2), (1, 2))],
+        ((0, 4), (0, 4)),
+        false,
     ),
 ];
 
+type Ends = ((u32, u32), (u32, u32));
+
 #[test]
 fn unprotected_ranges_let_pass_what_they_cover(rt: HostRuntime) -> Result<(), Fail> {
-    for (places, place, denied) in RANGES {
+    for (ranges, (rows, cols), denied) in RANGES {
         let mut list = Protections::new(rt.alloc());
-        let ranges = areas(rt.alloc(), places)?;
-        let given = patch(
-            rt.alloc(),
-            Some(area(WHOLE)),
-            None,
-            Some(ranges.as_slice()),
-            None,
-        )?;
-        assert_eq!(rt; add(&mut list, "owner", None, given), Ok(1));
-        let id = list.first_denial("bob", "owner", &area(place), 1000, 26);
-        assert_eq!(rt; id.is_some(), denied, "{places:?} {place:?}");
+        let mut given = patch(rt.alloc(), area(WHOLE), None, None)?;
+        given.unprotected = Some(areas(rt.alloc(), ranges)?);
+        assert_eq!(rt; add(&mut list, None, given), Ok(1));
+        let id = list.first_denial("bob", "owner", &cells(rows, cols), 1000, 26);
+        assert_eq!(rt; id.is_some(), denied, "{ranges:?} {rows:?} {cols:?}");
     }
     Ok(())
 }
@@ -159,58 +132,30 @@ fn unprotected_ranges_let_pass_what_they_cover(rt: HostRuntime) -> Result<(), Fa
 #[test]
 fn the_ranges_follow_their_sheets(rt: HostRuntime) -> Result<(), Fail> {
     let mut list = Protections::new(rt.alloc());
-    let ranges = [
-        cells((0, 2), (0, 1)),
-        area((1, Band::From(3), Band::Span(2, 4))),
-    ];
-    let given = patch(rt.alloc(), Some(area(WHOLE)), None, Some(&ranges), None)?;
-    assert_eq!(rt; add(&mut list, "owner", None, given), Ok(1));
+    let other = area((1, Band::From(3), Band::Span(2, 4)));
+    let ranges = Vec::from_slice(rt.alloc(), &[cells((0, 2), (0, 1)), other])?;
+    let mut given = patch(rt.alloc(), area(WHOLE), None, None)?;
+    given.unprotected = Some(Items::of(ranges));
+    assert_eq!(rt; add(&mut list, None, given), Ok(1));
     let given = patch(
         rt.alloc(),
-        Some(area((1, Band::Whole, Band::Span(2, 4)))),
-        None,
+        area((1, Band::Whole, Band::Span(2, 4))),
         None,
         None,
     )?;
-    assert_eq!(rt; add(&mut list, "owner", None, given), Ok(2));
-    change(
-        &rt,
-        &mut list,
-        1,
-        Axis::Columns,
-        26,
-        &Change::Insert { at: 0, count: 1 },
-    );
-    assert_eq!(rt;
-        ranges_of(&list),
-        [ranges[0], area((1, Band::From(3), Band::Span(3, 5)))].as_slice()
-    );
-    change(
-        &rt,
-        &mut list,
-        0,
-        Axis::Rows,
-        1000,
-        &Change::Delete { start: 0, end: 2 },
-    );
-    assert_eq!(rt;
-        ranges_of(&list),
-        [area((1, Band::From(3), Band::Span(3, 5)))].as_slice()
-    );
-    assert_eq!(rt;
-        list.first_denial("bob", "owner", &cells((0, 1), (0, 1)), 998, 26),
-        Some(1)
-    );
-    assert_eq!(rt; list.count(), 2);
-    change(
-        &rt,
-        &mut list,
-        1,
-        Axis::Columns,
-        27,
-        &Change::Delete { start: 3, end: 5 },
-    );
-    assert_eq!(rt; (list.count(), ranges_of(&list)), (1, [].as_slice()));
+    assert_eq!(rt; add(&mut list, None, given), Ok(2));
+    let inserted = Change::Insert { at: 0, count: 1 };
+    change(&rt, &mut list, 1, Axis::Columns, 26, &inserted);
+    let moved = area((1, Band::From(3), Band::Span(3, 5)));
+    assert_eq!(rt; ranges_of(&list), [cells((0, 2), (0, 1)), moved].as_slice());
+    let deleted = Change::Delete { start: 0, end: 2 };
+    change(&rt, &mut list, 0, Axis::Rows, 1000, &deleted);
+    assert_eq!(rt; ranges_of(&list), [moved].as_slice());
+    let first = cells((0, 1), (0, 1));
+    assert_eq!(rt; list.first_denial("bob", "owner", &first, 998, 26), Some(1));
+    let deleted = Change::Delete { start: 3, end: 5 };
+    change(&rt, &mut list, 1, Axis::Columns, 27, &deleted);
+    assert_eq!(rt; (list.count(), ranges_of(&list).len()), (1, 0));
     list.lose_sheet(1);
     assert_eq!(rt; list.count(), 1);
     list.lose_sheet(0);
@@ -219,38 +164,35 @@ fn the_ranges_follow_their_sheets(rt: HostRuntime) -> Result<(), Fail> {
 }
 
 /// Ids that are asked for, and what the list answers, one after another.
-const IDS: [(Option<u32>, Result<u32, ProtectionFault>); 6] = [
+const IDS: [(Option<u32>, Result<u32, ProtectionFault>); 5] = [
     (Some(2), Ok(2)),
     (None, Ok(1)),
     (None, Ok(3)),
     (Some(2), Err(ProtectionFault::IdTaken)),
     (Some(0), Ok(0)),
-    (None, Ok(4)),
 ];
 
 #[test]
 fn the_least_unused_id_is_given(rt: HostRuntime) -> Result<(), Fail> {
     let mut list = Protections::new(rt.alloc());
     for (id, answer) in IDS {
-        let given = patch(rt.alloc(), Some(cells((0, 1), (0, 1))), None, None, None)?;
-        assert_eq!(rt; add(&mut list, "owner", id, given), answer, "{id:?}");
+        let given = patch(rt.alloc(), cells((0, 1), (0, 1)), None, None)?;
+        assert_eq!(rt; add(&mut list, id, given), answer, "{id:?}");
     }
-    for at in 0..5u32 {
+    for at in 0..4u32 {
         assert_eq!(rt; list.list(at).map(|one| one.id), Some(at));
     }
-    assert!(rt; list.list(5).is_none());
     Ok(())
 }
 
 /// The area, the mark, whether a range is unprotected and the editors that an update gives, who makes
-/// it of which protection, and what is answered and is kept: the editors and the number of ranges.
+/// it of which protection, and what is answered or kept: the editors and the number of ranges.
 /// Protection 1 is of the whole sheet with a range and the editor `ann`, 2 is a warning, 3 a cell.
 const UPDATES: [(
-    (Option<Place>, Option<bool>, bool, Option<&[&str]>),
+    Given,
     (&str, u32),
     Result<(&[&str], usize), ProtectionFault>,
-); 16] = [
-    ((None, None, false, None), ("ann", 1), Ok((&["ann"], 1))),
+); 12] = [
     ((None, None, false, None), ("owner", 1), Ok((&["ann"], 1))),
     (
         (None, None, false, None),
@@ -258,12 +200,6 @@ const UPDATES: [(
         Err(ProtectionFault::NotEditor),
     ),
     ((None, None, false, None), ("bob", 2), Ok((&[], 0))),
-    (
-        (None, None, false, None),
-        ("bob", 9),
-        Err(ProtectionFault::NoId),
-    ),
-    ((None, None, true, None), ("ann", 1), Ok((&["ann"], 1))),
     (
         (None, None, true, None),
         ("bob", 9),
@@ -275,12 +211,7 @@ const UPDATES: [(
         Err(ProtectionFault::Bad),
     ),
     (
-        (
-            Some((0, Band::Span(0, 1), Band::Span(0, 1))),
-            None,
-            true,
-            None,
-        ),
+        (Some(CELL), None, true, None),
         ("bob", 9),
         Err(ProtectionFault::Bad),
     ),
@@ -314,29 +245,25 @@ const UPDATES: [(
         ("bob", 2),
         Ok((&["ann", "bob"], 0)),
     ),
-    (
-        (None, None, false, Some(&["ann"])),
-        ("bob", 2),
-        Ok((&[], 0)),
-    ),
 ];
+
+type Given<'a> = (Option<Place>, Option<bool>, bool, Option<&'a [&'a str]>);
+
+const CELL: Place = (0, Band::Span(0, 1), Band::Span(0, 1));
 
 #[test]
 fn updates_keep_who_asked(rt: HostRuntime) -> Result<(), Fail> {
-    for (given, (user, id), answer) in UPDATES {
+    for ((place, warning_only, opens, editors), (user, id), answer) in UPDATES {
         let mut list = three(rt.alloc())?;
-        let whole = [area(WHOLE)];
-        let ranges = if given.2 {
-            Some(whole.as_slice())
-        } else {
-            None
-        };
-        let given = patch(rt.alloc(), given.0.map(area), given.1, ranges, given.3)?;
+        let mut given = patch(rt.alloc(), area(WHOLE), warning_only, editors)?;
+        given.area = place.map(area);
+        if opens {
+            given.unprotected = Some(areas(rt.alloc(), &[((0, 2), (0, 1))])?);
+        }
         match (list.update(user, "owner", id, given), answer) {
-            (Ok(()), Ok((editors, ranges))) => {
-                let place = id.saturating_sub(1);
-                assert!(rt; has_editors(&list, place, editors), "{user} {id}");
-                assert_eq!(rt; count_ranges(&list, place), ranges);
+            (Ok(()), Ok(kept)) => {
+                let one = list.list(id.saturating_sub(1));
+                assert!(rt; one.is_some_and(|one| has(one, kept)), "{user} {id}");
             }
             (Err(fault), Err(expected)) => assert_eq!(rt; fault, expected),
             _ => assert!(rt; false, "{user} {id}"),
@@ -345,41 +272,18 @@ fn updates_keep_who_asked(rt: HostRuntime) -> Result<(), Fail> {
     Ok(())
 }
 
-#[test]
-fn a_description_is_updated(rt: HostRuntime) -> Result<(), Fail> {
-    let mut list = three(rt.alloc())?;
-    let mut given = patch(rt.alloc(), None, None, None, None)?;
-    given.description = Some(Text::of(String::from_str(rt.alloc(), "d")?));
-    assert_eq!(rt; list.update("owner", "owner", 3, given), Ok(()));
-    assert_eq!(rt; list.list(2).map(|one| one.description.as_str()), Some("d"));
-    assert_eq!(rt; list.list(1).map(|one| one.description.as_str()), Some(""));
-    assert_eq!(rt; list.drop("owner", "owner", 3), Ok(()));
-    Ok(())
-}
-
 /// A protection of the whole sheet with a range and an editor, a warning, and a protected cell.
-fn three(alloc: Global) -> Result<Protections, Fail> {
+fn three(alloc: Global) -> Result<Protections, NoMemory> {
     let mut list = Protections::new(alloc);
-    let range: &[Area] = &[cells((0, 2), (0, 1))];
+    let mut whole = patch(alloc, area(WHOLE), None, Some(&["ann"]))?;
+    whole.unprotected = Some(areas(alloc, &[((0, 2), (0, 1))])?);
+    let _ = add(&mut list, None, whole);
     let _ = add(
         &mut list,
-        "owner",
         None,
-        patch(alloc, Some(area(WHOLE)), None, Some(range), Some(&["ann"]))?,
+        patch(alloc, area(CELL), Some(true), Some(&["bob"]))?,
     );
-    let cell = Some(cells((0, 1), (0, 1)));
-    let _ = add(
-        &mut list,
-        "bob",
-        None,
-        patch(alloc, cell, Some(true), None, Some(&["bob"]))?,
-    );
-    let _ = add(
-        &mut list,
-        "owner",
-        None,
-        patch(alloc, cell, None, None, None)?,
-    );
+    let _ = add(&mut list, None, patch(alloc, area(CELL), None, None)?);
     Ok(list)
 }
 
@@ -396,22 +300,22 @@ fn area(place: Place) -> Area {
     }
 }
 
-fn areas(alloc: Global, places: &[Place]) -> Result<Vec<Area>, NoMemory> {
+fn areas(alloc: Global, ends: &[Ends]) -> Result<Items<Area>, NoMemory> {
     let mut areas = Vec::new(alloc);
-    for place in places {
-        areas.push(area(*place))?;
+    for (rows, cols) in ends {
+        areas.push(cells(*rows, *cols))?;
     }
-    Ok(areas)
+    Ok(Items::of(areas))
 }
 
+/// Adds a protection for the owner.
 fn add(
     list: &mut Protections,
-    user: &str,
     id: Option<u32>,
     given: ProtectionPatch,
 ) -> Result<u32, ProtectionFault> {
     if list.count() < 100 && given.area.is_some() {
-        list.add(user, "owner", id, given)
+        list.add("owner", "owner", id, given)
     } else {
         Err(ProtectionFault::NoMemory)
     }
@@ -419,24 +323,19 @@ fn add(
 
 fn patch(
     alloc: Global,
-    area: Option<Area>,
+    area: Area,
     warning_only: Option<bool>,
-    unprotected: Option<&[Area]>,
     editors: Option<&[&str]>,
 ) -> Result<ProtectionPatch, NoMemory> {
-    let unprotected = match unprotected {
-        Some(ranges) => Some(Items::of(Vec::from_slice(alloc, ranges)?)),
-        None => None,
-    };
     let editors = match editors {
         Some(names) => Some(texts(alloc, names)?),
         None => None,
     };
     Ok(ProtectionPatch {
-        area,
+        area: Some(area),
         description: None,
         warning_only,
-        unprotected,
+        unprotected: None,
         editors,
     })
 }
@@ -456,28 +355,14 @@ fn ranges_of(list: &Protections) -> &[Area] {
     }
 }
 
-fn count_ranges(list: &Protections, place: u32) -> usize {
-    match list.list(place) {
-        Some(one) => one.unprotected.as_slice().len(),
-        None => 99,
-    }
-}
-
-fn has_editors(list: &Protections, place: u32, names: &[&str]) -> bool {
-    let Some(one) = list.list(place) else {
-        return false;
-    };
+/// Whether a protection has these editors and so many unprotected ranges.
+fn has(one: &Protection, kept: (&[&str], usize)) -> bool {
     let editors = one.editors.as_slice();
-    if editors.len() != names.len() {
-        return false;
+    let mut same = editors.len() == kept.0.len() && one.unprotected.as_slice().len() == kept.1;
+    for (editor, name) in editors.iter().zip(kept.0) {
+        same = same && editor.as_str() == *name;
     }
-    for (at, name) in names.iter().enumerate() {
-        match editors.get(at) {
-            Some(editor) if editor.as_str() == *name => {}
-            _ => return false,
-        }
-    }
-    true
+    same
 }
 
 fn change(
@@ -531,9 +416,5 @@ fn ranges_within(ranges: &[Area], sheet: u32, axis: Axis, count: u32) -> bool
 fn is_within(area: &Area, sheet: u32, axis: Axis, count: u32) -> bool
     ensures { IsTrue result → IsWithinOn sheet axis count area.now }
 {
-    area.sheet != sheet
-        || match axis {
-            Axis::Rows => area.rows.within(count),
-            Axis::Columns => area.cols.within(count),
-        }
+    area.sheet != sheet || area.band_on(axis).within(count)
 }

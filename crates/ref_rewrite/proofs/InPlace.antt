@@ -26,21 +26,6 @@ next_is f before now at d there so_far =
     (so_far ∙ ap (λ items. map f (take at before) ++ items) (drop_more before at d there))
     ∙ get_or_at (map f (take at before)) _ _ d at long
 
--- what holds of the items before `at` holds of one more, where it holds of the one that is put
-pub all_one_more : {X : Type 0} (P : X → Type 0) (now : List X) (at : ℕ) (new : X)
-    → at < length now → All P (take at now) → P new → All P (take (at + 1) (set now at new))
-all_one_more P now at new there so_far holds =
-    All-same P _ _ (take_more_set now at new there)
-    (All-append P (take at now) (new ∷ []) so_far (All-replicate P 1 new holds))
-
--- what ties the items before `at` to what they become ties one more to it, where it ties that one
-pub tied_one_more : {X : Type 0} (R : X → X → Type 0) (before now : List X) (at : ℕ) (d new : X)
-    → at < length before → at < length now → AllZip R (take at before) (take at now)
-    → R (get_or before at d) new → AllZip R (take (at + 1) before) (take (at + 1) (set now at new))
-tied_one_more R before now at d new there room so_far tied =
-    rw (take_more before at d there, take_more_set now at new room)
-    (AllZip-push R (take at before) (take at now) (get_or before at d) new so_far tied)
-
 -- of the items from `at` on, one more passes the test than of those behind it, where it passes
 pub count_passed : {X : Type 0} (p : X → Bool) (items : List X) (at : ℕ) (d : X)
     → at < length items → p (get_or items at d) ≡ true

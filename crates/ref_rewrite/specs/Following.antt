@@ -2,42 +2,22 @@
 -- a sheet is deleted: insertDimension, deleteDimension, moveDimension and deleteSheet of the Google
 -- Sheets API v4.
 use Rattle.std.specs.Prelude.{ℕ, ◌≡◌, ◌≢◌, ◌==◌, Option, None, Some, if◌then◌else◌, ⊤}
-use Rattle.std.specs.Option.{option_map, option_map_or}
-use Rattle.grid_range.specs.declared.area.Area.{Area}
+use Rattle.std.specs.Option.{option_map_or}
 use Rattle.grid_range.specs.declared.axis.Axis.{Axis}
-use Rattle.grid_range.specs.declared.axis.Axis.TheVariants.{Rows, Columns}
 use Rattle.grid_range.specs.declared.band.Band.{Band}
 use Rattle.grid_range.specs.declared.change.Change.{Change}
-use Rattle.grid_range.specs.Band.{Within}
-use Rattle.grid_range.specs.Tracking.{Tracks, track_of}
+use Rattle.grid_range.specs.Area.{band_on, IsWithinOn}
+use Rattle.grid_range.specs.Tracking.{Tracks, area_followed}
 use Rattle.ref_rewrite.specs.declared.reference.Ref.{Ref as Reference}
 use Rattle.ref_rewrite.specs.declared.pieces.Piece.{Piece}
 use Rattle.ref_rewrite.specs.declared.pieces.Piece.TheVariants.{Text, Word, Ref, Lost}
 
--- the area's lines on the axis
-abbrev pub band_on : Axis → Area → Band
-band_on Rows area = area.rows
-band_on Columns area = area.cols
-
--- the area with other lines on the axis
-abbrev pub with_band : Axis → Area → Band → Area
-with_band Rows area band = record area { rows = band }
-with_band Columns area band = record area { cols = band }
-
 -- a reference to the sheet has lines on that axis that are among `count`
-abbrev pub IsWithinOn : ℕ → Axis → ℕ → Piece → Type 0
-IsWithinOn sheet axis count (Ref reference) =
-    reference.area.sheet ≡ sheet → Within (band_on axis reference.area) count
-IsWithinOn sheet axis count (Text text) = ⊤
-IsWithinOn sheet axis count (Word word) = ⊤
-IsWithinOn sheet axis count Lost = ⊤
-
--- an area follows the changes of its own sheet; None where it is lost
-abbrev pub area_followed : ℕ → Axis → ℕ → Change → Area → Option Area
-area_followed sheet axis count change area =
-    if area.sheet == sheet
-    then option_map (with_band axis area) (track_of (band_on axis area) count change)
-    else Some area
+abbrev pub IsPieceWithinOn : ℕ → Axis → ℕ → Piece → Type 0
+IsPieceWithinOn sheet axis count (Ref reference) = IsWithinOn sheet axis count reference.area
+IsPieceWithinOn sheet axis count (Text text) = ⊤
+IsPieceWithinOn sheet axis count (Word word) = ⊤
+IsPieceWithinOn sheet axis count Lost = ⊤
 
 -- a reference follows with its area, and its title and marks stay; without its area it is lost
 abbrev pub reference_followed : ℕ → Axis → ℕ → Change → Reference → Piece
@@ -80,8 +60,8 @@ piece_without_sheet sheet (Word word) = Word word
 piece_without_sheet sheet Lost = Lost
 
 -- the piece is no reference to the sheet
-abbrev pub IsElsewhere : ℕ → Piece → Type 0
-IsElsewhere sheet (Ref reference) = reference.area.sheet ≢ sheet
-IsElsewhere sheet (Text text) = ⊤
-IsElsewhere sheet (Word word) = ⊤
-IsElsewhere sheet Lost = ⊤
+abbrev pub IsNoReferenceTo : ℕ → Piece → Type 0
+IsNoReferenceTo sheet (Ref reference) = reference.area.sheet ≢ sheet
+IsNoReferenceTo sheet (Text text) = ⊤
+IsNoReferenceTo sheet (Word word) = ⊤
+IsNoReferenceTo sheet Lost = ⊤

@@ -23,7 +23,7 @@ pub fn rename_word(
     ensures unchanged { OnErr result (formula.new ≡ formula.old) }
 {
     let mut words = new_words(alloc, formula.pieces.as_slice(), old, new)?;
-    let mut pieces = formula.take_pieces(alloc);
+    let mut pieces = formula.pieces.take().into_vec();
     for piece in pieces.iter_mut() {
         if piece.is_word(old) {
             if let Some(word) = words.pop() {

@@ -1,6 +1,7 @@
 ghost use Rattle.std.specs.Prelude.{◌≡◌, IsTrue, All};
+ghost use Rattle.grid_range.specs.Area.{band_on};
 ghost use Rattle.grid_range.specs.Band.{Within};
-ghost use Rattle.ref_rewrite.specs.Following.{IsWithinOn, band_on};
+ghost use Rattle.ref_rewrite.specs.Following.{IsPieceWithinOn};
 
 use super::*;
 use cell_value::{Duplicate, Items, NoMemory, Text};
@@ -158,9 +159,9 @@ fn lost_references_are_lost_for_good(rt: HostRuntime) -> Result<(), Fail> {
     let insert = Change::Insert { at: 0, count: 5 };
     follow_checked(&rt, alloc, &mut formula, 0, Axis::Rows, 995, &insert);
     assert!(rt; is_same(&formula, &formula_with(None, SECOND)));
-    lose_sheet(alloc, &mut formula, 1);
+    lose_sheet(&mut formula, 1);
     assert!(rt; is_same(&formula, &formula_with(None, SECOND)));
-    lose_sheet(alloc, &mut formula, 7);
+    lose_sheet(&mut formula, 7);
     assert!(rt; is_same(&formula, &formula_with(None, None)));
     Ok(())
 }
@@ -282,7 +283,7 @@ fn follow_checked(
     change: &Change,
 ) {
     if change.fits(count) && are_within(formula.pieces.as_slice(), sheet, axis, count) {
-        follow(alloc, formula, sheet, axis, count, change);
+        follow(formula, sheet, axis, count, change);
     } else {
         assert!(rt; false, "{change:?}");
     }
@@ -290,7 +291,7 @@ fn follow_checked(
 
 /// Whether each reference to the sheet is within `count` lines.
 fn are_within(pieces: &[Piece], sheet: u32, axis: Axis, count: u32) -> bool
-    ensures { IsTrue result → All (IsWithinOn sheet axis count) pieces.now }
+    ensures { IsTrue result → All (IsPieceWithinOn sheet axis count) pieces.now }
 {
     for piece in pieces {
         if !is_within(piece, sheet, axis, count) {
@@ -301,7 +302,7 @@ fn are_within(pieces: &[Piece], sheet: u32, axis: Axis, count: u32) -> bool
 }
 
 fn is_within(piece: &Piece, sheet: u32, axis: Axis, count: u32) -> bool
-    ensures { IsTrue result → IsWithinOn sheet axis count piece.now }
+    ensures { IsTrue result → IsPieceWithinOn sheet axis count piece.now }
 {
     let Piece::Ref(reference) = piece else {
         return true;

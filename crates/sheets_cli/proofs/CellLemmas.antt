@@ -1,5 +1,6 @@
 -- Writes, value by value and row by row.
-use Rattle.std.proofs.Common.{◌≡◌, ◌≢◌, ℕ, zero, suc, ◌+◌, ◌-◌, ◌<◌, ◌≤◌, ◌⊎◌, inl, inr, nat_eq, true, false, List, [], ◌∷◌, get_or, refl, sym, ◌∙◌, ap, subst, arith}
+use Rattle.std.proofs.Common.{◌≡◌, ◌≢◌, ℕ, suc, ◌+◌, ◌-◌, ◌<◌, ◌≤◌, ◌⊎◌, inl, inr, nat_eq, true, false, List, []}
+use Rattle.std.proofs.Common.{◌∷◌, get_or, refl, arith}
 use Rattle.std.proofs.lemmas.Bool.{cases_order}
 use Rattle.std.proofs.lemmas.Bool.Decides.{nat_tests, eqb_tells}
 use Rattle.cell_value.specs.declared.entered.Input.{Input}
@@ -11,28 +12,33 @@ get_or_behind : {X : Type 0} → (x : X) (xs : List X) (i j : ℕ) (d : X) → i
 get_or_behind x xs i j d is = let more : j + 1 ≡ suc j = omega arith in rw (is, more) refl
 
 -- the one list of a row has a place for no other row
-beside_row : (values : List Input) (top left row column : ℕ) → row ≢ top → value_for (values ∷ []) top left row column ≡ input.Skip
+beside_row : (values : List Input) (top left row column : ℕ) → row ≢ top
+    → value_for (values ∷ []) top left row column ≡ input.Skip
 beside_row values top left row column other = grind (arith, nat_tests, get_or_behind)
 
 -- the value of a place of the row
-in_row : (values : List Input) (top left column : ℕ) → left ≤ column → value_for (values ∷ []) top left top column ≡ get_or values (column - left) input.Skip
+in_row : (values : List Input) (top left column : ℕ) → left ≤ column
+    → value_for (values ∷ []) top left top column ≡ get_or values (column - left) input.Skip
 in_row values top left column within = grind (arith, nat_tests)
 
-before_row : (values : List Input) (top left row column : ℕ) → column < left → value_for (values ∷ []) top left row column ≡ input.Skip
+before_row : (values : List Input) (top left row column : ℕ) → column < left
+    → value_for (values ∷ []) top left row column ≡ input.Skip
 before_row values top left row column before = grind (arith, nat_tests)
 
 next_beside : (value : Input) (values : List Input) (top left : ℕ) (cells : Cells) (row column : ℕ) → row ≢ top
     → written (values ∷ []) top (left + 1) (with_cell cells top left (entered value (cells top left))) row column
     ≡ written ((value ∷ values) ∷ []) top left cells row column
 next_beside value values top left cells row column other =
-    rw (beside_row values top (left + 1) row column other, beside_row (value ∷ values) top left row column other) (grind (arith, nat_tests))
+    rw (beside_row values top (left + 1) row column other, beside_row (value ∷ values) top left row column other)
+    (grind (arith, nat_tests))
 
 next_before : (value : Input) (values : List Input) (top left : ℕ) (cells : Cells) (column : ℕ) → column < left
     → written (values ∷ []) top (left + 1) (with_cell cells top left (entered value (cells top left))) top column
     ≡ written ((value ∷ values) ∷ []) top left cells top column
 next_before value values top left cells column before =
     let still : column < left + 1 = omega arith in
-    rw (before_row values top (left + 1) top column still, before_row (value ∷ values) top left top column before) (grind (arith, nat_tests))
+    rw (before_row values top (left + 1) top column still, before_row (value ∷ values) top left top column before)
+    (grind (arith, nat_tests))
 
 next_here : (value : Input) (values : List Input) (top left : ℕ) (cells : Cells)
     → written (values ∷ []) top (left + 1) (with_cell cells top left (entered value (cells top left))) top left
@@ -41,7 +47,8 @@ next_here value values top left cells =
     let less : left < left + 1 = omega arith in
     let same : left ≤ left = omega arith in
     let first : left - left ≡ 0 = omega arith in
-    rw (before_row values top (left + 1) top left less, in_row (value ∷ values) top left left same, first) (grind (arith, nat_tests))
+    rw (before_row values top (left + 1) top left less, in_row (value ∷ values) top left left same, first)
+    (grind (arith, nat_tests))
 
 next_behind : (value : Input) (values : List Input) (top left : ℕ) (cells : Cells) (column : ℕ) → left < column
     → written (values ∷ []) top (left + 1) (with_cell cells top left (entered value (cells top left))) top column
@@ -72,12 +79,14 @@ written_next value values top left cells row column = go (eqb_tells row top) (ca
     go (inl here) (inr (inr behind)) = rw here.1 (next_behind value values top left cells column behind)
 
 -- no value is left
-pub written_none : (top left : ℕ) (cells : Cells) (row column : ℕ) → written ([] ∷ []) top left cells row column ≡ cells row column
+pub written_none : (top left : ℕ) (cells : Cells) (row column : ℕ)
+    → written ([] ∷ []) top left cells row column ≡ cells row column
 written_none top left cells row column = grind (arith, nat_tests)
 
 -- ---- row by row
 
-above_rows : (values : List (List Input)) (top left row column : ℕ) → row < top → value_for values top left row column ≡ input.Skip
+above_rows : (values : List (List Input)) (top left row column : ℕ) → row < top
+    → value_for values top left row column ≡ input.Skip
 above_rows values top left row column above = grind (arith, nat_tests)
 
 first_row : (inputs : List Input) (values : List (List Input)) (top left column : ℕ)
@@ -114,5 +123,6 @@ rows_next inputs values top left cells row column = go (cases_order row top)
         rw (beside_row inputs top left row column other, row_behind inputs values top left row column behind) refl
 
 -- no row is left
-pub rows_none : (top left : ℕ) (cells : Cells) (row column : ℕ) → written [] top left cells row column ≡ cells row column
+pub rows_none : (top left : ℕ) (cells : Cells) (row column : ℕ)
+    → written [] top left cells row column ≡ cells row column
 rows_none top left cells row column = grind (arith, nat_tests)

@@ -1,6 +1,6 @@
 pub mod Finding
-pub mod Conversations
-pub mod TurnLemmas
+pub mod ConversationLemmas
+pub mod ExchangeLemmas
 pub mod SendLemmas
 pub mod Ranges
 pub mod Sides
@@ -10,3 +10,5 @@ pub mod ValueLemmas
 pub mod ShownLemmas
 pub mod BodyLemmas
 pub mod FitLemmas
+pub mod Deciding
+pub mod ReplyLemmas

@@ -1,17 +1,18 @@
 -- Sending one list of bytes after another, and lines that may be cut.
-use Rattle.std.proofs.Common.{◌≡◌, ℕ, ◌+◌, ◌<◌, ◌≤◌, List, [], ◌++◌, length, min, take, drop, Option, None, Some, Result, Ok, Err, IfSome, ◌⊎◌, inl, inr, refl, sym, ◌∙◌, ap, append_assoc, arith}
+use Rattle.std.proofs.Common.{◌≡◌, ℕ, ◌+◌, ◌≤◌, List, [], ◌++◌, length, min, take, drop, Option, None, Some}
+use Rattle.std.proofs.Common.{Result, Ok, Err, IfSome, inl, inr, refl, sym, ◌∙◌, ap, append_assoc, arith}
 use Rattle.std.proofs.lemmas.List.{append-nil, take-append-drop, take-append-le, take_min}
 use Rattle.std.proofs.Math.Seq.{take-append-add}
 use Rattle.std.specs.Option.{option_map}
 use Rattle.sheets_http.specs.declared.outside.SinkFault.{SinkFault}
-use Rattle.sheets_cli.specs.Turns.{Sends}
+use Rattle.sheets_cli.specs.Exchanges.{Sends}
 use Rattle.sheets_http.specs.declared.outside.SinkFault.TheVariants as fault
-use Rattle.sheets_http.specs.Outside.{Rose}
-use Rattle.sheets_cli.specs.Output.{IsPrefix}
-use Rattle.sheets_cli.specs.Program.{Says}
+use Rattle.cell_value.specs.FaultCount.{Rose}
+use Rattle.sheets_cli.specs.Program.{IsPrefix, Says}
 
 -- the first bytes of a line that were sent
-first_sent : (before after : Option (List ℕ)) (line : List ℕ) (sent : Result (Unit {0}) SinkFault) → Sends before after line sent
+first_sent : (before after : Option (List ℕ)) (line : List ℕ) (sent : Result (Unit {0}) SinkFault)
+    → Sends before after line sent
     → IfSome before (λ said. (first : List ℕ) × IsPrefix first line × (after ≡ Some (said ++ first)))
 first_sent None after line sent sends = tt
 first_sent (Some said) after line (Ok done) sends = (line, ([], sym (append-nil line)), sends)
@@ -19,8 +20,10 @@ first_sent (Some said) after line (Err fault) sends =
     (take sends.0 line, (drop sends.0 line, sym (take-append-drop sends.0 line)), sends.1)
 
 -- what is sent of a line is said
-pub says_what_is_sent : (before after : Option (List ℕ)) (faults faults' shortages shortages' : ℕ) (line : List ℕ) (sent : Result (Unit {0}) SinkFault)
-    → Sends before after line sent → (sent ≡ Err fault.Failed → Rose faults faults') → (sent ≡ Err fault.NoMemory → Rose shortages shortages')
+pub says_what_is_sent : (before after : Option (List ℕ)) (faults faults' shortages shortages' : ℕ) (line : List ℕ)
+    (sent : Result (Unit {0}) SinkFault)
+    → Sends before after line sent → (sent ≡ Err fault.Failed → Rose faults faults')
+    → (sent ≡ Err fault.NoMemory → Rose shortages shortages')
     → Says before after faults faults' shortages shortages' line
 says_what_is_sent before after faults faults' shortages shortages' line (Ok done) sends cause short =
     record { first = first_sent before after line (Ok done) sends; whole = inr sends }
@@ -29,17 +32,20 @@ says_what_is_sent before after faults faults' shortages shortages' line (Err fau
 says_what_is_sent before after faults faults' shortages shortages' line (Err fault.NoMemory) sends cause short =
     record { first = first_sent before after line (Err fault.NoMemory) sends; whole = inl (inr (short refl)) }
 
-same_said : (before : Option (List ℕ)) → before ≡ option_map (λ said. said ++ []) before
-same_said None = refl
-same_said (Some said) = ap Some (sym (append-nil said))
+-- nothing more was written
+pub nothing_more : (before : Option (List ℕ)) → before ≡ option_map (λ said. said ++ []) before
+nothing_more None = refl
+nothing_more (Some said) = ap Some (sym (append-nil said))
 
-nothing_first : (before : Option (List ℕ)) → IfSome before (λ said. (first : List ℕ) × IsPrefix first [] × (before ≡ Some (said ++ first)))
+nothing_first : (before : Option (List ℕ))
+    → IfSome before (λ said. (first : List ℕ) × IsPrefix first [] × (before ≡ Some (said ++ first)))
 nothing_first None = tt
 nothing_first (Some said) = ([], ([], refl), ap Some (sym (append-nil said)))
 
 -- where nothing is sent, no line is said
-pub says_nothing : (before : Option (List ℕ)) (faults shortages : ℕ) → Says before before faults faults shortages shortages []
-says_nothing before faults shortages = record { first = nothing_first before; whole = inr (same_said before) }
+pub says_nothing : (before : Option (List ℕ)) (faults shortages : ℕ)
+    → Says before before faults faults shortages shortages []
+says_nothing before faults shortages = record { first = nothing_first before; whole = inr (nothing_more before) }
 
 -- what rose in the second of two calls, and fell in none, rose in both
 pub Rose-later : (count count' count'' : ℕ) → count ≤ count' → Rose count' count'' → Rose count count''
@@ -47,13 +53,15 @@ Rose-later count count' count'' later (inl more) = inl (omega arith)
 Rose-later count count' count'' later (inr last) = inr last
 
 -- appending twice is appending both
-append_twice : (before : Option (List ℕ)) (a b : List ℕ)
-    → option_map (λ bytes. bytes ++ b) (option_map (λ bytes. bytes ++ a) before) ≡ option_map (λ bytes. bytes ++ (a ++ b)) before
+pub append_twice : (before : Option (List ℕ)) (a b : List ℕ)
+    → option_map (λ bytes. bytes ++ b) (option_map (λ bytes. bytes ++ a) before) ≡ option_map
+    (λ bytes. bytes ++ (a ++ b)) before
 append_twice None a b = refl
 append_twice (Some bytes) a b = ap Some (append_assoc bytes a b)
 
 -- one list is sent, and then another
-pub Sends-then : (before middle after : Option (List ℕ)) (a b : List ℕ) (done : Unit {0}) (sent : Result (Unit {0}) SinkFault)
+pub Sends-then : (before middle after : Option (List ℕ)) (a b : List ℕ) (done : Unit {0})
+    (sent : Result (Unit {0}) SinkFault)
     → Sends before middle a (Ok done) → Sends middle after b sent → Sends before after (a ++ b) sent
 Sends-then before middle after a b done (Ok done') first second =
     second ∙ ap (option_map (λ bytes. bytes ++ b)) first ∙ append_twice before a b
@@ -68,5 +76,6 @@ pub Sends-cut : (before after : Option (List ℕ)) (a b : List ℕ) (fault : Sin
     → Sends before after a (Err fault) → Sends before after (a ++ b) (Err fault)
 Sends-cut before after a b fault cut =
     let within : min cut.0 (length a) ≤ length a = omega arith in
-    let same : take (min cut.0 (length a)) (a ++ b) ≡ take cut.0 a = take-append-le (min cut.0 (length a)) a b within ∙ take_min cut.0 a in
+    let same : take (min cut.0 (length a)) (a ++ b) ≡ take cut.0 a = take-append-le (min cut.0 (length a)) a b within
+    ∙ take_min cut.0 a in
     (min cut.0 (length a), rw same cut.1)

@@ -1,5 +1,6 @@
 -- Lists without their empty end.
-use Rattle.std.proofs.Common.{◌≡◌, ℕ, suc, ◌+◌, ◌-◌, ◌<◌, ◌≤◌, ◌==◌, Bool, false, true, List, [], ◌∷◌, ◌++◌, map, length, take, get_or, refl, sym, ◌∙◌, ap, arith}
+use Rattle.std.proofs.Common.{◌≡◌, ℕ, ◌+◌, ◌-◌, ◌<◌, ◌≤◌, ◌==◌, false, true, List, [], ◌∷◌, ◌++◌, map}
+use Rattle.std.proofs.Common.{length, take, get_or, refl, sym, ◌∙◌, ap, arith}
 use Rattle.std.proofs.Math.Dec.{eqb-suc-zero}
 use Rattle.std.proofs.Math.ListN.{get_or-map}
 use Rattle.std.proofs.lemmas.List.{length-map, map-append}
@@ -28,14 +29,17 @@ last_empty values kept last some few is empty =
     (rw (last_seen values kept last is) empty)
 
 pub last_filled : (values : List Value) (kept : ℕ) (last : Value) → 0 < kept → kept ≤ length values
-    → last ≡ get_or values (kept - 1) last → is_empty (view last) ≡ false → suffix_len is_empty (take kept (map view values)) ≡ 0
+    → last ≡ get_or values (kept - 1) last → is_empty (view last) ≡ false
+    → suffix_len is_empty (take kept (map view values)) ≡ 0
 last_filled values kept last some few is filled =
     suffix_len-take_no is_empty (map view values) kept (view last) some (rw length-map few)
     (rw (last_seen values kept last is) filled)
 
-pub cut_there : (values cut : List Value) (kept : ℕ) → cut ≡ take kept values → kept ≡ length values - suffix_len is_empty (map view values)
+pub cut_there : (values cut : List Value) (kept : ℕ) → cut ≡ take kept values
+    → kept ≡ length values - suffix_len is_empty (map view values)
     → map view cut ≡ without_empty_end (map view values)
-cut_there values cut kept cut_is kept_is = rw (cut_is, kept_is, length-map) (sym (take-map view (length values - suffix_len is_empty (map view values)) values))
+cut_there values cut kept cut_is kept_is = rw (cut_is, kept_is, length-map)
+    (sym (take-map view (length values - suffix_len is_empty (map view values)) values))
 
 -- one line more is seen
 pub mapped_next : (f : ℕ → Data) (first line : ℕ) (values values' : List Value) (value : Value) → first ≤ line

@@ -1,5 +1,6 @@
 -- A list of one word.
-use Rattle.std.proofs.Common.{◌≡◌, ℕ, ◌<◌, ◌≤◌, List, [], ◌∷◌, length, map, String, string_bytes, Global, slice_index_or, ◌↔◌, sym, ap, ◌∙◌, arith}
+use Rattle.std.proofs.Common.{◌≡◌, ℕ, ◌<◌, ◌≤◌, List, [], ◌∷◌, length, map, String, string_bytes, Global}
+use Rattle.std.proofs.Common.{slice_index_or, ◌↔◌, sym, ap, ◌∙◌, arith}
 
 -- the words are just that one where the first of them is
 pub one_word : (words : List (String Global)) (word : String Global) (wanted : List ℕ)

@@ -6,6 +6,8 @@ pub mod Body
 pub mod Range
 pub mod Route
 pub mod Reply
-pub mod Output
-pub mod Turns
+pub mod Conversation
+pub mod Exchanges
 pub mod Program
+pub mod Laws
+pub mod Standard

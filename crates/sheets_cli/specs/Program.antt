@@ -4,11 +4,14 @@ use Rattle.std.specs.Option.{option_map}
 use Rattle.std.specs.Fmt.{decimal}
 use Rattle.std.specs.declared.alloc.Global.{Global}
 use Rattle.sheets_cli.specs.declared.ended.Ended.{Ended}
-use Rattle.sheets_cli.specs.declared.ended.Ended.TheVariants.{End, Asked, Closed, Truncated, LongTalk, ReadFault, WriteFault, NoMemory}
+use Rattle.sheets_cli.specs.declared.ended.Ended.TheVariants.{End, Asked, Closed, Truncated, LongTalk, ReadFault}
+use Rattle.sheets_cli.specs.declared.ended.Ended.TheVariants.{WriteFault, NoMemory}
 use Rattle.sheets_http.specs.Framing.{End as TalkEnd, ended, asked, closed, truncated, long_talk}
-use Rattle.sheets_http.specs.Outside.{Rose}
-use Rattle.sheets_cli.specs.Cells.{no_cells}
-use Rattle.sheets_cli.specs.Output.{IsPrefix, IsServed, EndsAs}
+use Rattle.cell_value.specs.FaultCount.{Rose}
+use Rattle.sheets_cli.specs.declared.program.TheConstants.{MOST}
+use Rattle.sheets_cli.specs.Cells.{Cells, no_cells}
+use Rattle.sheets_cli.specs.Reply.{IsReply}
+use Rattle.sheets_cli.specs.Conversation.{at_moment, IsConversation, EndsAs}
 
 -- the words are the command `run`
 abbrev pub IsRun : List (String Global) → Type 0
@@ -40,11 +43,16 @@ line_of WriteFault = codes "write fault\n"
 line_of (Truncated count) = truncated_line count
 line_of LongTalk = codes "long talk\n"
 
+-- a list begins with that one
+abbrev pub IsPrefix : List ℕ → List ℕ → Type 0
+IsPrefix first whole = (rest : List ℕ) × (whole ≡ first ++ rest)
+
 -- the line is written whole, where the device tells what is written to it, unless its count of faults
 -- or of shortages rose: then its first bytes are, or none
-pub record Says (before after : Option (List ℕ)) (faults faults' shortages shortages' : ℕ) (line : List ℕ) : Type 0 where
-  pub first : IfSome before (λ said. (first : List ℕ) × IsPrefix first line × (after ≡ Some (said ++ first)))
-  pub whole : (Rose faults faults' ⊎ Rose shortages shortages') ⊎ (after ≡ option_map (λ said. said ++ line) before)
+pub record Says (before after : Option (List ℕ)) (faults faults' shortages shortages' : ℕ) (line : List ℕ) : Type 0
+  where
+    pub first : IfSome before (λ said. (first : List ℕ) × IsPrefix first line × (after ≡ Some (said ++ first)))
+    pub whole : (Rose faults faults' ⊎ Rose shortages shortages') ⊎ (after ≡ option_map (λ said. said ++ line) before)
 
 -- the status of the talk's end
 abbrev pub status_at : TalkEnd → ℕ
@@ -54,10 +62,12 @@ status_at (closed fault) = 0
 status_at (truncated count) = 5
 status_at long_talk = 8
 
--- the command `run` served the input to an end, which gives its status and its line. Where the input
--- tells what it holds, the end is that of its talk; where the output tells it, too, what was written
--- are the responses
-pub record Runs (left written written_after : Option (List ℕ)) (end : Ended) (status : ℕ) : Type 0 where
+-- the command `run` served the input to an end, which gives its status and its line, on a sheet in
+-- which nothing stood at first; where the input tells what it holds, the end is that of its talk
+pub record Runs (left written written_after : Option (List ℕ)) (shortages shortages_after : ℕ) (end : Ended)
+    (status : ℕ) : Type 0 where
   pub status_is : status ≡ status_of end
-  pub ends : IfSome left (λ bytes. EndsAs 1099511627776 bytes end)
-  pub served : IfSome left (λ bytes. IfSome written (λ before. IsServed no_cells 1099511627776 bytes before written_after end))
+  pub ends : IfSome left (λ bytes. EndsAs MOST bytes end)
+  pub cells : Cells
+  pub served : IsConversation IsReply MOST left (at_moment no_cells written shortages)
+      (at_moment cells written_after shortages_after) end

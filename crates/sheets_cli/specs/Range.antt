@@ -1,4 +1,5 @@
--- How the path of a request names one range of the sheet (Google Sheets API v4 reference, spreadsheets.values; RFC 3986, section 2.1 on percent-encoding).
+-- How the path of a request names one range of the sheet (Google Sheets API v4 reference,
+-- spreadsheets.values; RFC 3986, section 2.1 on percent-encoding).
 use Rattle.std.specs.Prelude.{◌≡◌, ℕ, Bool, not, ◌==◌, ◌&&◌, List, ◌++◌, codes, IsTrue, Option, None, Some}
 use Rattle.std.specs.List.{list_all}
 use Rattle.std.specs.Str.{IsUtf8}
@@ -8,6 +9,7 @@ use Rattle.a1_notation.specs.declared.a1.Part.{Part}
 use Rattle.a1_notation.specs.declared.a1.Part.TheVariants.{Cells}
 use Rattle.a1_notation.specs.Canonical.{IsStretch, canonical}
 use Rattle.sheets_cli.specs.declared.range.Rectangle.{Rectangle}
+use Rattle.sheets_cli.specs.declared.range.TheConstants.{ROWS, COLUMNS}
 
 -- the path of the values of the spreadsheet `book1`: one segment behind it names a range
 abbrev pub values_path : List ℕ
@@ -20,8 +22,8 @@ is_segment_byte byte = not (byte == 47) && not (byte == 63)
 -- the text is the canonical A1 text of that range, and the sheet has it
 pub record IsTextOf (text : List ℕ) (range : Rectangle) : Type 0 where
   pub spelled : text ≡ canonical (codes "Sheet1") range.rows range.columns
-  pub rows_there : IsStretch range.rows 1000
-  pub columns_there : IsStretch range.columns 26
+  pub rows_there : IsStretch range.rows ROWS
+  pub columns_there : IsStretch range.columns COLUMNS
 
 -- the bytes are UTF-8, and the canonical A1 text of that range
 pub record Spells (bytes : List ℕ) (range : Rectangle) : Type 0 where
@@ -56,11 +58,11 @@ FindsSegment target (Some segment) =
 pub record IsRectangleOf (rows columns : ℕ × ℕ) (range : Rectangle) : Type 0 where
   pub rows_are : range.rows ≡ rows
   pub columns_are : range.columns ≡ columns
-  pub rows_there : IsStretch rows 1000
-  pub columns_there : IsStretch columns 26
+  pub rows_there : IsStretch rows ROWS
+  pub columns_there : IsStretch columns COLUMNS
 
 -- the part of a spreadsheet is that rectangle of a sheet of this size
 pub record IsPartOf (part : Part) (range : Rectangle) : Type 0 where
   pub cells : part ≡ Cells (Span range.rows.0 range.rows.1) (Span range.columns.0 range.columns.1)
-  pub rows_there : IsStretch range.rows 1000
-  pub columns_there : IsStretch range.columns 26
+  pub rows_there : IsStretch range.rows ROWS
+  pub columns_there : IsStretch range.columns COLUMNS

@@ -1,6 +1,6 @@
 -- What one request is answered, and what it leaves of the cells (Google Sheets API v4 reference,
 -- spreadsheets.values.get and spreadsheets.values.update).
-use Rattle.std.specs.Prelude.{◌≡◌, ◌≢◌, ℕ, Bool, false, true, List, [], length, codes, ◌⊎◌, IsTrue}
+use Rattle.std.specs.Prelude.{◌≡◌, ◌≢◌, ℕ, Bool, false, true, List, [], length, codes, IsTrue}
 use Rattle.serde_json.specs.Data.{Data}
 use Rattle.serde_json.specs.Written.{compact_text}
 use Rattle.a1_notation.specs.Canonical.{canonical}
@@ -26,15 +26,16 @@ unfoldable pub no_memory_text : Bool → List ℕ
 no_memory_text close = text_of_response 507 close no_memory_body
 
 -- the canonical text of a range of the sheet
-abbrev pub range_of : ℕ × ℕ → ℕ × ℕ → List ℕ
-range_of rows columns = canonical (codes "Sheet1") rows columns
+abbrev pub text_of_range : ℕ × ℕ → ℕ × ℕ → List ℕ
+text_of_range rows columns = canonical (codes "Sheet1") rows columns
 
 -- a read without a body is answered by its range and what stands in it
 pub record IsShown (cells : Cells) (request : Wire) (response : List ℕ) : Type 0 where
   pub range : Rectangle
   pub reads : Reads request range
   pub no_body : request.body ≡ []
-  pub shown : response ≡ json_response 200 request.close (value_range (range_of range.rows range.columns) (shown_rows cells range))
+  pub shown : response ≡ json_response 200 request.close
+      (value_range (text_of_range range.rows range.columns) (shown_rows cells range))
 
 -- the values that a write to the range takes: its body has no content coding, says them, and they need
 -- no line behind the end
@@ -46,7 +47,7 @@ pub record Takes (request : Wire) (range : Rectangle) (values : List (List Input
 -- what a write of these values to the range is answered
 abbrev pub update_of : Rectangle → List (List Input) → Data
 update_of range values =
-    update (range_of (lines_from range.rows.0 (length values)) (lines_from range.columns.0 (width values)))
+    update (text_of_range (lines_from range.rows.0 (length values)) (lines_from range.columns.0 (width values)))
     (written_cells values) (written_columns values) (written_rows values)
 
 -- a write of values that it takes is done, and answered by what it did
@@ -59,10 +60,10 @@ pub record IsWritten (cells : Cells) (request : Wire) (cells' : Cells) (response
   pub answered : response ≡ json_response 200 request.close (update_of range values)
 
 -- a read has a body, or a write none that it takes
-abbrev pub HasBadBody : Wire → Rectangle → Type 0
-HasBadBody request range =
-    (Reads request range × (request.body ≢ []))
-    ⊎ (Writes request range × ((values : List (List Input)) → ¬ (Takes request range values)))
+pub data HasBadBody (request : Wire) (range : Rectangle) : Type 0 where
+  read_with_one : Reads request range → request.body ≢ [] → HasBadBody request range
+  write_without_values : Writes request range → ((values : List (List Input)) → ¬ (Takes request range values))
+      → HasBadBody request range
 
 -- a request with such a body is refused
 pub record IsBadBody (request : Wire) (response : List ℕ) : Type 0 where
@@ -76,10 +77,11 @@ pub record IsNoRoute (request : Wire) (response : List ℕ) : Type 0 where
   pub refused : response ≡ json_response 404 request.close (refusal 404 (codes "NoRoute") (codes "NOT_FOUND"))
 
 -- what a request is answered, and what it leaves of the cells: a refusal and a read leave them all
-abbrev pub IsReply : Cells → Wire → Cells → List ℕ → Type 0
-IsReply cells request cells' response =
-    IsWritten cells request cells' response
-    ⊎ ((cells' ≡ cells) × (IsShown cells request response ⊎ (IsBadBody request response ⊎ IsNoRoute request response)))
+pub data IsReply (cells : Cells) (request : Wire) (cells' : Cells) (response : List ℕ) : Type 0 where
+  write_done : IsWritten cells request cells' response → IsReply cells request cells' response
+  range_shown : cells' ≡ cells → IsShown cells request response → IsReply cells request cells' response
+  body_refused : cells' ≡ cells → IsBadBody request response → IsReply cells request cells' response
+  route_refused : cells' ≡ cells → IsNoRoute request response → IsReply cells request cells' response
 
 -- the response that closes a conversation at a refused head
 abbrev pub closing_text : List ℕ

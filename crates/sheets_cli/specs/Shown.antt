@@ -1,22 +1,12 @@
 -- What a read shows of the cells (Google Sheets API v4 reference, ValueRange: empty rows and columns at
 -- the end are left out; FORMATTED_VALUE of ValueRenderOption).
-use Rattle.std.specs.Prelude.{ℕ, ◌-◌, Bool, true, false, List, [], ◌∷◌, map, length, take, codes, Option, None, Some}
+use Rattle.std.specs.Prelude.{ℕ, ◌-◌, Bool, true, false, List, [], ◌∷◌, map, length, take}
 use Rattle.std.specs.List.{range_with_len, suffix_len}
-use Rattle.std.specs.Fmt.{signed_decimal}
 use Rattle.serde_json.specs.Data.{Data, null, boolean, number, string, array, object, no_items, item}
 use Rattle.serde_json.specs.View.{items_of}
-use Rattle.sheets_cli.specs.declared.cells.Content.{Content}
-use Rattle.sheets_cli.specs.declared.cells.Content.TheVariants as content
+use Rattle.cell_value.specs.Shown.{shown_text}
 use Rattle.sheets_cli.specs.declared.range.Rectangle.{Rectangle}
 use Rattle.sheets_cli.specs.Cells.{Cells}
-
--- what a place holds, as a text; nothing where it is empty
-abbrev pub shown_text : Option Content → List ℕ
-shown_text None = []
-shown_text (Some (content.Number whole)) = signed_decimal whole
-shown_text (Some (content.Text text)) = text
-shown_text (Some (content.Truth true)) = codes "TRUE"
-shown_text (Some (content.Truth false)) = codes "FALSE"
 
 -- an empty text, or an empty list
 abbrev pub is_empty : Data → Bool

@@ -1,10 +1,11 @@
 -- What a write needs, and what its answer counts (Google Sheets API v4 reference, UpdateValuesResponse).
-use Rattle.std.specs.Prelude.{ℕ, ◌+◌, Bool, true, false, ◌&&◌, List, [], length, max, get_or, nat_le, if◌then◌else◌}
+use Rattle.std.specs.Prelude.{ℕ, ◌+◌, Bool, true, false, ◌&&◌, List, length, max, get_or, nat_le, if◌then◌else◌}
 use Rattle.std.specs.List.{fold, list_any, count_by, sum_by, range_with_len}
 use Rattle.cell_value.specs.declared.entered.Input.{Input}
 use Rattle.cell_value.specs.declared.entered.Input.TheVariants as input
 use Rattle.a1_notation.specs.Canonical.{is_one_line}
 use Rattle.sheets_cli.specs.declared.range.Rectangle.{Rectangle}
+use Rattle.sheets_cli.specs.declared.range.TheConstants.{ROWS, COLUMNS}
 
 -- the values need as many columns as the longest row has
 abbrev pub width : List (List Input) → ℕ
@@ -13,7 +14,7 @@ width values = fold (λ most inputs. max most (length inputs)) 0 values
 -- values for a range go no further than it does; those for one cell may go on to the end of the sheet
 abbrev pub end_for : Rectangle → ℕ × ℕ
 end_for range =
-    if is_one_line range.rows && is_one_line range.columns then (1000, 26) else (range.rows.1, range.columns.1)
+    if is_one_line range.rows && is_one_line range.columns then (ROWS, COLUMNS) else (range.rows.1, range.columns.1)
 
 -- the values need no line behind the end
 abbrev pub fits : Rectangle → List (List Input) → Bool

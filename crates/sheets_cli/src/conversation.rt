@@ -1,9 +1,11 @@
-ghost use Rattle.std.specs.Prelude.{◌≡◌, ◌≢◌, ℕ, ◌<◌, ◌≤◌, None, IfSome, IsTrue};
-ghost use Rattle.sheets_http.specs.Outside.{Rose};
-ghost use Rattle.sheets_http.specs.Buffering.{room_of, stream_of, IsRequest};
-ghost use Rattle.sheets_cli.specs.Cells.{no_cells, cells_of};
-ghost use Rattle.sheets_cli.specs.Output.{IsServed, EndsAs};
-ghost use Rattle.sheets_cli.specs.Turns.{Responds, SendsClosing, Answers, Refuses, Acts, Counts, ended_by, IsTurn, LeadsTo};
+ghost use Rattle.std.specs.Prelude.{◌≡◌, ◌≢◌, ℕ, ◌<◌, ◌≤◌, None, IsTrue};
+ghost use Rattle.cell_value.specs.FaultCount.{Rose};
+ghost use Rattle.sheets_http.specs.Requests.{room_of, stream_of, IsRequest};
+ghost use Rattle.sheets_cli.specs.Cells.{cells_of};
+ghost use Rattle.sheets_cli.specs.Reply.{IsReply};
+ghost use Rattle.sheets_cli.specs.Conversation.{at_moment, IsConversation, Counts};
+ghost use Rattle.sheets_cli.specs.Exchanges.{Responds, SendsClosing, Answers, Refuses, Acts, ended_by};
+ghost use Rattle.sheets_cli.specs.Exchanges.{IsExchange};
 
 use crate::cells::Sheet;
 use crate::ended::Ended;
@@ -12,18 +14,19 @@ use cell_value::NoMemory;
 use sheets_http::{Buffer, Duplex, HeadFault, Next, Sink, SinkFault, Wire, next_request, send_all};
 use std::alloc::Global;
 
-/// Serves a link from its requests' first byte to the conversation's end, on a sheet in which nothing
-/// stands at first: each request is answered, in order, and a head that is refused by the closing
-/// response. At most `most` bytes are served.
-pub fn converse<L: Duplex>(alloc: Global, link: &mut L, most: u64) -> Ended
+/// Serves a link from its requests' first byte to the conversation's end: each request is answered, in
+/// order, on the sheet as those before it left it, and a head that is refused by the closing response.
+/// At most `most` bytes are served.
+///
+/// Where it was cut off by a fault or by want of memory, the first requests were answered whole, and at
+/// most one more was begun.
+pub fn converse<L: Duplex>(alloc: Global, sheet: &mut Sheet, link: &mut L, most: u64) -> Ended
     requires { 0 < most }
 
-    // What was written, where both sides tell what they hold.
-    ensures served { IfSome (L.left link.old) (λ bytes. IfSome (L.written link.old)
-        (λ before. IsServed no_cells most bytes before (L.written link.new) result)) }
-
-    // The end is that of the stream's talk, where the source tells it.
-    ensures ends { IfSome (L.left link.old) (λ bytes. EndsAs most bytes result) }
+    // What became of the sheet and the output, whatever the link tells of itself.
+    ensures served { IsConversation IsReply most (L.left link.old)
+        (at_moment (cells_of sheet.old) (L.written link.old) (L.sink_shortages link.old))
+        (at_moment (cells_of sheet.new) (L.written link.new) (L.sink_shortages link.new)) result }
 
     // It doesn't give up by itself.
     ensures read { result ≡ Ended.ReadFault → Rose (L.faults link.old) (L.faults link.new) }
@@ -32,38 +35,37 @@ pub fn converse<L: Duplex>(alloc: Global, link: &mut L, most: u64) -> Ended
     ensures steady_write { IsTrue (L.sink_steady link.old) → result ≢ Ended.WriteFault }
 
     ensures input { Counts (L.faults link.old) (L.faults link.new) (L.steady link.old) (L.steady link.new) }
-    ensures output { Counts (L.sink_faults link.old) (L.sink_faults link.new) (L.sink_steady link.old) (L.sink_steady link.new) }
+    ensures output { Counts (L.sink_faults link.old) (L.sink_faults link.new) (L.sink_steady link.old)
+        (L.sink_steady link.new) }
     ensures references { L.references link.new ≡ L.references link.old }
 {
     match Buffer::new(alloc) {
-        Ok(mut buffer) => match Sheet::new(alloc) {
-            Ok(mut sheet) => serve(alloc, link, &mut buffer, &mut sheet, most),
-            Err(NoMemory) => Ended::NoMemory,
-        },
+        Ok(mut buffer) => serve(alloc, sheet, link, &mut buffer, most),
         Err(NoMemory) => Ended::NoMemory,
     }
 }
 
-/// Takes turns until the conversation ends.
+/// Answers one request after another until the conversation ends.
 fn serve<L: Duplex>(
     alloc: Global,
+    sheet: &mut Sheet,
     link: &mut L,
     buffer: &mut Buffer,
-    sheet: &mut Sheet,
     most: u64,
 ) -> Ended
     requires { 0 < most }
-    ensures served { IfSome (stream_of buffer.old (L.left link.old)) (λ bytes. IfSome (L.written link.old)
-        (λ before. IsServed (cells_of sheet.old) (room_of most buffer.old) bytes before (L.written link.new) result)) }
-    ensures ends { IfSome (stream_of buffer.old (L.left link.old)) (λ bytes. EndsAs (room_of most buffer.old) bytes result) }
+    ensures served { IsConversation IsReply (room_of most buffer.old) (stream_of buffer.old (L.left link.old))
+        (at_moment (cells_of sheet.old) (L.written link.old) (L.sink_shortages link.old))
+        (at_moment (cells_of sheet.new) (L.written link.new) (L.sink_shortages link.new)) result }
     ensures read { result ≡ Ended.ReadFault → Rose (L.faults link.old) (L.faults link.new) }
     ensures write { result ≡ Ended.WriteFault → Rose (L.sink_faults link.old) (L.sink_faults link.new) }
     ensures input { Counts (L.faults link.old) (L.faults link.new) (L.steady link.old) (L.steady link.new) }
-    ensures output { Counts (L.sink_faults link.old) (L.sink_faults link.new) (L.sink_steady link.old) (L.sink_steady link.new) }
+    ensures output { Counts (L.sink_faults link.old) (L.sink_faults link.new) (L.sink_steady link.old)
+        (L.sink_steady link.new) }
     ensures references { L.references link.new ≡ L.references link.old }
 {
     loop {
-        match turn(alloc, link, buffer, sheet, most) {
+        match exchange(alloc, sheet, link, buffer, most) {
             Some(ended) => return ended,
             None => {}
         }
@@ -71,42 +73,44 @@ fn serve<L: Duplex>(
 }
 
 /// Answers the next request, or tells how the conversation ends.
-fn turn<L: Duplex>(
+fn exchange<L: Duplex>(
     alloc: Global,
+    sheet: &mut Sheet,
     link: &mut L,
     buffer: &mut Buffer,
-    sheet: &mut Sheet,
     most: u64,
 ) -> Option<Ended>
     requires { 0 < most }
-    ensures turn { IfSome (stream_of buffer.old (L.left link.old)) (λ bytes. IfSome (L.written link.old)
-        (λ before. IsTurn (cells_of sheet.old) (room_of most buffer.old) bytes before (cells_of sheet.new)
-        (room_of most buffer.new) (stream_of buffer.new (L.left link.new)) (L.written link.new) result)) }
-    ensures leads { IfSome (stream_of buffer.old (L.left link.old)) (λ bytes. LeadsTo (room_of most buffer.old) bytes
-        (room_of most buffer.new) (stream_of buffer.new (L.left link.new)) result) }
+    ensures exchange { IsExchange (room_of most buffer.old) (stream_of buffer.old (L.left link.old))
+        (at_moment (cells_of sheet.old) (L.written link.old) (L.sink_shortages link.old))
+        (room_of most buffer.new) (stream_of buffer.new (L.left link.new))
+        (at_moment (cells_of sheet.new) (L.written link.new) (L.sink_shortages link.new)) result }
     ensures shrinks { result ≡ None → room_of most buffer.new < room_of most buffer.old }
     ensures read { result ≡ Some Ended.ReadFault → Rose (L.faults link.old) (L.faults link.new) }
     ensures write { result ≡ Some Ended.WriteFault → Rose (L.sink_faults link.old) (L.sink_faults link.new) }
     ensures input { Counts (L.faults link.old) (L.faults link.new) (L.steady link.old) (L.steady link.new) }
-    ensures output { Counts (L.sink_faults link.old) (L.sink_faults link.new) (L.sink_steady link.old) (L.sink_steady link.new) }
+    ensures output { Counts (L.sink_faults link.old) (L.sink_faults link.new) (L.sink_steady link.old)
+        (L.sink_steady link.new) }
     ensures references { L.references link.new ≡ L.references link.old }
 {
     let next = next_request(alloc, link, buffer, most);
-    act(alloc, link, sheet, next)
+    act(alloc, sheet, link, next)
 }
 
 /// Does what is to be done with what comes next in the stream, and tells whether the conversation
 /// ends there.
-fn act<S: Sink>(alloc: Global, sink: &mut S, sheet: &mut Sheet, next: Next) -> Option<Ended>
-    ensures acts { Acts (cells_of sheet.old) next (cells_of sheet.new) (S.written sink.old) (S.written sink.new) result }
+fn act<S: Sink>(alloc: Global, sheet: &mut Sheet, sink: &mut S, next: Next) -> Option<Ended>
+    ensures acts { Acts next (at_moment (cells_of sheet.old) (S.written sink.old) (S.sink_shortages sink.old))
+        (at_moment (cells_of sheet.new) (S.written sink.new) (S.sink_shortages sink.new)) result }
     ensures goes_on { result ≡ None → IsRequest next }
     ensures read { result ≡ Some Ended.ReadFault → next ≡ Next.ReadFault }
     ensures write { result ≡ Some Ended.WriteFault → Rose (S.sink_faults sink.old) (S.sink_faults sink.new) }
-    ensures output { Counts (S.sink_faults sink.old) (S.sink_faults sink.new) (S.sink_steady sink.old) (S.sink_steady sink.new) }
+    ensures output { Counts (S.sink_faults sink.old) (S.sink_faults sink.new) (S.sink_steady sink.old)
+        (S.sink_steady sink.new) }
     ensures beside { S.sink_beside sink.new ≡ S.sink_beside sink.old }
 {
     match next {
-        Next::Request(request) => answer(alloc, sink, sheet, &request),
+        Next::Request(request) => answer(alloc, sheet, sink, &request),
         Next::End => Some(Ended::End),
         Next::Closed(fault) => Some(close(alloc, sink, fault)),
         Next::Truncated(count) => Some(Ended::Truncated(count)),
@@ -117,14 +121,17 @@ fn act<S: Sink>(alloc: Global, sink: &mut S, sheet: &mut Sheet, next: Next) -> O
 }
 
 /// Answers a request, and tells whether the conversation ends there.
-fn answer<S: Sink>(alloc: Global, sink: &mut S, sheet: &mut Sheet, request: &Wire) -> Option<Ended>
-    ensures answers { Answers (cells_of sheet.old) request.now (cells_of sheet.new) (S.written sink.old) (S.written sink.new) result }
+fn answer<S: Sink>(alloc: Global, sheet: &mut Sheet, sink: &mut S, request: &Wire) -> Option<Ended>
+    ensures answers { Answers request.now (at_moment (cells_of sheet.old) (S.written sink.old)
+        (S.sink_shortages sink.old))
+        (at_moment (cells_of sheet.new) (S.written sink.new) (S.sink_shortages sink.new)) result }
     ensures cause { result ≡ Some Ended.WriteFault → Rose (S.sink_faults sink.old) (S.sink_faults sink.new) }
     ensures read { result ≢ Some Ended.ReadFault }
-    ensures output { Counts (S.sink_faults sink.old) (S.sink_faults sink.new) (S.sink_steady sink.old) (S.sink_steady sink.new) }
+    ensures output { Counts (S.sink_faults sink.old) (S.sink_faults sink.new) (S.sink_steady sink.old)
+        (S.sink_steady sink.new) }
     ensures beside { S.sink_beside sink.new ≡ S.sink_beside sink.old }
 {
-    match respond(alloc, sink, sheet, request) {
+    match respond(alloc, sheet, sink, request) {
         Ok(()) if request.close => Some(Ended::Asked),
         Ok(()) => None,
         Err(fault) => Some(fault_end(fault)),
@@ -133,10 +140,12 @@ fn answer<S: Sink>(alloc: Global, sink: &mut S, sheet: &mut Sheet, request: &Wir
 
 /// Closes the conversation at a refused head.
 fn close<S: Sink>(alloc: Global, sink: &mut S, refused: HeadFault) -> Ended
-    ensures refuses { Refuses refused (S.written sink.old) (S.written sink.new) result }
+    ensures refuses { Refuses refused (S.written sink.old) (S.written sink.new)
+        (S.sink_shortages sink.old) (S.sink_shortages sink.new) result }
     ensures cause { result ≡ Ended.WriteFault → Rose (S.sink_faults sink.old) (S.sink_faults sink.new) }
     ensures read { result ≢ Ended.ReadFault }
-    ensures output { Counts (S.sink_faults sink.old) (S.sink_faults sink.new) (S.sink_steady sink.old) (S.sink_steady sink.new) }
+    ensures output { Counts (S.sink_faults sink.old) (S.sink_faults sink.new) (S.sink_steady sink.old)
+        (S.sink_steady sink.new) }
     ensures beside { S.sink_beside sink.new ≡ S.sink_beside sink.old }
 {
     match send_closing(alloc, sink) {
@@ -158,13 +167,16 @@ fn fault_end(fault: SinkFault) -> Ended
 /// Sends the response to a request; where memory runs out, the constant one.
 fn respond<S: Sink>(
     alloc: Global,
-    sink: &mut S,
     sheet: &mut Sheet,
+    sink: &mut S,
     request: &Wire,
 ) -> Result<(), SinkFault>
-    ensures response { Responds (cells_of sheet.old) request.now (cells_of sheet.new) (S.written sink.old) (S.written sink.new) result }
+    ensures response { Responds request.now (at_moment (cells_of sheet.old) (S.written sink.old)
+        (S.sink_shortages sink.old))
+        (at_moment (cells_of sheet.new) (S.written sink.new) (S.sink_shortages sink.new)) result }
     ensures cause { result ≡ Err SinkFault.Failed → Rose (S.sink_faults sink.old) (S.sink_faults sink.new) }
-    ensures output { Counts (S.sink_faults sink.old) (S.sink_faults sink.new) (S.sink_steady sink.old) (S.sink_steady sink.new) }
+    ensures output { Counts (S.sink_faults sink.old) (S.sink_faults sink.new) (S.sink_steady sink.old)
+        (S.sink_steady sink.new) }
     ensures beside { S.sink_beside sink.new ≡ S.sink_beside sink.old }
 {
     match reply_to(alloc, sheet, request) {
@@ -175,13 +187,15 @@ fn respond<S: Sink>(
 
 /// Sends the closing response; where memory runs out, the constant one.
 fn send_closing<S: Sink>(alloc: Global, sink: &mut S) -> Result<(), SinkFault>
-    ensures response { SendsClosing (S.written sink.old) (S.written sink.new) result }
+    ensures response { SendsClosing (S.written sink.old) (S.written sink.new)
+        (S.sink_shortages sink.old) (S.sink_shortages sink.new) result }
     ensures cause { result ≡ Err SinkFault.Failed → Rose (S.sink_faults sink.old) (S.sink_faults sink.new) }
-    ensures output { Counts (S.sink_faults sink.old) (S.sink_faults sink.new) (S.sink_steady sink.old) (S.sink_steady sink.new) }
+    ensures output { Counts (S.sink_faults sink.old) (S.sink_faults sink.new) (S.sink_steady sink.old)
+        (S.sink_steady sink.new) }
     ensures beside { S.sink_beside sink.new ≡ S.sink_beside sink.old }
 {
     match closing_reply(alloc) {
-        Ok(response) => send_all(sink, response.as_slice()),
+        Ok(closing) => send_all(sink, closing.as_slice()),
         Err(NoMemory) => send_all(sink, no_memory_reply(true)),
     }
 }

@@ -5,6 +5,7 @@ mod body;
 mod cells;
 mod conversation;
 mod ended;
+mod laws;
 mod program;
 mod range;
 mod reply;
@@ -15,10 +16,11 @@ mod standard;
 mod update;
 mod values;
 
-pub use cells::Content;
+pub use cells::{PLACES, Sheet};
 pub use conversation::converse;
 pub use ended::Ended;
-pub use program::{MOST, sheets_main};
+pub use laws::reply_laws;
+pub use program::{MOST, USAGE, sheets_main};
 pub use range::{COLUMNS, ROWS, Rectangle};
 pub use standard::{Input, Output};
 

@@ -1,19 +1,25 @@
 ghost use Rattle.std.specs.Prelude.{◌≡◌, ◌≢◌, ◌↔◌, ◌⊎◌, ℕ, List, codes, IsTrue, IfSome, string_bytes};
 ghost use Rattle.sheets_http.specs.declared.request.Wire.{Wire};
 ghost use Rattle.sheets_http.specs.Framing.{End, truncated, long_talk, Talk};
-ghost use Rattle.sheets_http.specs.Outside.{Rose};
-ghost use Rattle.sheets_cli.specs.Cells.{no_cells};
-ghost use Rattle.sheets_cli.specs.Output.{HasEnd, IsServed, EndsAs};
+ghost use Rattle.cell_value.specs.FaultCount.{Rose};
+ghost use Rattle.sheets_cli.specs.Cells.{Cells, no_cells, cells_of};
+ghost use Rattle.sheets_cli.specs.Reply.{IsReply};
+ghost use Rattle.sheets_cli.specs.Conversation.{at_moment, HasEnd, IsConversation, EndsAs};
 ghost use Rattle.sheets_cli.specs.Program.{IsRun, status_of, status_at, line_of, Runs, Says};
 
+use crate::cells::Sheet;
 use crate::conversation::converse;
 use crate::ended::Ended;
 use crate::report::{report, say};
-use sheets_http::{Link, Sink, Source};
+use cell_value::NoMemory;
+use sheets_http::{Link, Sink, Source, conversation_laws};
 use std::alloc::Global;
 
 /// The most bytes of one conversation, 2^40.
 pub const MOST: u64 = 1_099_511_627_776;
+
+/// The status where the words are no command.
+pub const USAGE: u8 = 2;
 
 /// The program: the words behind its name, its input, its output and the output for its faults. It
 /// answers its status.
@@ -28,7 +34,7 @@ pub fn sheets_main<R: AllocGlobal, I: Source, O: Sink>(
     faults: &mut O,
 ) -> u8
     // Words that are no command.
-    ensures usage { (result ≡ 2) ↔ ¬ (IsRun words.now) }
+    ensures usage { (result ≡ USAGE) ↔ ¬ (IsRun words.now) }
     ensures usage_line { ¬ (IsRun words.now) → Says (O.written faults.old) (O.written faults.new)
         (O.sink_faults faults.old) (O.sink_faults faults.new)
         (O.sink_shortages faults.old) (O.sink_shortages faults.new) (codes "usage\n") }
@@ -36,29 +42,35 @@ pub fn sheets_main<R: AllocGlobal, I: Source, O: Sink>(
     ensures untouched { ¬ (IsRun words.now) → I.left input.new ≡ I.left input.old }
 
     // The command `run`: how it ends, what was written, and the line on the faults.
-    ensures run { IsRun words.now → (end : Ended) × Runs (I.left input.old) (O.written output.old) (O.written output.new) end result
+    ensures run { IsRun words.now → (end : Ended) × Runs (I.left input.old) (O.written output.old)
+        (O.written output.new)
+        (O.sink_shortages output.old) (O.sink_shortages output.new) end result
         × Says (O.written faults.old) (O.written faults.new) (O.sink_faults faults.old) (O.sink_faults faults.new)
         (O.sink_shortages faults.old) (O.sink_shortages faults.new) (line_of end) }
 
     // Where the talk of the input ends so, that is the status, unless memory ran out or a device failed.
     ensures exactly { IsRun words.now → IfSome (I.left input.old) (λ bytes. (requests : List Wire) → (end : End)
-        → Talk 1099511627776 bytes requests end
-        → (result ≡ status_at end) ⊎ ((result ≡ 3) ⊎ (Rose (I.faults input.old) (I.faults input.new)
+        → Talk MOST bytes requests end
+        → (result ≡ status_at end) ⊎ ((result ≡ status_of Ended.NoMemory) ⊎
+        (Rose (I.faults input.old) (I.faults input.new)
         ⊎ Rose (O.sink_faults output.old) (O.sink_faults output.new)))) }
 
     // Each status has its cause.
-    ensures read { result ≡ 1 → Rose (I.faults input.old) (I.faults input.new) }
-    ensures write { result ≡ 4 → Rose (O.sink_faults output.old) (O.sink_faults output.new) }
-    ensures cut { result ≡ 5 → IfSome (I.left input.old) (λ bytes. (count : ℕ) × HasEnd 1099511627776 bytes (truncated count)) }
-    ensures long { result ≡ 8 → IfSome (I.left input.old) (λ bytes. HasEnd 1099511627776 bytes long_talk) }
-    ensures steady_read { IsTrue (I.steady input.old) → result ≢ 1 }
-    ensures steady_write { IsTrue (O.sink_steady output.old) → result ≢ 4 }
+    ensures read { result ≡ status_of Ended.ReadFault → Rose (I.faults input.old) (I.faults input.new) }
+    ensures write { result ≡ status_of Ended.WriteFault → Rose (O.sink_faults output.old) (O.sink_faults output.new) }
+    ensures cut { (n : ℕ) → result ≡ status_of (Ended.Truncated n)
+        → IfSome (I.left input.old) (λ bytes. (count : ℕ) × HasEnd MOST bytes (truncated count)) }
+    ensures long { result ≡ status_of Ended.LongTalk → IfSome (I.left input.old)
+        (λ bytes. HasEnd MOST bytes long_talk) }
+    ensures steady_read { IsTrue (I.steady input.old) → result ≢ status_of Ended.ReadFault }
+    ensures steady_write { IsTrue (O.sink_steady output.old) → result ≢ status_of Ended.WriteFault }
 {
+    conversation_laws();
     if is_run(words) {
         run(rt, input, output, faults)
     } else {
         say(faults, b"usage\n");
-        2
+        USAGE
     }
 }
 
@@ -86,30 +98,53 @@ fn run<R: AllocGlobal, I: Source, O: Sink>(
     output: &mut O,
     faults: &mut O,
 ) -> u8
-    ensures run { (end : Ended) × Runs (I.left input.old) (O.written output.old) (O.written output.new) end result
+    ensures run { (end : Ended) × Runs (I.left input.old) (O.written output.old) (O.written output.new)
+        (O.sink_shortages output.old) (O.sink_shortages output.new) end result
         × Says (O.written faults.old) (O.written faults.new) (O.sink_faults faults.old) (O.sink_faults faults.new)
         (O.sink_shortages faults.old) (O.sink_shortages faults.new) (line_of end) }
-    ensures read { result ≡ 1 → Rose (I.faults input.old) (I.faults input.new) }
-    ensures write { result ≡ 4 → Rose (O.sink_faults output.old) (O.sink_faults output.new) }
-    ensures steady_read { IsTrue (I.steady input.old) → result ≢ 1 }
-    ensures steady_write { IsTrue (O.sink_steady output.old) → result ≢ 4 }
+    ensures read { result ≡ status_of Ended.ReadFault → Rose (I.faults input.old) (I.faults input.new) }
+    ensures write { result ≡ status_of Ended.WriteFault → Rose (O.sink_faults output.old) (O.sink_faults output.new) }
+    ensures steady_read { IsTrue (I.steady input.old) → result ≢ status_of Ended.ReadFault }
+    ensures steady_write { IsTrue (O.sink_steady output.old) → result ≢ status_of Ended.WriteFault }
 {
-    let ended = converse_over(rt.alloc(), input, output);
+    let ended = converse_anew(rt.alloc(), input, output);
     report(faults, ended);
     status(ended)
 }
 
-/// Serves one conversation over input and output.
-fn converse_over<I: Source, O: Sink>(alloc: Global, input: &mut I, output: &mut O) -> Ended
-    ensures served { IfSome (I.left input.old) (λ bytes. IfSome (O.written output.old)
-        (λ before. IsServed no_cells 1099511627776 bytes before (O.written output.new) result)) }
-    ensures ends { IfSome (I.left input.old) (λ bytes. EndsAs 1099511627776 bytes result) }
+/// Serves one conversation over input and output, on a sheet in which nothing stands.
+fn converse_anew<I: Source, O: Sink>(alloc: Global, input: &mut I, output: &mut O) -> Ended
+    ensures served { (cells : Cells) × IsConversation IsReply MOST (I.left input.old)
+        (at_moment no_cells (O.written output.old) (O.sink_shortages output.old))
+        (at_moment cells (O.written output.new) (O.sink_shortages output.new)) result }
+    ensures ends { IfSome (I.left input.old) (λ bytes. EndsAs MOST bytes result) }
     ensures read { result ≡ Ended.ReadFault → Rose (I.faults input.old) (I.faults input.new) }
     ensures write { result ≡ Ended.WriteFault → Rose (O.sink_faults output.old) (O.sink_faults output.new) }
     ensures steady_read { IsTrue (I.steady input.old) → result ≢ Ended.ReadFault }
     ensures steady_write { IsTrue (O.sink_steady output.old) → result ≢ Ended.WriteFault }
 {
-    converse(alloc, &mut Link { input, output }, MOST)
+    match Sheet::new(alloc) {
+        Ok(mut sheet) => converse_over(alloc, &mut sheet, input, output),
+        Err(NoMemory) => Ended::NoMemory,
+    }
+}
+
+/// Serves one conversation over input and output.
+fn converse_over<I: Source, O: Sink>(
+    alloc: Global,
+    sheet: &mut Sheet,
+    input: &mut I,
+    output: &mut O,
+) -> Ended
+    ensures served { IsConversation IsReply MOST (I.left input.old)
+        (at_moment (cells_of sheet.old) (O.written output.old) (O.sink_shortages output.old))
+        (at_moment (cells_of sheet.new) (O.written output.new) (O.sink_shortages output.new)) result }
+    ensures read { result ≡ Ended.ReadFault → Rose (I.faults input.old) (I.faults input.new) }
+    ensures write { result ≡ Ended.WriteFault → Rose (O.sink_faults output.old) (O.sink_faults output.new) }
+    ensures steady_read { IsTrue (I.steady input.old) → result ≢ Ended.ReadFault }
+    ensures steady_write { IsTrue (O.sink_steady output.old) → result ≢ Ended.WriteFault }
+{
+    converse(alloc, sheet, &mut Link { input, output }, MOST)
 }
 
 /// The status of a conversation that ended so.

@@ -4,9 +4,10 @@ ghost use Rattle.std.specs.Option.{option_copied};
 ghost use Rattle.percent_encoding.specs.Percent.{percent_decode};
 ghost use Rattle.a1_notation.specs.declared.a1.Part.TheVariants.{Cells};
 ghost use Rattle.a1_notation.specs.Canonical.{IsStretch, canonical};
-ghost use Rattle.sheets_cli.specs.Range.{NamesRange, IsTextOf, Spells, IsPartOf, IsRectangleOf, FindsSegment, Finds, FindsOnly, is_segment_byte};
+ghost use Rattle.sheets_cli.specs.Range.{NamesRange, IsTextOf, Spells, IsPartOf, IsRectangleOf, FindsSegment, Finds};
+ghost use Rattle.sheets_cli.specs.Range.{FindsOnly, is_segment_byte};
 
-use a1_notation::{A1Fault, Part, read_a1, write_a1};
+use a1_notation::{A1Fault, Part, a1_laws, read_a1, write_a1};
 use cell_value::{NoMemory, Text};
 use grid_range::Band;
 use percent_encoding::percent_decode;
@@ -92,6 +93,7 @@ fn range_of_bytes(alloc: Global, bytes: &[u8]) -> Result<Option<Rectangle>, NoMe
 fn range_of_text(alloc: Global, text: &str) -> Result<Option<Rectangle>, NoMemory>
     ensures { IfOk result (λ found. Finds (IsTextOf text.now) found) }
 {
+    a1_laws();
     match read_a1(alloc, text) {
         Ok(range) => match rectangle_of(&range.part) {
             Some(rectangle) => if_canonical(alloc, text, rectangle),

@@ -9,7 +9,8 @@ ghost use Rattle.sheets_cli.specs.Range.{Finds};
 ghost use Rattle.sheets_cli.specs.Route.{Reads, Writes, IsCall};
 ghost use Rattle.sheets_cli.specs.Shown.{shown_rows};
 ghost use Rattle.sheets_cli.specs.Update.{fits};
-ghost use Rattle.sheets_cli.specs.Reply.{range_of, Takes, IsShown, IsWritten, IsBadBody, IsReply, json_response, no_memory_text, update_of, closing_text};
+ghost use Rattle.sheets_cli.specs.Reply.{text_of_range, Takes, IsReply, json_response, no_memory_text, update_of};
+ghost use Rattle.sheets_cli.specs.Reply.{closing_text};
 
 use crate::body::{refusal, update, value_range};
 use crate::cells::Sheet;
@@ -63,7 +64,7 @@ fn read_reply(
     range: Rectangle,
 ) -> Result<Bytes, NoMemory>
     requires { Reads request.now range }
-    ensures { IfOk result (λ response. IsShown (cells_of sheet.now) request.now response ⊎ IsBadBody request.now response) }
+    ensures { IfOk result (λ response. IsReply (cells_of sheet.now) request.now (cells_of sheet.now) response) }
 {
     if has_no_body(request) {
         range_reply(alloc, sheet, request.close, range)
@@ -82,7 +83,8 @@ fn range_reply(
     requires rows { IsStretch range.rows ROWS }
     requires columns { IsStretch range.columns COLUMNS }
     ensures { IfOk result (λ response. response
-        ≡ json_response 200 close (value_range (range_of range.rows range.columns) (shown_rows (cells_of sheet.now) range))) }
+        ≡ json_response 200 close (value_range (text_of_range range.rows range.columns)
+        (shown_rows (cells_of sheet.now) range))) }
 {
     let text = range_text(alloc, range)?;
     let rows = rows_shown(alloc, sheet, range)?;
@@ -98,8 +100,7 @@ fn write_reply(
     range: Rectangle,
 ) -> Result<Bytes, NoMemory>
     requires { Writes request.now range }
-    ensures ok { IfOk result (λ response. IsWritten (cells_of sheet.old) request.now (cells_of sheet.new) response
-        ⊎ ((sheet.new ≡ sheet.old) × IsBadBody request.now response)) }
+    ensures ok { IfOk result (λ response. IsReply (cells_of sheet.old) request.now (cells_of sheet.new) response) }
     ensures err { OnErr result (sheet.new ≡ sheet.old) }
 {
     match taken_values(alloc, request, range)? {
@@ -148,7 +149,8 @@ fn write_values(
     requires columns { IsStretch range.columns COLUMNS }
     requires fit { IsTrue (fits range values) }
     ensures ok { IfOk result (λ response. response ≡ json_response 200 close (update_of range values)) }
-    ensures written { OnOk result (cells_of sheet.new ≡ written values range.rows.0 range.columns.0 (cells_of sheet.old)) }
+    ensures written { OnOk result (cells_of sheet.new ≡ written values range.rows.0 range.columns.0
+        (cells_of sheet.old)) }
     ensures err { OnErr result (sheet.new ≡ sheet.old) }
 {
     let response = update_reply(alloc, close, range, values.as_slice())?;

@@ -1,7 +1,7 @@
 ghost use Rattle.std.specs.Prelude.{◌≡◌, ◌≤◌, ◌++◌, codes};
 ghost use Rattle.std.specs.Fmt.{decimal};
-ghost use Rattle.sheets_http.specs.Outside.{Rose};
-ghost use Rattle.sheets_cli.specs.Turns.{Sends};
+ghost use Rattle.cell_value.specs.FaultCount.{Rose};
+ghost use Rattle.sheets_cli.specs.Exchanges.{Sends};
 ghost use Rattle.sheets_cli.specs.Program.{truncated_line, line_of, Says};
 
 use crate::ended::Ended;

@@ -1,16 +1,16 @@
-ghost use Rattle.std.specs.Prelude.{◌≡◌, ◌≤◌, ◌<◌, ◌-◌, map, length, Some, IfOk, string_bytes};
-ghost use Rattle.std.specs.Fmt.{signed_decimal};
+ghost use Rattle.std.specs.Prelude.{◌≡◌, ◌≤◌, ◌<◌, ◌-◌, map, length, IfOk};
+ghost use Rattle.cell_value.specs.Shown.{shown_text};
 ghost use Rattle.std.specs.List.{suffix_len};
 ghost use Rattle.serde_json.specs.Data.{string, array};
 ghost use Rattle.serde_json.specs.View.{view, items_view};
 ghost use Rattle.a1_notation.specs.Canonical.{IsStretch};
 ghost use Rattle.sheets_cli.specs.Cells.{cells_of};
-ghost use Rattle.sheets_cli.specs.Shown.{shown_text, is_empty, without_empty_end, shown_row, shown_rows};
+ghost use Rattle.sheets_cli.specs.Shown.{is_empty, without_empty_end, shown_row, shown_rows};
 
-use crate::cells::{Content, Sheet};
-use crate::range::Rectangle;
-use cell_value::NoMemory;
-use serde_json::Value;
+use crate::cells::Sheet;
+use crate::range::{COLUMNS, ROWS, Rectangle};
+use cell_value::{NoMemory, show};
+use serde_json::Value as Json;
 use std::alloc::Global;
 
 /// A range of cells as rows of texts, without the empty ends (Sheets API v4 reference, ValueRange).
@@ -22,9 +22,9 @@ pub(crate) fn rows_shown(
     alloc: Global,
     sheet: &Sheet,
     range: Rectangle,
-) -> Result<Vec<Value>, NoMemory>
-    requires rows { IsStretch range.rows 1000 }
-    requires columns { IsStretch range.columns 26 }
+) -> Result<Vec<Json>, NoMemory>
+    requires rows { IsStretch range.rows ROWS }
+    requires columns { IsStretch range.columns COLUMNS }
     ensures { IfOk result (λ rows. map view rows.items ≡ shown_rows (cells_of sheet.now) range) }
 {
     let mut rows = Vec::new(alloc);
@@ -36,9 +36,9 @@ pub(crate) fn rows_shown(
 }
 
 /// A row of cells as a list of texts.
-fn row_shown(alloc: Global, sheet: &Sheet, columns: (u32, u32), row: u32) -> Result<Value, NoMemory>
-    requires row { row < 1000 }
-    requires columns { IsStretch columns 26 }
+fn row_shown(alloc: Global, sheet: &Sheet, columns: (u32, u32), row: u32) -> Result<Json, NoMemory>
+    requires row { row < ROWS }
+    requires columns { IsStretch columns COLUMNS }
     ensures { IfOk result (λ shown. view shown ≡ shown_row (cells_of sheet.now) columns row) }
 {
     let mut texts = Vec::new(alloc);
@@ -46,43 +46,21 @@ fn row_shown(alloc: Global, sheet: &Sheet, columns: (u32, u32), row: u32) -> Res
         texts.push(cell_shown(alloc, sheet, row, column)?)?;
     }
     cut_empty_end(&mut texts);
-    Ok(Value::Array(texts))
+    Ok(Json::Array(texts))
 }
 
-/// What a place holds, as a JSON text.
-fn cell_shown(alloc: Global, sheet: &Sheet, row: u32, column: u32) -> Result<Value, NoMemory>
-    requires row { row < 1000 }
-    requires column { column < 26 }
+/// The text that a cell shows, as a JSON text.
+fn cell_shown(alloc: Global, sheet: &Sheet, row: u32, column: u32) -> Result<Json, NoMemory>
+    requires row { row < ROWS }
+    requires column { column < COLUMNS }
     ensures { IfOk result (λ shown. view shown ≡ string (shown_text (cells_of sheet.now row column))) }
 {
-    match sheet.content(row, column) {
-        Some(content) => Ok(Value::String(content_text(alloc, content)?)),
-        None => Ok(Value::String(String::new(alloc))),
-    }
-}
-
-/// What a cell holds, as a text.
-fn content_text(alloc: Global, content: &Content) -> Result<String, NoMemory>
-    ensures { IfOk result (λ text. string_bytes text ≡ shown_text (Some content.now)) }
-{
-    match content {
-        Content::Number(whole) => number_text(alloc, *whole),
-        Content::Text(text) => Ok(String::from_str(alloc, text.as_str())?),
-        Content::Truth(true) => Ok(String::from_str(alloc, "TRUE")?),
-        Content::Truth(false) => Ok(String::from_str(alloc, "FALSE")?),
-    }
-}
-
-/// A whole number in decimal.
-fn number_text(alloc: Global, whole: i64) -> Result<String, NoMemory>
-    ensures { IfOk result (λ text. string_bytes text ≡ signed_decimal whole) }
-{
-    let mut digits = itoa::Buffer::new();
-    Ok(String::from_str(alloc, digits.format(whole))?)
+    let text = show(alloc, sheet.value(row, column))?;
+    Ok(Json::String(String::from_str(alloc, text.as_str())?))
 }
 
 /// Cuts the empty values at the end.
-fn cut_empty_end(values: &mut Vec<Value>)
+fn cut_empty_end(values: &mut Vec<Json>)
     ensures { map view values.new.items ≡ without_empty_end (map view values.old.items) }
 {
     let kept = kept(values.as_slice());
@@ -90,7 +68,7 @@ fn cut_empty_end(values: &mut Vec<Value>)
 }
 
 /// How many values there are without the empty ones at the end.
-fn kept(values: &[Value]) -> usize
+fn kept(values: &[Json]) -> usize
     ensures { result ≡ length values.now - suffix_len is_empty (map view values.now) }
 {
     let mut kept = values.len();
@@ -101,17 +79,17 @@ fn kept(values: &[Value]) -> usize
 }
 
 /// Whether a value is an empty text or an empty list.
-fn is_empty(value: &Value) -> bool
+fn is_empty(value: &Json) -> bool
     ensures { result ≡ is_empty (view value.now) }
 {
     match value {
-        Value::String(text) => text.is_empty(),
-        Value::Array(values) => is_empty_list(values.as_slice()),
-        Value::Null | Value::Bool(_) | Value::Number(_) | Value::Object(_) => false,
+        Json::String(text) => text.is_empty(),
+        Json::Array(values) => is_empty_list(values.as_slice()),
+        Json::Null | Json::Bool(_) | Json::Number(_) | Json::Object(_) => false,
     }
 }
 
-fn is_empty_list(values: &[Value]) -> bool
+fn is_empty_list(values: &[Json]) -> bool
     ensures { result ≡ is_empty (array (items_view values.now)) }
 {
     values.is_empty()

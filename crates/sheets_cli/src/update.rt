@@ -1,9 +1,10 @@
 ghost use Rattle.std.specs.Prelude.{◌≡◌, ◌+◌, ◌≤◌, length, nat_le, get_or};
-ghost use Rattle.a1_notation.specs.Canonical.{is_one_line};
 ghost use Rattle.std.specs.List.{All, count_by, list_any};
-ghost use Rattle.sheets_cli.specs.Update.{width, end_for, fits, is_written, written_cells, written_rows, is_written_column, written_columns, lines_from};
+ghost use Rattle.sheets_cli.specs.Update.{width, end_for, fits, is_written, written_cells, written_rows};
+ghost use Rattle.sheets_cli.specs.Update.{is_written_column, written_columns, lines_from};
 
 use crate::range::{COLUMNS, ROWS, Rectangle};
+use a1_notation::is_one_line;
 use cell_value::{Input, Items};
 
 /// The columns that values need: as many as the longest row has.
@@ -41,17 +42,10 @@ fn end_for(range: Rectangle) -> (u32, u32)
     }
 }
 
-/// Whether a stretch of lines is one line.
-fn is_one_line(lines: (u32, u32)) -> bool
-    ensures { result ≡ is_one_line lines }
-{
-    lines.0 as u64 + 1 == lines.1 as u64
-}
-
 /// How many cells are written or emptied.
 pub(crate) fn written_cells(values: &[Items<Input>]) -> usize
-    requires rows { length values.now ≤ 1000 }
-    requires columns { All (λ inputs. length inputs ≤ 26) values.now }
+    requires rows { length values.now ≤ ROWS }
+    requires columns { All (λ inputs. length inputs ≤ COLUMNS) values.now }
     ensures { result ≡ written_cells values.now }
 {
     let mut cells = 0;
@@ -122,7 +116,7 @@ fn is_written(input: &Input) -> bool
 
 /// So many lines from the first on, and one at least.
 pub(crate) fn lines_from(first: u32, count: usize) -> (u32, u32)
-    requires { first + count ≤ 1000 }
+    requires { first + count ≤ ROWS }
     ensures { result ≡ lines_from first count }
 {
     (first, first + (count as u32).max(1))

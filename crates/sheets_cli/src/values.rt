@@ -52,7 +52,8 @@ fn read_body(alloc: Global, value: &Value) -> Result<Option<Items<Items<Input>>>
 
 /// The list that is the member `values` of an object, where there is no other.
 fn only_values(value: &Value) -> Option<&[Value]>
-    ensures { option_map (λ rows. items_view rows.now) result ≡ option_and_then sole_values (as_object (view value.now)) }
+    ensures { option_map (λ rows. items_view rows.now) result ≡ option_and_then sole_values
+        (as_object (view value.now)) }
 {
     match value.as_object() {
         Some(members) => sole_member(members),
@@ -78,7 +79,8 @@ fn sole_member(members: &Map<String, Value>) -> Option<&[Value]>
 
 /// The list that the member is, where its name is `values`.
 fn named_values<'a>(name: &String, value: &'a Value) -> Option<&'a [Value]>
-    ensures { option_map (λ rows. items_view rows.now) result ≡ sole_values (member (string_bytes name.now) (view value.now) no_members) }
+    ensures { option_map (λ rows. items_view rows.now) result ≡ sole_values
+        (member (string_bytes name.now) (view value.now) no_members) }
 {
     if name.as_str() == "values" {
         list(value)

@@ -1,9 +1,11 @@
 pub mod ListLemmas
 pub mod HeadLemmas
-pub mod BlockLemmas
-pub mod FrontLemmas
+pub mod GrammarLemmas
+pub mod ScanLemmas
 pub mod TalkLemmas
 pub mod AnswerLemmas
 pub mod OutputLemmas
 pub mod LawLemmas
 pub mod PartLemmas
+pub mod RouteLemmas
+pub mod OneCall

@@ -28,7 +28,10 @@ drop-append (suc n) (x ∷ s) t =
 copied_front : (s buffer : List ℕ) (start count : ℕ) → count ≤ length (drop start s)
     → drop start s ≡ take count (take count (drop start s) ++ buffer) ++ drop (start + count) s
 copied_front s buffer start count few =
-    rw (take_at (take count (drop start s)) buffer count (length-take-le count (drop start s) few), ← drop-drop count start s)
+    rw (
+      take_at (take count (drop start s)) buffer count (length-take-le count (drop start s) few),
+      ← drop-drop count start s,
+    )
     (sym (take-append-drop count (drop start s)))
 
 -- what was copied to the front of a buffer, and what stands behind it in the source, are the source

@@ -7,22 +7,21 @@ use Rattle.httparse.specs.Grammar.{RequestHead, ReadsRequest}
 use Rattle.sheets_http.specs.declared.request.Wire.{Wire}
 use Rattle.sheets_http.specs.declared.request.HeadFault.{HeadFault}
 use Rattle.sheets_http.specs.declared.request.HeadFault.TheVariants.{HeadLong, BadHead}
-use Rattle.sheets_http.specs.declared.head.Standing.{Standing}
-use Rattle.sheets_http.specs.declared.head.Standing.TheVariants.{Growing, Whole, TooLong}
-use Rattle.sheets_http.specs.Heads.{is_break, skip_breaks, is_too_long, standing, StandsAt, body_length_of}
-use Rattle.sheets_http.specs.Blocks.{IsNoHead}
-use Rattle.sheets_http.specs.Framing.{Front, whole_request, refused_head, unfinished, wire_of, behind, IsFront, growing, too_long, block, End, asked, Told, told_request, told_end, told_of, IsNext, Talk}
+use Rattle.sheets_http.specs.declared.scan.HeadState.{HeadState}
+use Rattle.sheets_http.specs.declared.scan.HeadState.TheVariants.{Growing, Whole, TooLong}
+use Rattle.sheets_http.specs.Heads.{is_break, skip_breaks, is_too_long, head_state, SettledAt, IsNoHead, body_length_of}
+use Rattle.sheets_http.specs.Framing.{FirstMessage, complete_message, refused_message, incomplete_message, wire_of, with_body, of_head, of_no_head, BeginsWith, growing, too_long, whole_head, End, asked, StreamNext, request_and_rest, talk_end, next_of, IsNext, Talk}
 use Rattle.sheets_http.proofs.LawLemmas.{request_is_no_end}
-use Rattle.sheets_http.specs.Laws.{HasTalk, IsRequestText, TakesBytes, AreRequestTexts, HoldsRequests}
+use Rattle.sheets_http.specs.Laws.{HasTalk, IsRequestText, TakesBytes, AreRequestTexts, EndsTalk, by_request, by_stream, HoldsRequests}
 
 -- ---- a part of the stream
 
 -- a whole request is no other beginning
 whole_is_not_refused : {wire : Wire} {rest : List ℕ} {fault : HeadFault}
-    → whole_request wire rest ≡ refused_head fault → ⊥
+    → complete_message wire rest ≡ refused_message fault → ⊥
 whole_is_not_refused e = cc
 
-whole_is_finished : {wire : Wire} {rest : List ℕ} → whole_request wire rest ≡ unfinished → ⊥
+whole_is_finished : {wire : Wire} {rest : List ℕ} → complete_message wire rest ≡ incomplete_message → ⊥
 whole_is_finished e = cc
 
 -- behind a head stand the body of its request and the rest
@@ -31,17 +30,17 @@ BodyStands size_or h after rest wire =
     (body : List ℕ) × (size_or ≡ Ok (length body)) × (wire ≡ wire_of h body) × (after ≡ body ++ rest)
 
 body_stands : (size_or : Result ℕ HeadFault) (h : RequestHead) (after rest : List ℕ) (wire : Wire)
-    → whole_request wire rest ≡ behind size_or h after → BodyStands size_or h after rest wire
+    → complete_message wire rest ≡ with_body size_or h after → BodyStands size_or h after rest wire
 body_stands (Err fault) h after rest wire e = absurd (whole_is_not_refused e)
 body_stands (Ok size) h after rest wire e = go (nat_le size (length after)) refl e
   where
-    go : (x : Bool) → nat_le size (length after) ≡ x → whole_request wire rest
-        ≡ (if x then whole_request (wire_of h (take size after)) (drop size after) else unfinished)
+    go : (x : Bool) → nat_le size (length after) ≡ x → complete_message wire rest
+        ≡ (if x then complete_message (wire_of h (take size after)) (drop size after) else incomplete_message)
         → BodyStands (Ok size) h after rest wire
     go true fits e =
         let near : size ≤ length after = leb-true size (length after) fits in
         let count : length (take size after) ≡ size = omega (arith, length-take size after, near) in
-        let same : whole_request wire rest ≡ whole_request (wire_of h (take size after)) (drop size after) = e in
+        let same : complete_message wire rest ≡ complete_message (wire_of h (take size after)) (drop size after) = e in
         let behind_it : drop size after ≡ rest = cc in (
           take size after,
           ap Ok (sym count),
@@ -63,7 +62,7 @@ passed_over (b ∷ bytes) = go (is_break b) refl (passed_over bytes)
     go false e found = ([], refl, rw e refl)
 
 -- a whole head has bytes
-whole_has_bytes : (bytes : List ℕ) → standing bytes ≡ Whole → 0 < length bytes
+whole_has_bytes : (bytes : List ℕ) → head_state bytes ≡ Whole → 0 < length bytes
 unfolding is_too_long
 whole_has_bytes [] e = let wrong : Growing ≡ Whole = e in cc
 whole_has_bytes (b ∷ bytes) e = omega arith
@@ -80,7 +79,7 @@ request_text : (wire : Wire) (h : RequestHead) (breaks read body : List ℕ) →
 request_text wire h breaks read body only reads size is =
     subst (λ (w : Wire). IsRequestText w (breaks ++ (read ++ body))) (sym is) (record {
       breaks = breaks;
-      block = read;
+      head_text = read;
       head = h;
       only_breaks = only;
       reads = reads;
@@ -89,12 +88,12 @@ request_text wire h breaks read body only reads size is =
       text_is = refl;
     })
 
-front_text : (near rest : List ℕ) (wire : Wire) → IsFront near (whole_request wire rest)
+front_text : (near rest : List ℕ) (wire : Wire) → BeginsWith near (complete_message wire rest)
     → (text : List ℕ) × IsRequestText wire text × (0 < length text) × (near ≡ text ++ rest)
 front_text near rest wire (growing none e) = absurd (whole_is_finished e)
 front_text near rest wire (too_long n s e) = absurd (whole_is_not_refused e)
-front_text near rest wire (block n s (inr (none, e))) = absurd (whole_is_not_refused e)
-front_text near rest wire (block n s (inl (h, reads, e))) =
+front_text near rest wire (whole_head n s (of_no_head none e)) = absurd (whole_is_not_refused e)
+front_text near rest wire (whole_head n s (of_head h reads e)) =
     let part = take n near in
     let read = skip_breaks part in
     let (body, size, is, after) = body_stands (body_length_of h) h (drop n near) rest wire e in
@@ -108,7 +107,7 @@ front_text near rest wire (block n s (inl (h, reads, e))) =
     )
 
 pub parts : TakesBytes
-parts room bytes rest wire (whole_request w r, is, told) =
+parts room bytes rest wire (complete_message w r, is, told) =
     let found = front_text (take room bytes) r w is in
     let same : w ≡ wire = cc in
     let behind_it : rest ≡ r ++ drop room bytes = cc in (
@@ -120,8 +119,8 @@ parts room bytes rest wire (whole_request w r, is, told) =
           ∙ append_assoc found.0 r (drop room bytes)
           ∙ ap (λ (t : List ℕ). found.0 ++ t) (sym behind_it),
     )
-parts room bytes rest wire (refused_head fault, is, told) = absurd (request_is_no_end told)
-parts room bytes rest wire (unfinished, is, told) = absurd (request_is_no_end told)
+parts room bytes rest wire (refused_message fault, is, told) = absurd (request_is_no_end told)
+parts room bytes rest wire (incomplete_message, is, told) = absurd (request_is_no_end told)
 
 -- ---- the whole stream
 
@@ -129,7 +128,7 @@ parts room bytes rest wire (unfinished, is, told) = absurd (request_is_no_end to
 abbrev Holds : ℕ → List ℕ → List Wire → End → Type 0
 Holds room bytes wires end =
     (text left : List ℕ) × AreRequestTexts wires text × (bytes ≡ text ++ left)
-    × ((end ≡ asked) ⊎ IsNext (room - length text) left (told_end end))
+    × EndsTalk (room - length text) left end
 
 first_and_others : (room : ℕ) (bytes rest text : List ℕ) (wire : Wire) (wires : List Wire) (end : End)
     → IsRequestText wire text → bytes ≡ text ++ rest → Holds (room - (length bytes - length rest)) rest wires end
@@ -139,7 +138,7 @@ first_and_others room bytes rest text wire wires end first is (others, left, tex
   left,
   (text, others, first, texts, refl),
   is ∙ ap (λ (t : List ℕ). text ++ t) behind_it ∙ sym (append_assoc text others left),
-  subst (λ n. (end ≡ asked) ⊎ IsNext n left (told_end end)) bound ends,
+  subst (λ n. EndsTalk n left end) bound ends,
 )
   where
     bound : (room - (length bytes - length rest)) - length others ≡ room - length (text ++ others)
@@ -149,13 +148,13 @@ first_and_others room bytes rest text wire wires end first is (others, left, tex
 others_hold : (close : Bool) (room : ℕ) (rest : List ℕ) (wires : List Wire) (end : End)
     → MatchBool close ((wires ≡ []) × (end ≡ asked)) (Talk room rest wires end)
     → (Talk room rest wires end → Holds room rest wires end) → Holds room rest wires end
-others_hold true room rest wires end (none, is) holds = ([], rest, rw none refl, refl, inl is)
+others_hold true room rest wires end (none, is) holds = ([], rest, rw none refl, refl, by_request is)
 others_hold false room rest wires end talk holds = holds talk
 
 pub whole : HoldsRequests
 whole room bytes [] end next =
     let all : room ≡ room - 0 = omega arith in
-    ([], bytes, refl, refl, inr (subst (λ n. IsNext n bytes (told_end end)) all next))
+    ([], bytes, refl, refl, by_stream (subst (λ n. IsNext n bytes (talk_end end)) all next))
 whole room bytes (wire ∷ wires) end (rest, is, talk) =
     let (text, first, some, cut) = parts room bytes rest wire is in
     let left : ℕ = room - (length bytes - length rest) in
@@ -166,18 +165,18 @@ whole room bytes (wire ∷ wires) end (rest, is, talk) =
 
 -- the bytes settle somewhere how a head stands
 abbrev Settles : List ℕ → Type 0
-Settles bytes = ((n : ℕ) × StandsAt bytes n Whole) ⊎ ((n : ℕ) × StandsAt bytes n TooLong)
+Settles bytes = ((n : ℕ) × SettledAt bytes n Whole) ⊎ ((n : ℕ) × SettledAt bytes n TooLong)
 
 -- none of the first parts settles it
 abbrev IsOpenTo : ℕ → List ℕ → Type 0
-IsOpenTo end bytes = (m : ℕ) → m ≤ end → standing (take m bytes) ≡ Growing
+IsOpenTo end bytes = (m : ℕ) → m ≤ end → head_state (take m bytes) ≡ Growing
 
 settles_or_open : (bytes : List ℕ) (end : ℕ) → end ≤ length bytes → Settles bytes ⊎ IsOpenTo end bytes
 unfolding is_too_long
 settles_or_open bytes zero near = inr (λ m below. let none : m ≡ 0 = omega arith in rw none refl)
 settles_or_open bytes (suc end) near = next (settles_or_open bytes end (omega (arith, near)))
   where
-    here : (how : Standing) → standing (take (suc end) bytes) ≡ how → IsOpenTo end bytes
+    here : (how : HeadState) → head_state (take (suc end) bytes) ≡ how → IsOpenTo end bytes
         → Settles bytes ⊎ IsOpenTo (suc end) bytes
     here Growing e unsettled = inr (λ m below. elim (cases_lt m (suc end)) [
       | inl less ↦ unsettled m (omega (arith, less))
@@ -190,19 +189,19 @@ settles_or_open bytes (suc end) near = next (settles_or_open bytes end (omega (a
 
     next : Settles bytes ⊎ IsOpenTo end bytes → Settles bytes ⊎ IsOpenTo (suc end) bytes
     next (inl settled) = inl settled
-    next (inr unsettled) = here (standing (take (suc end) bytes)) refl unsettled
+    next (inr unsettled) = here (head_state (take (suc end) bytes)) refl unsettled
 
 -- bytes begin with something
-has_front : (bytes : List ℕ) → ¬ ((front : Front) → ¬ (IsFront bytes front))
+has_front : (bytes : List ℕ) → ¬ ((front : FirstMessage) → ¬ (BeginsWith bytes front))
 has_front bytes none = go (settles_or_open bytes (length bytes) (omega arith))
   where
     go : Settles bytes ⊎ IsOpenTo (length bytes) bytes → ⊥
-    go (inr unsettled) = none unfinished (growing unsettled refl)
-    go (inl (inr (n, stands))) = none (refused_head HeadLong) (too_long n stands refl)
+    go (inr unsettled) = none incomplete_message (growing unsettled refl)
+    go (inl (inr (n, stands))) = none (refused_message HeadLong) (too_long n stands refl)
     go (inl (inl (n, stands))) =
         let no_head : IsNoHead (skip_breaks (take n bytes)) =
-        λ h reads. none (behind (body_length_of h) h (drop n bytes)) (block n stands (inl (h, reads, refl))) in
-        none (refused_head BadHead) (block n stands (inr (no_head, refl)))
+        λ h reads. none (with_body (body_length_of h) h (drop n bytes)) (whole_head n stands (of_head h reads refl)) in
+        none (refused_message BadHead) (whole_head n stands (of_no_head no_head refl))
 
 -- no talk of the stream
 abbrev HasNone : ℕ → List ℕ → Type 0
@@ -210,16 +209,17 @@ HasNone room bytes = (wires : List Wire) → (end : End) → ¬ (Talk room bytes
 
 -- nothing goes on behind a request, though what stands behind it has a talk
 none_behind : (close : Bool) (room : ℕ) (rest : List ℕ)
-    → ((wires : List Wire) → (end : End) → ¬ (MatchBool close ((wires ≡ []) × (end ≡ asked)) (Talk room rest wires end)))
+    → ((wires : List Wire) → (end : End) → ¬ (MatchBool close ((wires ≡ []) × (end ≡ asked))
+    (Talk room rest wires end)))
     → ¬ (HasNone room rest) → ⊥
 none_behind true room rest none has = none [] asked (refl, refl)
 none_behind false room rest none has = has none
 
-next_has_none : (size room : ℕ) (bytes : List ℕ) (told : Told) → length bytes < suc size
+next_has_none : (size room : ℕ) (bytes : List ℕ) (told : StreamNext) → length bytes < suc size
     → ((room : ℕ) (rest : List ℕ) → length rest < size → ¬ (HasNone room rest))
     → HasNone room bytes → IsNext room bytes told → ⊥
-next_has_none size room bytes (told_end end) short has none is = none [] end is
-next_has_none size room bytes (told_request wire rest) short has none is =
+next_has_none size room bytes (talk_end end) short has none is = none [] end is
+next_has_none size room bytes (request_and_rest wire rest) short has none is =
     let (text, first, some, cut) = parts room bytes rest wire is in
     let shorter : length rest < size = omega (arith, short, some, ap length cut, length-append text rest) in
     let left : ℕ = room - (length bytes - length rest) in
@@ -230,7 +230,7 @@ has_talk_within : (size room : ℕ) (bytes : List ℕ) → length bytes < size �
 has_talk_within zero room bytes short none = absurd (omega (arith, short))
 has_talk_within (suc size) room bytes short none =
     has_front (take room bytes)
-    (λ front is. next_has_none size room bytes (told_of room bytes front) short
+    (λ front is. next_has_none size room bytes (next_of room bytes front) short
     (λ room rest. has_talk_within size room rest) none (front, is, refl))
 
 pub has_talk : HasTalk

@@ -4,18 +4,25 @@ use Rattle.std.specs.Prelude.{◌≡◌, ℕ, ◌<◌, ◌≤◌, Bool, ◌||◌
 use Rattle.std.specs.List.{ends_with, list_any}
 use Rattle.std.specs.Str.{bytes_eq, str_eq_ignore_ascii_case, all_ascii_digits}
 use Rattle.std.specs.Str.Parse.{digits_value}
-use Rattle.httparse.specs.Grammar.{RequestHead}
+use Rattle.httparse.specs.Grammar.{RequestHead, ReadsRequest}
 use Rattle.httparse.specs.Spans.{name_and_value}
-use Rattle.sheets_http.specs.declared.head.Standing.{Standing}
-use Rattle.sheets_http.specs.declared.head.Standing.TheVariants.{Growing, Whole, TooLong}
+use Rattle.sheets_http.specs.declared.scan.HeadState.{HeadState}
+use Rattle.sheets_http.specs.declared.scan.HeadState.TheVariants.{Growing, Whole, TooLong}
 use Rattle.sheets_http.specs.declared.request.HeadFault.{HeadFault}
 use Rattle.sheets_http.specs.declared.request.HeadFault.TheVariants.{BadHead, NoLength, BodyLong}
 
 -- ---- where it ends
 
+-- the control characters CR and LF
+abbrev pub carriage_return : ℕ
+carriage_return = 13
+
+abbrev pub line_feed : ℕ
+line_feed = 10
+
 -- CR or LF
 abbrev pub is_break : ℕ → Bool
-is_break b = b == 13 || b == 10
+is_break b = b == carriage_return || b == line_feed
 
 -- the bytes from the first that is no CR or LF: a server passes over empty lines before a request
 abbrev pub skip_breaks : List ℕ → List ℕ
@@ -25,37 +32,49 @@ skip_breaks (b ∷ bytes) = if is_break b then skip_breaks bytes else b ∷ byte
 -- an LF directly after an LF, or after an LF and a CR, are the last bytes
 abbrev pub ends_with_empty_line : List ℕ → Bool
 ends_with_empty_line bytes =
-    ends_with nat_eq bytes (10 ∷ 10 ∷ []) || ends_with nat_eq bytes (10 ∷ 13 ∷ 10 ∷ [])
+    ends_with nat_eq bytes (codes "\n\n") || ends_with nat_eq bytes (codes "\n\r\n")
 
 -- how many LF there are
 abbrev pub line_feeds : List ℕ → ℕ
-line_feeds bytes = count_by (λ b. b == 10) bytes
+line_feeds bytes = count_by (λ b. b == line_feed) bytes
 
--- a head that isn't whole has 66 lines, or 16,384 bytes with the empty lines before it
+-- a head ends within so many bytes, with the empty lines before it
+abbrev pub head_limit : ℕ
+head_limit = 16384
+
+-- and within so many lines
+abbrev pub line_limit : ℕ
+line_limit = 66
+
+-- a head that isn't whole by then is too long
 unfoldable pub is_too_long : ℕ → ℕ → Bool
-is_too_long read feeds = nat_le 16384 read || nat_le 66 feeds
+is_too_long read feeds = nat_le head_limit read || nat_le line_limit feeds
 
 -- a head is whole at its first empty line
-abbrev pub standing_of : List ℕ → ℕ → Standing
-standing_of block read =
-    if ends_with_empty_line block then Whole
-    else (if is_too_long read (line_feeds block) then TooLong else Growing)
+abbrev pub head_state_of : List ℕ → ℕ → HeadState
+head_state_of text read =
+    if ends_with_empty_line text then Whole
+    else (if is_too_long read (line_feeds text) then TooLong else Growing)
 
 -- how the head stands of which these are the first bytes
-abbrev pub standing : List ℕ → Standing
-standing bytes = standing_of (skip_breaks bytes) (length bytes)
+abbrev pub head_state : List ℕ → HeadState
+head_state bytes = head_state_of (skip_breaks bytes) (length bytes)
 
 -- the first n bytes settle how the head stands, and no fewer do
-pub record StandsAt (bytes : List ℕ) (n : ℕ) (how : Standing) : Type 0 where
+pub record SettledAt (bytes : List ℕ) (n : ℕ) (how : HeadState) : Type 0 where
   pub within : n ≤ length bytes
-  pub before : (m : ℕ) → m < n → standing (take m bytes) ≡ Growing
-  pub here : standing (take n bytes) ≡ how
+  pub before : (m : ℕ) → m < n → head_state (take m bytes) ≡ Growing
+  pub here : head_state (take n bytes) ≡ how
 
 -- no first part of the bytes settles how the head stands
 abbrev pub IsUnsettled : List ℕ → Type 0
-IsUnsettled bytes = (m : ℕ) → m ≤ length bytes → standing (take m bytes) ≡ Growing
+IsUnsettled bytes = (m : ℕ) → m ≤ length bytes → head_state (take m bytes) ≡ Growing
 
 -- ---- what it says
+
+-- the text is no head of the grammar
+abbrev pub IsNoHead : List ℕ → Type 0
+IsNoHead text = (h : RequestHead) → ¬ (ReadsRequest text h [])
 
 -- the names and the values of its fields
 abbrev pub Fields : Type 0
@@ -79,8 +98,8 @@ abbrev pub sends_body : List ℕ → Bool
 sends_body method = bytes_eq method (codes "POST") || bytes_eq method (codes "PUT")
 
 -- one to ten digits
-abbrev pub is_length : List ℕ → Bool
-is_length value = nat_lt 0 (length value) && nat_le (length value) 10 && all_ascii_digits value
+abbrev pub is_numeral : List ℕ → Bool
+is_numeral value = nat_lt 0 (length value) && nat_le (length value) 10 && all_ascii_digits value
 
 -- the length that the fields tell, if they do: there is one such field, and its value is a length
 abbrev pub content_length : Fields → Result (Option ℕ) HeadFault
@@ -88,7 +107,7 @@ content_length [] = Ok None
 content_length (f ∷ fields) =
     if str_eq_ignore_ascii_case f.0 (codes "content-length") then (
     if has_field (codes "content-length") fields then Err BadHead
-    else (if is_length f.1 then Ok (Some (digits_value 10 f.1)) else Err BadHead))
+    else (if is_numeral f.1 then Ok (Some (digits_value 10 f.1)) else Err BadHead))
     else content_length fields
 
 -- a body has at most so many bytes

@@ -1,9 +1,15 @@
 -- What holds of every conversation.
-use Rattle.std.specs.Prelude.{◌≡◌, ℕ, ◌-◌, ◌<◌, ◌⊎◌, List, [], ◌∷◌, ◌++◌, length, Ok}
+use Rattle.std.specs.Prelude.{◌≡◌, ℕ, ◌-◌, ◌<◌, List, [], ◌∷◌, ◌++◌, length, Ok}
 use Rattle.httparse.specs.Grammar.{RequestHead, ReadsRequest}
 use Rattle.sheets_http.specs.declared.request.Wire.{Wire}
 use Rattle.sheets_http.specs.Heads.{skip_breaks, body_length_of}
-use Rattle.sheets_http.specs.Framing.{wire_of, End, asked, told_request, told_end, IsNext, Talk}
+use Rattle.sheets_http.specs.Framing.{wire_of, End, asked, StreamNext, request_and_rest, talk_end, IsNext, Talk}
+
+-- one thing comes next in a stream
+abbrev pub HasOneNext : Type 0
+HasOneNext =
+    (room : ℕ) (bytes : List ℕ) (next other : StreamNext)
+    → IsNext room bytes next → IsNext room bytes other → next ≡ other
 
 -- a stream has one list of requests and one end
 abbrev pub HasOneTalk : Type 0
@@ -24,21 +30,21 @@ abbrev pub HasTalk : Type 0
 HasTalk =
     (room : ℕ) (bytes : List ℕ) → ¬ ((wires : List Wire) → (end : End) → ¬ (Talk room bytes wires end))
 
--- the bytes of a request: line breaks that are passed over, the block of its head, and its body
+-- the bytes of a request: line breaks that are passed over, the text of its head, and its body
 pub record IsRequestText (wire : Wire) (text : List ℕ) : Type 0 where
   pub breaks : List ℕ
-  pub block : List ℕ
+  pub head_text : List ℕ
   pub head : RequestHead
   pub only_breaks : skip_breaks breaks ≡ []
-  pub reads : ReadsRequest block head []
+  pub reads : ReadsRequest head_text head []
   pub length_is : body_length_of head ≡ Ok (length wire.body)
   pub wire_is : wire ≡ wire_of head wire.body
-  pub text_is : text ≡ breaks ++ (block ++ wire.body)
+  pub text_is : text ≡ breaks ++ (head_text ++ wire.body)
 
 -- a request's bytes and the rest behind it are the stream
 abbrev pub TakesBytes : Type 0
 TakesBytes =
-    (room : ℕ) (bytes rest : List ℕ) (wire : Wire) → IsNext room bytes (told_request wire rest)
+    (room : ℕ) (bytes rest : List ℕ) (wire : Wire) → IsNext room bytes (request_and_rest wire rest)
     → (text : List ℕ) × IsRequestText wire text × (0 < length text) × (bytes ≡ text ++ rest)
 
 -- the bytes of requests, one behind the other
@@ -47,10 +53,15 @@ AreRequestTexts [] text = text ≡ []
 AreRequestTexts (wire ∷ wires) text =
     (first others : List ℕ) × IsRequestText wire first × AreRequestTexts wires others × (text ≡ first ++ others)
 
--- the bytes of all requests and what is left behind them are the stream; the last request closes the
--- connection, or the end is that of what is left
+-- why a talk ends where `left` is left of its stream: by its last request, which closes the connection,
+-- or as that goes on
+pub data EndsTalk (room : ℕ) (left : List ℕ) (end : End) : Type 0 where
+  by_request : end ≡ asked → EndsTalk room left end
+  by_stream : IsNext room left (talk_end end) → EndsTalk room left end
+
+-- the bytes of all requests and what is left behind them are the stream
 abbrev pub HoldsRequests : Type 0
 HoldsRequests =
     (room : ℕ) (bytes : List ℕ) (wires : List Wire) (end : End) → Talk room bytes wires end
     → (text left : List ℕ) × AreRequestTexts wires text × (bytes ≡ text ++ left)
-    × ((end ≡ asked) ⊎ IsNext (room - length text) left (told_end end))
+    × EndsTalk (room - length text) left end

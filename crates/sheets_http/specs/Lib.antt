@@ -1,9 +1,15 @@
 pub mod Outside
 pub mod Memory
 pub mod Heads
-pub mod Looking
-pub mod Blocks
+pub mod Scanning
+pub mod HeadReading
 pub mod Framing
+pub mod Requests
 pub mod Buffering
 pub mod Responses
+pub mod Table
+pub mod Queries
+pub mod Routes
+pub mod Routing
+pub mod Users
 pub mod Laws

@@ -1,19 +1,11 @@
 -- What the devices outside the program are to a contract: what they hold, where they tell it, and
 -- how often they have failed.
-use Rattle.std.specs.Prelude.{◌≡◌, ℕ, ◌<◌, ◌⊎◌, Bool, true, List, [], ◌++◌, length, take, Option, None, Result, Ok, Err, IfSome, IsTrue}
+use Rattle.std.specs.Prelude.{◌≡◌, ℕ, ◌<◌, Bool, true, List, [], ◌++◌, length, take, Option, None, Result, Ok, Err, IfSome, IsTrue}
 use Rattle.std.specs.Option.{option_map}
 use Rattle.std.specs.Borrow.{GName}
 use Rattle.cell_value.specs.declared.failure.Failed.{Failed}
 use Rattle.sheets_http.specs.declared.outside.SinkFault.{SinkFault}
 use Rattle.sheets_http.specs.declared.outside.SinkFault.TheVariants as fault
-
--- the last value of a count, of faults or of shortages, which stands still there
-abbrev pub last_count : ℕ
-last_count = 18446744073709551615
-
--- a count rose: it is greater than before, or stands at its last value
-abbrev pub Rose : ℕ → ℕ → Type 0
-Rose before after = (before < after) ⊎ (after ≡ last_count)
 
 -- a steady device stays steady, and its count doesn't rise
 abbrev pub StaysSteady : Bool → Bool → ℕ → ℕ → Type 0

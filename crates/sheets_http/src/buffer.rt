@@ -1,10 +1,12 @@
 ghost use Rattle.std.specs.Prelude.{◌≡◌, ◌≢◌, ℕ, ◌+◌, ◌-◌, ◌^◌, ◌<◌, ◌≤◌, List, [], ◌++◌, length, take, drop, IfOk, OnErr, IfSome};
-ghost use Rattle.sheets_http.specs.Outside.{Rose, StaysSteady};
-ghost use Rattle.sheets_http.specs.Buffering.{stream_of, IsSight};
+ghost use Rattle.cell_value.specs.FaultCount.{Rose};
+ghost use Rattle.sheets_http.specs.Outside.{StaysSteady};
+ghost use Rattle.sheets_http.specs.Requests.{stream_of};
+ghost use Rattle.sheets_http.specs.Buffering.{IsScanned};
 
 use crate::Source;
-use crate::head::Look;
-use crate::sight::{Sight, sight_of};
+use crate::scan::HeadScan;
+use crate::scanned::{Scanned, scan_on};
 use cell_value::NoMemory;
 use std::alloc::Global;
 use std::marker::Model;
@@ -19,18 +21,19 @@ pub struct Buffer {
     bytes: Vec<u8>,
     start: usize,
     used: u64,
-    look: Look,
+    scan: HeadScan,
 }
 
 impl Model for Buffer {
     ghost use Rattle.std.specs.Prelude.{◌≤◌, drop, vec_len};
-    ghost use Rattle.sheets_http.specs.Buffering.{Held, IsReady};
+    ghost use Rattle.sheets_http.specs.Requests.{Buffered};
+    ghost use Rattle.sheets_http.specs.Buffering.{IsReady};
 
-    ghost Value = { Held };
+    ghost Value = { Buffered };
 
     ghost view = { λ b. record { pending = drop b.start b.bytes.items; used = b.used } };
 
-    ghost invariant = { λ b. (b.start ≤ vec_len b.bytes) × IsReady b.look (drop b.start b.bytes.items) };
+    ghost invariant = { λ b. (b.start ≤ vec_len b.bytes) × IsReady b.scan (drop b.start b.bytes.items) };
 }
 
 /// Why no more bytes were read.
@@ -53,7 +56,7 @@ impl Buffer {
             bytes: Vec::with_capacity(alloc, PIECE)?,
             start: 0,
             used: 0,
-            look: Look::START,
+            scan: HeadScan::START,
         })
     }
 
@@ -72,11 +75,11 @@ impl Buffer {
     }
 
     /// Looks for a head in the first `room` bytes that are held.
-    pub(crate) fn sight(&mut self, alloc: Global, room: u64) -> Result<Sight, NoMemory>
+    pub(crate) fn scan_head(&mut self, alloc: Global, room: u64) -> Result<Scanned, NoMemory>
         ensures same { self.new ≡ self.old }
-        ensures sight { IsSight (take room self.old.pending) result }
+        ensures scanned { IsScanned (take room self.old.pending) result }
     {
-        sight_of(alloc, &mut self.look, &self.bytes[self.start..], room)
+        scan_on(alloc, &mut self.scan, &self.bytes[self.start..], room)
     }
 
     /// Uses the first bytes that are held.
@@ -90,7 +93,7 @@ impl Buffer {
     {
         self.start += count;
         self.used += count as u64;
-        self.look = Look::START;
+        self.scan = HeadScan::START;
     }
 
     /// Reads more bytes, and answers how many: 0 at the end of the stream.
@@ -104,7 +107,8 @@ impl Buffer {
         ensures no_more { result ≡ Ok 0 → IfSome (S.left source.new) (λ rest. rest ≡ []) }
         ensures fault { result ≡ Err FillError.Failed → Rose (S.faults source.old) (S.faults source.new) }
         ensures later { S.faults source.old ≤ S.faults source.new }
-        ensures steady { StaysSteady (S.steady source.old) (S.steady source.new) (S.faults source.old) (S.faults source.new) }
+        ensures steady { StaysSteady (S.steady source.old) (S.steady source.new) (S.faults source.old)
+            (S.faults source.new) }
         ensures beside { S.beside source.new ≡ S.beside source.old }
     {
         self.compact();

@@ -1,6 +1,7 @@
 ghost use Rattle.std.specs.Prelude.{◌≡◌, ◌<◌, ◌≤◌, ◌↔◌, true, [], length, is_err, OnErr, IfOk};
-ghost use Rattle.sheets_http.specs.Outside.{Rose, StaysSteady, Gives, EndsThere, Takes};
-ghost use Rattle.sheets_http.specs.Memory.{not_called, fails_next, called};
+ghost use Rattle.cell_value.specs.FaultCount.{Rose};
+ghost use Rattle.sheets_http.specs.Outside.{StaysSteady, Gives, EndsThere, Takes};
+ghost use Rattle.sheets_http.specs.Memory.{no_calls, fails_next, after_call, given, taken};
 
 use crate::{Sink, SinkFault, Source, SteadySink, SteadySource};
 use cell_value::{Bytes, Failed, Items};
@@ -16,9 +17,9 @@ struct Calls {
 }
 
 impl Model for Calls {
-    ghost use Rattle.sheets_http.specs.Memory.{Counted};
+    ghost use Rattle.sheets_http.specs.Memory.{CallCount};
 
-    ghost Value = { Counted };
+    ghost Value = { CallCount };
 
     ghost view = { λ c. record { made = c.made; failing = c.failing; faults = c.faults } };
 }
@@ -26,7 +27,7 @@ impl Model for Calls {
 impl Calls {
     /// No call yet.
     fn new(failing: Items<u64>) -> Calls
-        ensures { result ≡ not_called failing }
+        ensures { result ≡ no_calls failing }
     {
         Calls {
             made: 0,
@@ -37,7 +38,7 @@ impl Calls {
 
     /// Counts one more call, and answers whether it fails.
     fn fails(&mut self) -> bool
-        ensures calls { self.new ≡ called self.old }
+        ensures calls { self.new ≡ after_call self.old }
         ensures later { self.old.faults ≤ self.new.faults }
         ensures fails { result ≡ fails_next self.old }
     {
@@ -59,19 +60,22 @@ pub struct MemorySource {
 }
 
 impl Model for MemorySource {
-    ghost use Rattle.sheets_http.specs.Memory.{Reading};
+    ghost use Rattle.sheets_http.specs.Memory.{CountedSource};
 
-    ghost Value = { Reading };
+    ghost Value = { CountedSource };
 
-    ghost view = { λ s. record { left = s.source; calls = s.calls } };
+    ghost view = { λ s. record { bytes = s.source; calls = s.calls } };
 }
 
 impl MemorySource {
-    /// A source with these bytes, a read of which gives at most `piece` bytes; the reads whose
-    /// numbers are among `failing`, counted from 1, fail.
+    /// A source with these bytes, a read of which gives `piece` bytes, or as many as are left or
+    /// have room; the reads whose numbers are among `failing`, counted from 1, fail.
     pub fn new(bytes: Bytes, piece: u64, failing: Items<u64>) -> MemorySource
         requires { 0 < piece }
-        ensures { result ≡ record { left = bytes; calls = not_called failing } }
+        ensures { result ≡ record {
+          bytes = record { left = bytes; piece = piece };
+          calls = no_calls failing;
+        } }
     {
         MemorySource {
             source: SteadySource::new(bytes, piece),
@@ -88,7 +92,7 @@ impl Source for MemorySource {
 
     ghost steady_low = { Prim.search rules };
 
-    ghost left = { λ source. Some source.left };
+    ghost left = { λ source. Some source.bytes.left };
 
     ghost faults = { λ source. source.calls.faults };
 
@@ -98,13 +102,15 @@ impl Source for MemorySource {
 
     /// It takes no memory.
     fn read(&mut self, into: &mut [u8]) -> Result<usize, Failed>
-        ensures bound { IfOk result (λ count. count ≤ length into.new) }
-        ensures bytes { Gives (Some self.old.left) (Some self.new.left) into.new result }
-        ensures end { EndsThere (Some self.old.left) into.new result }
+        ensures given { IfOk result (λ count. count ≡ given self.old.bytes (length into.new)) }
+        ensures bytes { Gives (Some self.old.bytes.left) (Some self.new.bytes.left) into.new result }
+        ensures end { EndsThere (Some self.old.bytes.left) into.new result }
         ensures cause { OnErr result (Rose self.old.calls.faults self.new.calls.faults) }
         ensures later { self.old.calls.faults ≤ self.new.calls.faults }
-        ensures steady { StaysSteady (never_fails self.old.calls) (never_fails self.new.calls) self.old.calls.faults self.new.calls.faults }
-        ensures calls { self.new.calls ≡ called self.old.calls }
+        ensures steady { StaysSteady (never_fails self.old.calls) (never_fails self.new.calls)
+            self.old.calls.faults self.new.calls.faults }
+        ensures calls { self.new.calls ≡ after_call self.old.calls }
+        ensures piece { self.new.bytes.piece ≡ self.old.bytes.piece }
         ensures fails { is_err result ≡ fails_next self.old.calls }
     {
         if self.calls.fails() {
@@ -125,21 +131,21 @@ pub struct MemorySink {
 }
 
 impl Model for MemorySink {
-    ghost use Rattle.sheets_http.specs.Memory.{Writing};
+    ghost use Rattle.sheets_http.specs.Memory.{CountedSink};
 
-    ghost Value = { Writing };
+    ghost Value = { CountedSink };
 
-    ghost view = { λ s. record { taken = s.sink; calls = s.calls } };
+    ghost view = { λ s. record { bytes = s.sink; calls = s.calls } };
 }
 
 impl MemorySink {
-    /// A sink to which nothing was written yet, a write to which takes at most `piece` bytes; the
+    /// A sink to which nothing was written yet, a write to which takes `piece` bytes, or all; the
     /// writes whose numbers are among `failing`, counted from 1, fail.
     pub fn new(alloc: Global, piece: u64, failing: Items<u64>) -> MemorySink
         requires { 0 < piece }
         ensures { result ≡ record {
-          taken = record { written = []; shortages = 0 };
-          calls = not_called failing;
+          bytes = record { written = []; piece = piece; shortages = 0 };
+          calls = no_calls failing;
         } }
     {
         MemorySink {
@@ -150,7 +156,7 @@ impl MemorySink {
 
     /// The bytes that were written so far.
     pub fn written(&self) -> &Bytes
-        ensures { result.now ≡ self.now.taken.written }
+        ensures { result.now ≡ self.now.bytes.written }
     {
         self.sink.written()
     }
@@ -164,11 +170,11 @@ impl Sink for MemorySink {
 
     ghost sink_steady_low = { Prim.search rules };
 
-    ghost written = { λ sink. Some sink.taken.written };
+    ghost written = { λ sink. Some sink.bytes.written };
 
     ghost sink_faults = { λ sink. sink.calls.faults };
 
-    ghost sink_shortages = { λ sink. sink.taken.shortages };
+    ghost sink_shortages = { λ sink. sink.bytes.shortages };
 
     ghost sink_steady = { λ sink. never_fails sink.calls };
 
@@ -176,17 +182,19 @@ impl Sink for MemorySink {
 
     /// Nothing of the piece is written where it fails.
     fn write(&mut self, bytes: &[u8]) -> Result<usize, SinkFault>
-        ensures bound { IfOk result (λ count. count ≤ length bytes.now) }
-        ensures bytes { Takes (Some self.old.taken.written) (Some self.new.taken.written) bytes.now result }
+        ensures taken { IfOk result (λ count. count ≡ taken self.old.bytes bytes.now) }
+        ensures bytes { Takes (Some self.old.bytes.written) (Some self.new.bytes.written) bytes.now result }
         ensures cause { result ≡ Err SinkFault.Failed → Rose self.old.calls.faults self.new.calls.faults }
         ensures stuck { result ≡ Ok 0 → 0 < length bytes.now → Rose self.old.calls.faults self.new.calls.faults }
         ensures later { self.old.calls.faults ≤ self.new.calls.faults }
-        ensures short { result ≡ Err SinkFault.NoMemory → Rose self.old.taken.shortages self.new.taken.shortages }
-        ensures short_later { self.old.taken.shortages ≤ self.new.taken.shortages }
-        ensures steady { StaysSteady (never_fails self.old.calls) (never_fails self.new.calls) self.old.calls.faults self.new.calls.faults }
-        ensures calls { self.new.calls ≡ called self.old.calls }
+        ensures short { result ≡ Err SinkFault.NoMemory → Rose self.old.bytes.shortages self.new.bytes.shortages }
+        ensures short_later { self.old.bytes.shortages ≤ self.new.bytes.shortages }
+        ensures steady { StaysSteady (never_fails self.old.calls) (never_fails self.new.calls)
+            self.old.calls.faults self.new.calls.faults }
+        ensures calls { self.new.calls ≡ after_call self.old.calls }
+        ensures piece { self.new.bytes.piece ≡ self.old.bytes.piece }
         ensures fails { (result ≡ Err SinkFault.Failed) ↔ (fails_next self.old.calls ≡ true) }
-        ensures unwritten { OnErr result (self.new.taken.written ≡ self.old.taken.written) }
+        ensures unwritten { OnErr result (self.new.bytes.written ≡ self.old.bytes.written) }
     {
         if self.calls.fails() {
             Err(SinkFault::Failed)

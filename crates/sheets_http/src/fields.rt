@@ -3,7 +3,7 @@ ghost use Rattle.std.specs.List.{list_any};
 ghost use Rattle.std.specs.Str.{str_eq_ignore_ascii_case};
 ghost use Rattle.httparse.specs.Borrowed.{header_parts};
 ghost use Rattle.std.specs.Str.Parse.{digits_value};
-ghost use Rattle.sheets_http.specs.Heads.{has_field, has_field_value, asks_to_close, sends_body, is_length, content_length, framed, body_length, is_coded};
+ghost use Rattle.sheets_http.specs.Heads.{has_field, has_field_value, asks_to_close, sends_body, is_numeral, content_length, framed, body_length, is_coded};
 
 use crate::HeadFault;
 use httparse::Header;
@@ -54,12 +54,12 @@ fn content_length(fields: &[Header<'_>]) -> Result<Option<u64>, HeadFault>
 /// The length that a field tells which has no other behind it.
 fn only_length(value: &[u8], behind: &[Header<'_>]) -> Result<Option<u64>, HeadFault>
     ensures { result ≡ (if has_field (codes "content-length") (map header_parts behind.now) then Err HeadFault.BadHead
-        else (if is_length value.now then Ok (Some (digits_value 10 value.now)) else Err HeadFault.BadHead)) }
+        else (if is_numeral value.now then Ok (Some (digits_value 10 value.now)) else Err HeadFault.BadHead)) }
 {
     if has_field("content-length", behind) {
         Err(HeadFault::BadHead)
     } else {
-        match length_of(value) {
+        match numeral(value) {
             Some(length) => Ok(Some(length)),
             None => Err(HeadFault::BadHead),
         }
@@ -67,20 +67,20 @@ fn only_length(value: &[u8], behind: &[Header<'_>]) -> Result<Option<u64>, HeadF
 }
 
 /// The number that one to ten digits write.
-fn length_of(value: &[u8]) -> Option<u64>
-    ensures { result ≡ (if is_length value.now then Some (digits_value 10 value.now) else None) }
+pub(crate) fn numeral(value: &[u8]) -> Option<u64>
+    ensures { result ≡ (if is_numeral value.now then Some (digits_value 10 value.now) else None) }
 {
     if value.is_empty() || value.len() > 10 {
         return None;
     }
-    let mut length = 0;
+    let mut number = 0;
     for byte in value {
         if !byte.is_ascii_digit() {
             return None;
         }
-        length = length * 10 + u64::from(*byte - b'0');
+        number = number * 10 + u64::from(*byte - b'0');
     }
-    Some(length)
+    Some(number)
 }
 
 /// Whether the body has a coding other than none at all.

@@ -1,29 +1,41 @@
 //! HTTP/1.1 requests out of a stream of bytes, and responses into one.
 #![tactic(auto)]
 
-mod block;
 mod buffer;
 mod failing;
 mod fields;
-mod head;
 mod laws;
 mod memory;
 mod next;
 mod outside;
+mod query;
 mod request;
 mod response;
+mod routes;
+mod routing;
+mod scan;
+mod scanned;
 mod sending;
-mod sight;
+mod summary;
+mod table;
+mod users;
+mod verb;
 
 pub use buffer::Buffer;
 pub use failing::{MemorySink, MemorySource};
-pub use laws::conversation_laws;
+pub use laws::{conversation_laws, one_call};
 pub use memory::{SteadySink, SteadySource};
 pub use next::next_request;
 pub use outside::{Duplex, Link, Sink, SinkFault, Source};
 pub use request::{HeadFault, Next, Wire};
 pub use response::{no_memory_response, response_text};
+pub use routes::{Route, RouteFault};
+pub use routing::route;
 pub use sending::send_all;
+pub use users::Users;
+pub use verb::Verb;
 
+#[cfg(test)]
+mod route_tests;
 #[cfg(test)]
 mod tests;

@@ -1,12 +1,14 @@
 ghost use Rattle.std.specs.Prelude.{◌≡◌, ◌≢◌, IsTrue, ◌+◌, ◌^◌, ◌<◌, ◌≤◌, length, take, drop, IfOk, OnOk, OnErr, IfSome};
-ghost use Rattle.sheets_http.specs.Outside.{Rose, StaysSteady};
+ghost use Rattle.cell_value.specs.FaultCount.{Rose};
+ghost use Rattle.sheets_http.specs.Outside.{StaysSteady};
 ghost use Rattle.sheets_http.specs.Heads.{skip_breaks};
-ghost use Rattle.sheets_http.specs.Buffering.{room_of, stream_of, end_answer, IsRequest, IsSight, IsAnswer, IsExact, IsTurn, AnswersNoRequest, IsBody};
+ghost use Rattle.sheets_http.specs.Requests.{room_of, stream_of, IsRequest, IsAnswer, IsExact};
+ghost use Rattle.sheets_http.specs.Buffering.{end_answer, IsScanned, IsProgress, AnswersNoRequest, IsBody};
 
-use crate::block::Heading;
 use crate::buffer::{Buffer, FillError};
-use crate::head::is_break;
-use crate::sight::Sight;
+use crate::scan::is_break;
+use crate::scanned::Scanned;
+use crate::summary::HeadSummary;
 use crate::{Next, Source, Wire};
 use cell_value::{Bytes, NoMemory};
 use std::alloc::Global;
@@ -46,55 +48,55 @@ pub fn next_request<L: Source>(alloc: Global, link: &mut L, buffer: &mut Buffer,
 {
     loop {
         match read_once(alloc, link, buffer, most) {
-            Turn::Answer(next) => return next,
-            Turn::Head(heading, end) => {
-                return next_body(alloc, link, buffer, most, heading, end);
+            Progress::Answer(next) => return next,
+            Progress::Head(summary, end) => {
+                return next_body(alloc, link, buffer, most, summary, end);
             }
-            Turn::More => {}
+            Progress::More => {}
         }
     }
 }
 
-/// What one turn of reading gives.
+/// What one progress of reading gives.
 #[derive(Debug, Drop)]
-pub(crate) enum Turn {
+pub(crate) enum Progress {
     /// An answer.
     Answer(Next),
     /// A head that was read, which ends there.
-    Head(Heading, usize),
+    Head(HeadSummary, usize),
     /// More bytes are held.
     More,
 }
 
 /// Answers by what is held, or reads once.
-fn read_once<L: Source>(alloc: Global, link: &mut L, buffer: &mut Buffer, most: u64) -> Turn
-    ensures turn { IsTurn most buffer.old buffer.new (stream_of buffer.old (L.left link.old))
+fn read_once<L: Source>(alloc: Global, link: &mut L, buffer: &mut Buffer, most: u64) -> Progress
+    ensures progress { IsProgress most buffer.old buffer.new (stream_of buffer.old (L.left link.old))
         (stream_of buffer.new (L.left link.new)) result }
     ensures no_request { AnswersNoRequest result }
     ensures stream { stream_of buffer.old (L.left link.old) ≡ stream_of buffer.new (L.left link.new) }
     ensures used { buffer.new.used ≡ buffer.old.used }
-    ensures fault { result ≡ Turn.Answer Next.ReadFault → Rose (L.faults link.old) (L.faults link.new) }
+    ensures fault { result ≡ Progress.Answer Next.ReadFault → Rose (L.faults link.old) (L.faults link.new) }
     ensures later { L.faults link.old ≤ L.faults link.new }
     ensures steady { StaysSteady (L.steady link.old) (L.steady link.new) (L.faults link.old) (L.faults link.new) }
     ensures beside { L.beside link.new ≡ L.beside link.old }
 {
     let room = most.saturating_sub(buffer.used());
-    match buffer.sight(alloc, room) {
-        Ok(Sight::Head(heading, end)) => Turn::Head(heading, end),
-        Ok(Sight::Refused(fault)) => Turn::Answer(Next::Closed(fault)),
-        Ok(Sight::Growing) => {
+    match buffer.scan_head(alloc, room) {
+        Ok(Scanned::Head(summary, end)) => Progress::Head(summary, end),
+        Ok(Scanned::Refused(fault)) => Progress::Answer(Next::Closed(fault)),
+        Ok(Scanned::Growing) => {
             if room <= buffer.pending().len() as u64 {
-                Turn::Answer(Next::LongTalk)
+                Progress::Answer(Next::LongTalk)
             } else {
                 match buffer.fill(link) {
-                    Ok(0) => Turn::Answer(end_of(buffer.pending())),
-                    Ok(_) => Turn::More,
-                    Err(FillError::Failed) => Turn::Answer(Next::ReadFault),
-                    Err(FillError::NoMemory) => Turn::Answer(Next::NoMemory),
+                    Ok(0) => Progress::Answer(end_of(buffer.pending())),
+                    Ok(_) => Progress::More,
+                    Err(FillError::Failed) => Progress::Answer(Next::ReadFault),
+                    Err(FillError::NoMemory) => Progress::Answer(Next::NoMemory),
                 }
             }
         }
-        Err(NoMemory) => Turn::Answer(Next::NoMemory),
+        Err(NoMemory) => Progress::Answer(Next::NoMemory),
     }
 }
 
@@ -104,10 +106,10 @@ fn next_body<L: Source>(
     link: &mut L,
     buffer: &mut Buffer,
     most: u64,
-    heading: Heading,
+    summary: HeadSummary,
     end: usize,
 ) -> Next
-    requires { IsSight (take (room_of most buffer.old) buffer.old.pending) (Ok (Sight.Head heading end)) }
+    requires { IsScanned (take (room_of most buffer.old) buffer.old.pending) (Ok (Scanned.Head summary end)) }
     ensures answer { IfSome (stream_of buffer.old (L.left link.old))
         (λ bytes. IsAnswer (room_of most buffer.old) bytes (room_of most buffer.new)
         (stream_of buffer.new (L.left link.new)) result) }
@@ -120,9 +122,9 @@ fn next_body<L: Source>(
     ensures steady { StaysSteady (L.steady link.old) (L.steady link.new) (L.faults link.old) (L.faults link.new) }
     ensures beside { L.beside link.new ≡ L.beside link.old }
 {
-    match wait_for_body(link, buffer, most, &heading, end) {
+    match wait_for_body(link, buffer, most, &summary, end) {
         Some(next) => next,
-        None => match take_request(alloc, buffer, heading, end) {
+        None => match take_request(alloc, buffer, summary, end) {
             Ok(wire) => Next::Request(wire),
             Err(_) => Next::NoMemory,
         },
@@ -135,12 +137,12 @@ fn wait_for_body<L: Source>(
     link: &mut L,
     buffer: &mut Buffer,
     most: u64,
-    heading: &Heading,
+    summary: &HeadSummary,
     end: usize,
 ) -> Option<Next>
-    requires { IsSight (take (room_of most buffer.old) buffer.old.pending) (Ok (Sight.Head heading.now end)) }
+    requires { IsScanned (take (room_of most buffer.old) buffer.old.pending) (Ok (Scanned.Head summary.now end)) }
     ensures body { IsBody most buffer.old buffer.new (stream_of buffer.old (L.left link.old))
-        (stream_of buffer.new (L.left link.new)) heading.now end result }
+        (stream_of buffer.new (L.left link.new)) summary.now end result }
     ensures no_request { IfSome result (λ next. ¬ (IsRequest next)) }
     ensures stream { stream_of buffer.old (L.left link.old) ≡ stream_of buffer.new (L.left link.new) }
     ensures used { buffer.new.used ≡ buffer.old.used }
@@ -150,7 +152,7 @@ fn wait_for_body<L: Source>(
     ensures beside { L.beside link.new ≡ L.beside link.old }
 {
     let room = most.saturating_sub(buffer.used());
-    let whole = end as u64 + heading.length;
+    let whole = end as u64 + summary.length;
     'body: loop {
         let held = buffer.pending().len() as u64;
         if whole <= held.min(room) {
@@ -172,31 +174,31 @@ fn wait_for_body<L: Source>(
 fn take_request(
     alloc: Global,
     buffer: &mut Buffer,
-    heading: Heading,
+    summary: HeadSummary,
     end: usize,
 ) -> Result<Wire, NoMemory>
-    requires held { end + heading.length ≤ length buffer.old.pending }
-    requires fits { buffer.old.used + (end + heading.length) < 2 ^ 64 }
+    requires held { end + summary.length ≤ length buffer.old.pending }
+    requires fits { buffer.old.used + (end + summary.length) < 2 ^ 64 }
     ensures wire { IfOk result (λ wire. wire ≡ record {
-      method = heading.method;
-      target = heading.target;
-      coded = heading.coded;
-      close = heading.close;
-      body = take heading.length (drop end buffer.old.pending);
+      method = summary.method;
+      target = summary.target;
+      coded = summary.coded;
+      close = summary.close;
+      body = take summary.length (drop end buffer.old.pending);
     }) }
     ensures buffer { OnOk result (buffer.new ≡ record {
-      pending = drop (end + heading.length) buffer.old.pending;
-      used = buffer.old.used + (end + heading.length);
+      pending = drop (end + summary.length) buffer.old.pending;
+      used = buffer.old.used + (end + summary.length);
     }) }
     ensures err { OnErr result (buffer.new ≡ buffer.old) }
 {
-    let Heading {
+    let HeadSummary {
         method,
         target,
         coded,
         close,
         length,
-    } = heading;
+    } = summary;
     let whole = end + length as usize;
     let body = Vec::from_slice(alloc, &buffer.pending()[end..whole])?;
     buffer.advance(whole);

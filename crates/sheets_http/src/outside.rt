@@ -1,8 +1,11 @@
 ghost use Rattle.std.specs.Prelude.{◌≡◌, ℕ, ◌<◌, ◌≤◌, List, [], ◌∷◌, Option, Bool, length, IfOk, IsTrue, OnErr};
 ghost use Rattle.std.specs.Borrow.{GName};
-ghost use Rattle.sheets_http.specs.Outside.{Side, last_count, Rose, StaysSteady, Gives, EndsThere, Takes};
+ghost use Rattle.cell_value.specs.FaultCount.{last_count, Rose};
+ghost use Rattle.sheets_http.specs.Outside.{Side, StaysSteady, Gives, EndsThere, Takes};
 
 use cell_value::Failed;
+use std::error::Error;
+use std::fmt;
 
 /// Why a write failed.
 #[derive(Clone, Copy, Debug, PartialEq, Eq)]
@@ -12,6 +15,17 @@ pub enum SinkFault {
     /// Memory ran out; the count of shortages rose, and nothing of the piece was written.
     NoMemory,
 }
+
+impl fmt::Display for SinkFault {
+    fn fmt<W: fmt::Write>(&self, f: &mut fmt::Formatter<W>) -> fmt::Result {
+        f.write_str(match self {
+            SinkFault::Failed => "failed",
+            SinkFault::NoMemory => "no memory",
+        })
+    }
+}
+
+impl Error for SinkFault {}
 
 /// What bytes are read from: an input, a connection, a file, or bytes in memory.
 pub trait Source {
@@ -79,7 +93,8 @@ pub trait Sink {
         ensures later { sink_faults self.old ≤ sink_faults self.new }
         ensures short { result ≡ Err SinkFault.NoMemory → Rose (sink_shortages self.old) (sink_shortages self.new) }
         ensures short_later { sink_shortages self.old ≤ sink_shortages self.new }
-        ensures steady { StaysSteady (sink_steady self.old) (sink_steady self.new) (sink_faults self.old) (sink_faults self.new) }
+        ensures steady { StaysSteady (sink_steady self.old) (sink_steady self.new) (sink_faults self.old)
+            (sink_faults self.new) }
         ensures beside { sink_beside self.new ≡ sink_beside self.old };
 
     /// The count of a steady sink isn't at its last value, where it would count as risen.

@@ -1,4 +1,6 @@
 use cell_value::{Bytes, Text};
+use std::error::Error;
+use std::fmt;
 
 /// A request as it came: its request line, what its head says that matters, and its body.
 #[derive(Debug, Drop)]
@@ -28,6 +30,19 @@ pub enum HeadFault {
     /// Its body has more than 8,388,608 bytes.
     BodyLong,
 }
+
+impl fmt::Display for HeadFault {
+    fn fmt<W: fmt::Write>(&self, f: &mut fmt::Formatter<W>) -> fmt::Result {
+        f.write_str(match self {
+            HeadFault::HeadLong => "the head is too long",
+            HeadFault::BadHead => "the head is malformed",
+            HeadFault::NoLength => "the length of the body is missing",
+            HeadFault::BodyLong => "the body is too long",
+        })
+    }
+}
+
+impl Error for HeadFault {}
 
 /// What comes next in a conversation.
 #[derive(Debug, Drop)]

@@ -1,6 +1,6 @@
 ghost use Rattle.std.specs.Prelude.{◌≡◌, ◌++◌, ◌≤◌, [], decimal, length, codes, IfOk, string_bytes};
 ghost use Rattle.http.specs.StatusCode.{IsStatusCode};
-ghost use Rattle.sheets_http.specs.Responses.{IsServedStatus, phrase_of, line, connection_line, text_of_response, no_memory_body};
+ghost use Rattle.sheets_http.specs.Responses.{IsServedStatus, phrase_of, text_line, connection_line, text_of_response, no_memory_body};
 
 use cell_value::{Bytes, NoMemory};
 use http::StatusCode;
@@ -32,9 +32,15 @@ pub fn no_memory_response(close: bool) -> &'static [u8]
     ensures { result.now ≡ text_of_response 507 close no_memory_body }
 {
     if close {
-        b"HTTP/1.1 507 Insufficient Storage\r\nContent-Type: application/json; charset=UTF-8\r\nContent-Length: 68\r\nConnection: close\r\n\r\n{\"error\":{\"code\":507,\"message\":\"NoMemory\",\"status\":\"OUT_OF_MEMORY\"}}"
+        b"HTTP/1.1 507 Insufficient Storage\r\n\
+          Content-Type: application/json; charset=UTF-8\r\n\
+          Content-Length: 68\r\nConnection: close\r\n\r\n\
+          {\"error\":{\"code\":507,\"message\":\"NoMemory\",\"status\":\"OUT_OF_MEMORY\"}}"
     } else {
-        b"HTTP/1.1 507 Insufficient Storage\r\nContent-Type: application/json; charset=UTF-8\r\nContent-Length: 68\r\n\r\n{\"error\":{\"code\":507,\"message\":\"NoMemory\",\"status\":\"OUT_OF_MEMORY\"}}"
+        b"HTTP/1.1 507 Insufficient Storage\r\n\
+          Content-Type: application/json; charset=UTF-8\r\n\
+          Content-Length: 68\r\n\r\n\
+          {\"error\":{\"code\":507,\"message\":\"NoMemory\",\"status\":\"OUT_OF_MEMORY\"}}"
     }
 }
 
@@ -72,6 +78,8 @@ fn head_text(
         ++ (decimal length ++ (codes "\r\n" ++ (close_line.now ++ codes "\r\n")))))))) }
 {
     format!(in alloc;
-        "HTTP/1.1 {status} {phrase}\r\nContent-Type: application/json; charset=UTF-8\r\nContent-Length: {length}\r\n{close_line}\r\n"
+        "HTTP/1.1 {status} {phrase}\r\n\
+         Content-Type: application/json; charset=UTF-8\r\n\
+         Content-Length: {length}\r\n{close_line}\r\n"
     )
 }

@@ -1,5 +1,6 @@
 ghost use Rattle.std.specs.Prelude.{◌≡◌, ◌≢◌, ◌≤◌, IsTrue, MatchResult};
-ghost use Rattle.sheets_http.specs.Outside.{Rose, StaysSteady, TakesAll, TakesSome};
+ghost use Rattle.cell_value.specs.FaultCount.{Rose};
+ghost use Rattle.sheets_http.specs.Outside.{StaysSteady, TakesAll, TakesSome};
 
 use crate::{Sink, SinkFault};
 
@@ -18,7 +19,8 @@ pub fn send_all<S: Sink>(sink: &mut S, bytes: &[u8]) -> Result<(), SinkFault>
     ensures later { S.sink_faults sink.old ≤ S.sink_faults sink.new }
     ensures short { result ≡ Err SinkFault.NoMemory → Rose (S.sink_shortages sink.old) (S.sink_shortages sink.new) }
     ensures short_later { S.sink_shortages sink.old ≤ S.sink_shortages sink.new }
-    ensures steady { StaysSteady (S.sink_steady sink.old) (S.sink_steady sink.new) (S.sink_faults sink.old) (S.sink_faults sink.new) }
+    ensures steady { StaysSteady (S.sink_steady sink.old) (S.sink_steady sink.new) (S.sink_faults sink.old)
+        (S.sink_faults sink.new) }
     ensures beside { S.sink_beside sink.new ≡ S.sink_beside sink.old }
 {
     let mut sent = 0;

@@ -1,13 +1,15 @@
 ghost use Rattle.std.specs.Prelude.{◌≡◌, ◌+◌, ◌≤◌, ◌==◌, ◌&&◌, slice_index, IfOk};
 ghost use Rattle.std.specs.List.{position};
-ghost use Rattle.cell_store.specs.Table.{empty_table};
+ghost use Rattle.std.specs.Map.{keys_of};
+ghost use Rattle.cell_store.specs.Table.{empty_table, filled_places, most_lines};
 ghost use Rattle.cell_store.specs.Moved.{GoesWithLines, lines_on};
 ghost use Rattle.grid_range.specs.Change.{Fits};
 
 use crate::grid::Grid;
+use crate::places::held_by_rows;
 use crate::tree::{place_after, size_after};
 use cell_value::{Duplicate, Items, NoMemory};
-use grid_range::{Area, Axis, Change};
+use grid_range::{Area, Axis, Change, places_stay_apart, places_stay_below};
 use std::alloc::Global;
 use std::marker::Model;
 
@@ -34,13 +36,14 @@ impl<T> Model for ListGrid<T> {
 
     ghost view = { λ g. table_of g.rows g.cols g.items.items };
 
-    ghost invariant = { λ g. IsDistinct (eq_by_cmp by_rows) (keys_of g.items.items) × HasEntriesInside g.rows g.cols g.items.items };
+    ghost invariant = { λ g. IsDistinct (eq_by_cmp by_rows) (keys_of g.items.items)
+        × HasEntriesInside g.rows g.cols g.items.items };
 }
 
 impl<T> ListGrid<T> {
     /// A sheet of that size with nothing in it.
     pub fn new(alloc: Global, rows: u32, cols: u32) -> ListGrid<T>
-        requires { rows + cols ≤ 2000000000 }
+        requires { rows + cols ≤ most_lines }
         ensures { result ≡ empty_table rows cols }
     {
         ListGrid {
@@ -61,12 +64,22 @@ fn find<T>(items: &[((u32, u32), T)], row: u32, column: u32) -> Option<usize>
         .position(|item| item.0.0 == row && item.0.1 == column)
 }
 
+/// The places of the entries, in no order.
+fn places_of<T>(alloc: Global, items: &[((u32, u32), T)]) -> Result<Vec<(u32, u32)>, NoMemory>
+    ensures { IfOk result (λ places. places.items ≡ keys_of items.now) }
+{
+    Ok(items.iter().map(|entry| entry.0).collect(alloc)?)
+}
+
 impl<T: Duplicate + Drop> ListGrid<T> {
     /// The grid after the change.
     fn moved(&self, axis: Axis, change: &Change) -> Result<ListGrid<T>, NoMemory>
         requires { Fits change.now (lines_on axis self.now.rows self.now.cols) }
-        ensures { IfOk result (GoesWithLines axis change.now self.now) }
+        ensures moved { IfOk result (GoesWithLines axis change.now self.now) }
+        ensures filled { IfOk result (λ moved. filled_places moved ≤ filled_places self.now) }
     {
+        places_stay_apart();
+        places_stay_below();
         let mut items = Vec::new(self.alloc);
         for entry in &self.items {
             if let Some(now) = place_after(axis, change, (self.rows, self.cols), entry.0) {
@@ -86,9 +99,24 @@ impl<T: Duplicate + Drop> ListGrid<T> {
 impl<T: Duplicate + Drop> Grid<T> for ListGrid<T> {
     ghost table = { λ g. g };
 
+    fn rows(&self) -> u32 {
+        self.rows
+    }
+
+    fn cols(&self) -> u32 {
+        self.cols
+    }
+
     fn get(&self, row: u32, column: u32) -> Option<&T> {
         match find(&self.items, row, column) {
             Some(at) => Some(&self.items[at].1),
+            None => None,
+        }
+    }
+
+    fn get_mut(&mut self, row: u32, column: u32) -> Option<&mut T> {
+        match find(&self.items, row, column) {
+            Some(at) => Some(&mut self.items[at].1),
             None => None,
         }
     }
@@ -116,14 +144,8 @@ impl<T: Duplicate + Drop> Grid<T> for ListGrid<T> {
     }
 
     fn places(&self, area: &Area) -> Result<Items<(u32, u32)>, NoMemory> {
-        let mut places = Vec::new(self.alloc);
-        for entry in &self.items {
-            if area.holds(entry.0.0, entry.0.1) {
-                places.push(entry.0)?;
-            }
-        }
-        places.sort_unstable();
-        Ok(Items::of(places))
+        let places = places_of(self.alloc, &self.items)?;
+        Ok(held_by_rows(places, area))
     }
 
     fn filled(&self) -> u64 {

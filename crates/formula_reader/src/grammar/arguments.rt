@@ -1,6 +1,6 @@
 ghost use Rattle.std.specs.Prelude.{◌≡◌, [], map, IfOk, option_map};
-ghost use Rattle.formula_reader.specs.Front.{IsAnswer, AfterOpen, ReadsArguments};
-ghost use Rattle.formula_reader.specs.Tree.{expression_of, no_arguments, behind};
+ghost use Rattle.formula_reader.specs.LevelReading.{IsAnswer, AfterOpen, ReadsArguments};
+ghost use Rattle.formula_reader.specs.Tree.{expression_of, no_arguments, arguments_before};
 
 use super::chain::read;
 use super::level::Level;
@@ -17,7 +17,7 @@ pub(super) fn read_arguments(
     symbols: &[Symbol],
 ) -> Result<Option<(Vec<Tree>, &[Symbol])>, NoMemory>
     ensures { IfOk result (λ read. IsAnswer (AfterOpen symbols.now)
-        (option_map (λ found. (behind (map expression_of found.0.items) no_arguments, found.1.now)) read)) }
+        (option_map (λ found. (arguments_before (map expression_of found.0.items) no_arguments, found.1.now)) read)) }
 {
     match strip_close(symbols) {
         Some(rest) => Ok(Some((Vec::new(alloc), rest))),
@@ -29,7 +29,7 @@ pub(super) fn read_arguments(
 #[cycle(grammar)]
 fn read_list(alloc: Global, symbols: &[Symbol]) -> Result<Option<(Vec<Tree>, &[Symbol])>, NoMemory>
     ensures { IfOk result (λ read. IsAnswer (ReadsArguments symbols.now)
-        (option_map (λ found. (behind (map expression_of found.0.items) no_arguments, found.1.now)) read)) }
+        (option_map (λ found. (arguments_before (map expression_of found.0.items) no_arguments, found.1.now)) read)) }
 {
     let mut arguments = Vec::new(alloc);
     let mut unread = symbols;

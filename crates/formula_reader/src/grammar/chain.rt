@@ -1,5 +1,5 @@
 ghost use Rattle.std.specs.Prelude.{◌<◌, IfOk, option_map};
-ghost use Rattle.formula_reader.specs.Front.{IsAnswer, Reads, ReadsOn, Ends, rank};
+ghost use Rattle.formula_reader.specs.LevelReading.{IsAnswer, Reads, ReadsOn, Ends, rank};
 ghost use Rattle.formula_reader.specs.Grammar.{tighter};
 ghost use Rattle.formula_reader.specs.Tree.{expression_of};
 

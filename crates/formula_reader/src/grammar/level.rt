@@ -1,10 +1,10 @@
 ghost use Rattle.std.specs.Prelude.{◌≡◌, ◌≢◌, List, ◌∷◌, IfSome, IfNone};
-ghost use Rattle.formula_tokens.specs.declared.token.Operator.{Operator};
+ghost use Rattle.formula_reader.specs.declared.tokens.token.Operator.{Operator};
 ghost use Rattle.formula_reader.specs.declared.symbols.Symbol.{Symbol};
 ghost use Rattle.formula_reader.specs.Grammar.{level_of, tighter};
 
 use crate::symbols::Symbol;
-use formula_tokens::Operator;
+use crate::tokens::Operator;
 
 /// A level of the grammar of formulas, the loosest first: an operand of a level's operators is of
 /// the next level.

@@ -1,5 +1,5 @@
 ghost use Rattle.std.specs.Prelude.{◌≡◌, ◌∷◌, IfOk, option_map};
-ghost use Rattle.formula_reader.specs.Front.{IsAnswer, Reads};
+ghost use Rattle.formula_reader.specs.LevelReading.{IsAnswer, Reads};
 ghost use Rattle.formula_reader.specs.Tree.{expression_of};
 
 use super::arguments::read_arguments;

@@ -1,7 +1,8 @@
 use super::tree_of;
+use crate::fault::FormulaFault;
+use crate::tokens::Operator;
 use crate::tree::Tree;
 use cell_value::{Items, NoMemory, Text};
-use formula_tokens::Operator;
 use grid_range::{Area, Band};
 use ref_rewrite::{Formula, Marks, Piece, Ref};
 use std::alloc::Global;
@@ -157,23 +158,62 @@ fn pieces_have_their_trees(rt: HostRuntime) -> Result<(), Fail> {
     Ok(())
 }
 
-/// How many signs, terms and operands stand in a long formula.
-const MANY: usize = 500;
+/// How many signs or terms stand in a long formula.
+const LONG: usize = 250;
 
 #[test]
 fn long_chains_have_their_trees(rt: HostRuntime) -> Result<(), Fail> {
     let alloc = rt.alloc();
     let mut signs = String::from_str(alloc, "=")?;
     let mut terms = String::from_str(alloc, "=1")?;
-    for _ in 0..MANY {
+    for _ in 0..LONG {
         signs.push('-')?;
         terms.push_str("+1")?;
     }
     signs.push('1')?;
     let signs = tree_of_text(alloc, signs)?;
-    assert_eq!(rt; signs.as_ref().map(|tree| depth(tree)), Some(MANY));
+    assert_eq!(rt; signs.as_ref().map(|tree| depth(tree)), Some(LONG));
     let terms = tree_of_text(alloc, terms)?;
-    assert_eq!(rt; terms.as_ref().map(|tree| depth(tree)), Some(MANY));
+    assert_eq!(rt; terms.as_ref().map(|tree| depth(tree)), Some(LONG));
+    Ok(())
+}
+
+/// How many signs or brackets stand in a formula that is far too long.
+const MANY: usize = 20_000;
+
+fn repeated(
+    alloc: Global,
+    front: &str,
+    middle: &str,
+    back: &str,
+    count: usize,
+) -> Result<String, NoMemory> {
+    let mut text = String::from_str(alloc, "=")?;
+    for _ in 0..count {
+        text.push_str(front)?;
+    }
+    text.push_str(middle)?;
+    for _ in 0..count {
+        text.push_str(back)?;
+    }
+    Ok(text)
+}
+
+fn fault_of(alloc: Global, text: String) -> Option<FormulaFault> {
+    tree_of_text(alloc, text).err()
+}
+
+#[test]
+fn formulas_past_a_limit_have_no_tree_told(rt: HostRuntime) -> Result<(), Fail> {
+    let alloc = rt.alloc();
+    let signs = repeated(alloc, "-", "1", "", MANY)?;
+    assert_eq!(rt; fault_of(alloc, signs), Some(FormulaFault::Tokens));
+    let brackets = repeated(alloc, "(", "1", ")", MANY)?;
+    assert_eq!(rt; fault_of(alloc, brackets), Some(FormulaFault::Tokens));
+    let deep = repeated(alloc, "(", "1", ")", 33)?;
+    assert_eq!(rt; fault_of(alloc, deep), Some(FormulaFault::Depth));
+    let within = repeated(alloc, "(", "1", ")", 32)?;
+    assert_eq!(rt; fault_of(alloc, within), None);
     Ok(())
 }
 
@@ -191,31 +231,38 @@ fn depth(tree: &Tree) -> usize {
     }
 }
 
-fn tree_of_text(alloc: Global, text: String) -> Result<Option<Tree>, NoMemory> {
+fn tree_of_text(alloc: Global, text: String) -> Result<Option<Tree>, FormulaFault> {
+    tree_of(alloc, &one_text(alloc, text)?)
+}
+
+fn one_text(alloc: Global, text: String) -> Result<Formula, NoMemory> {
     let mut pieces = Vec::new(alloc);
     pieces.push(Piece::Text(Text::of(text)))?;
-    tree_of(
-        alloc,
-        &Formula {
-            pieces: Items::of(pieces),
-        },
-    )
+    Ok(Formula {
+        pieces: Items::of(pieces),
+    })
 }
 
 /// The tree of the pieces as a text.
-fn shown_tree(alloc: Global, shapes: &[Shape]) -> Result<String, NoMemory> {
+fn shown_tree(alloc: Global, shapes: &[Shape]) -> Result<String, FormulaFault> {
+    let tree = tree_of(alloc, &formula_of(alloc, shapes)?)?;
+    Ok(shown(alloc, &tree)?)
+}
+
+fn formula_of(alloc: Global, shapes: &[Shape]) -> Result<Formula, NoMemory> {
     let mut pieces = Vec::new(alloc);
     for shape in shapes {
         pieces.push(piece_of(alloc, *shape)?)?;
     }
+    Ok(Formula {
+        pieces: Items::of(pieces),
+    })
+}
+
+fn shown(alloc: Global, tree: &Option<Tree>) -> Result<String, NoMemory> {
     let mut out = String::new(alloc);
-    match tree_of(
-        alloc,
-        &Formula {
-            pieces: Items::of(pieces),
-        },
-    )? {
-        Some(tree) => show(&mut out, &tree)?,
+    match tree {
+        Some(tree) => show(&mut out, tree)?,
         None => out.push_str("none")?,
     }
     Ok(out)

@@ -1,13 +1,13 @@
 ghost use Rattle.std.specs.Prelude.{◌≡◌, ◌≤◌, length, IfOk, option_map};
-ghost use Rattle.formula_reader.specs.Front.{signs, negated, IsAnswer, Reads};
+ghost use Rattle.formula_reader.specs.LevelReading.{signs, negated, IsAnswer, Reads};
 ghost use Rattle.formula_reader.specs.Tree.{expression_of};
 
 use super::level::Level;
 use super::primary::read_primary;
 use crate::symbols::Symbol;
+use crate::tokens::Operator;
 use crate::tree::Tree;
 use cell_value::NoMemory;
-use formula_tokens::Operator;
 use std::alloc::Global;
 
 /// How many of the signs that the symbols begin with are `-`, and what is behind the signs.

@@ -4,8 +4,8 @@ ghost use Rattle.formula_reader.specs.Only.{IsOnly};
 ghost use Rattle.formula_reader.specs.Symbols.{AreSymbolsOf, AreOfPieces, AreOfPiece, symbols_of};
 
 use super::Symbol;
+use crate::tokens::{Placed, tokens_of};
 use cell_value::{Duplicate, NoMemory};
-use formula_tokens::{Placed, tokens_of};
 use ref_rewrite::Piece;
 use std::alloc::Global;
 

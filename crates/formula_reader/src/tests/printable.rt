@@ -1,17 +1,18 @@
 ghost use Rattle.std.specs.Prelude.{◌≡◌, IsTrue, All};
-ghost use Rattle.ref_rewrite.specs.Following.{IsWithinOn};
+ghost use Rattle.ref_rewrite.specs.Following.{IsPieceWithinOn};
 ghost use Rattle.formula_reader.specs.ReferenceText.{HasForm, AreLines};
 ghost use Rattle.formula_reader.specs.Sheets.{HasTitle};
 ghost use Rattle.formula_reader.specs.Printed.{IsPrintable, IsPrintableReference, ArePrintable};
 ghost use Rattle.formula_reader.specs.Workbook.{sheets_of};
 
 use super::workbook::Workbook;
+use a1_notation::{NAMED_COLUMNS, NUMBERED_ROWS};
 use grid_range::{Axis, Band};
 use ref_rewrite::{Piece, Ref};
 
 /// Whether each reference to the sheet is within `count` lines.
 pub(super) fn are_within(pieces: &[Piece], sheet: u32, axis: Axis, count: u32) -> bool
-    ensures { IsTrue result → All (IsWithinOn sheet axis count) pieces.now }
+    ensures { IsTrue result → All (IsPieceWithinOn sheet axis count) pieces.now }
 {
     for piece in pieces {
         if !is_within(piece, sheet, axis, count) {
@@ -22,7 +23,7 @@ pub(super) fn are_within(pieces: &[Piece], sheet: u32, axis: Axis, count: u32) -
 }
 
 fn is_within(piece: &Piece, sheet: u32, axis: Axis, count: u32) -> bool
-    ensures { IsTrue result → IsWithinOn sheet axis count piece.now }
+    ensures { IsTrue result → IsPieceWithinOn sheet axis count piece.now }
 {
     let Piece::Ref(reference) = piece else {
         return true;
@@ -77,7 +78,7 @@ fn has_form(rows: Band, cols: Band) -> bool
     match cols {
         Band::Whole => are_rows(rows),
         Band::From(_) => false,
-        Band::Span(start, end) => start < end && end <= 18_278 && begin_rows(rows),
+        Band::Span(start, end) => start < end && end <= NAMED_COLUMNS && begin_rows(rows),
     }
 }
 
@@ -86,16 +87,16 @@ fn are_rows(rows: Band) -> bool
 {
     match rows {
         Band::Whole | Band::From(_) => false,
-        Band::Span(start, end) => start < end && end <= 9_999_999,
+        Band::Span(start, end) => start < end && end <= NUMBERED_ROWS,
     }
 }
 
 fn begin_rows(rows: Band) -> bool
-    ensures { IsTrue result → AreLines 9999999 rows }
+    ensures { IsTrue result → AreLines NUMBERED_ROWS rows }
 {
     match rows {
         Band::Whole => true,
-        Band::From(start) => start < 9_999_999,
-        Band::Span(start, end) => start < end && end <= 9_999_999,
+        Band::From(start) => start < NUMBERED_ROWS,
+        Band::Span(start, end) => start < end && end <= NUMBERED_ROWS,
     }
 }

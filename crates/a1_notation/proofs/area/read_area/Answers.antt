@@ -8,7 +8,8 @@ returns-in_default-clause-none c = λ rows columns. c.in_default.ensures.none 3 
 
 pub returns-then-is_past_zzz-clause-none : goal.returns-then-is_past_zzz-clause-none
 returns-then-is_past_zzz-clause-none c =
-    past_is_no_area c.args.text.now c.in-Some.rows c.in-Some.columns c.in-Some.ensures.area (c.is_past_zzz.ensures.0 c.if-is_past_zzz.true)
+    past_is_no_area c.args.text.now c.in-Some.rows c.in-Some.columns c.in-Some.ensures.area
+    (c.is_past_zzz.ensures.0 c.if-is_past_zzz.true)
 
 pub returns-clause-area : goal.returns-clause-area
 returns-clause-area c =

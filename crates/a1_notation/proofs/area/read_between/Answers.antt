@@ -9,8 +9,10 @@ area_between-requires-clause-other c = capped_room c.args.second.now c.in_ok-oth
 
 pub returns-clause-area : goal.returns-clause-area
 returns-clause-area c =
-    (between_answer c.args.first.now c.args.second.now c.in_ok-one.one c.in_ok-other.other c.area_between.result c.in_ok-one.ensures.corner c.in_ok-other.ensures.corner c.area_between.ensures).0
+    (between_answer c.args.first.now c.args.second.now c.in_ok-one.one c.in_ok-other.other c.area_between.result
+    c.in_ok-one.ensures.corner c.in_ok-other.ensures.corner c.area_between.ensures).0
 
 pub returns-clause-none : goal.returns-clause-none
 returns-clause-none c =
-    (between_answer c.args.first.now c.args.second.now c.in_ok-one.one c.in_ok-other.other c.area_between.result c.in_ok-one.ensures.corner c.in_ok-other.ensures.corner c.area_between.ensures).1
+    (between_answer c.args.first.now c.args.second.now c.in_ok-one.one c.in_ok-other.other c.area_between.result
+    c.in_ok-one.ensures.corner c.in_ok-other.ensures.corner c.area_between.ensures).1

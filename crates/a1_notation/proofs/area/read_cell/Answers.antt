@@ -13,4 +13,5 @@ area_between-requires-clause-other c = capped_room c.args.text.now c.in_ok-corne
 
 pub returns-in-Cell-clause-area : goal.returns-in-Cell-clause-area
 returns-in-Cell-clause-area c =
-    cell_answer c.args.text.now c.in-Cell.field-0 c.in-Cell.field-1 c.area_between.result (rw c.in-Cell.is at c.in_ok-corner.ensures.corner) (rw c.in-Cell.is at c.area_between.ensures)
+    cell_answer c.args.text.now c.in-Cell.field-0 c.in-Cell.field-1 c.area_between.result
+    (rw c.in-Cell.is at c.in_ok-corner.ensures.corner) (rw c.in-Cell.is at c.area_between.ensures)

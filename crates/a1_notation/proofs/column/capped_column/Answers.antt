@@ -1,11 +1,14 @@
 use Rattle.std.proofs.Common.{arith}
 use Rattle.std.proofs.lemmas.List.{take_all}
-use Rattle.a1_notation.proofs.Letters.{letters_value_bounds, capped_more}
+use Rattle.a1_notation.proofs.ColumnLetters.{letters_value_bounds}
+use Rattle.a1_notation.proofs.Letters.{capped_more}
 use Rattle.a1_notation.proofs.column.capped_column.Goals as goal
 
 pub loop-letter-preserved : goal.loop-letter-preserved
 loop-letter-preserved c =
-    let more = capped_more c.args.letters.now c.loop-letter.letter-index c.loop-letter.number c.to_ascii_uppercase.result c.requires.letters (omega arith) c.loop-letter.invariant c.to_ascii_uppercase.ensures.value in
+    let more = capped_more c.args.letters.now c.loop-letter.letter-index c.loop-letter.number
+    c.to_ascii_uppercase.result c.requires.letters
+    (omega arith) c.loop-letter.invariant c.to_ascii_uppercase.ensures.value in
     omega (arith, more)
 
 pub overflow_sub-result : goal.overflow_sub-result

@@ -5,7 +5,8 @@ use Rattle.a1_notation.proofs.column.read_column.Goals as goal
 answers : (c : goal.After-then_some) → AnswersColumn c.args.text.now c.then_some.result
 answers c =
     let letters = sym c.are_letters.ensures ∙ c.if-not-are_letters.false in
-    let found = answers_column c.as_bytes-letters.result.now c.capped_column-column.result c.then_some.result letters (search rules) c.capped_column-column.ensures c.then_some.ensures in
+    let found = answers_column c.as_bytes-letters.result.now c.capped_column-column.result c.then_some.result letters
+    (search rules) c.capped_column-column.ensures c.then_some.ensures in
     rw c.as_bytes-letters.ensures.value at found
 
 pub returns-clause-column : goal.returns-clause-column

@@ -9,17 +9,22 @@ use Rattle.a1_notation.proofs.reading.read_unquoted.Goals as goal
 
 pub returns-then-not-is_loose : goal.returns-then-not-is_loose
 returns-then-not-is_loose c =
-    let parts = rw c.in-Some.is at (split_parts 33 c.args.text.now c.split_once.result c.split_once.ensures.cases (lit< tt)) in
+    let parts =
+    rw c.in-Some.is at (split_parts 33 c.args.text.now c.split_once.result c.split_once.ensures.cases (lit< tt)) in
     not_a1_reading c.args.text.now (λ most range names.
-    let found = marked most c.args.text.now c.in-Some.title.now c.in-Some.area.now range c.requires parts.0 (all_other_than 33 c.in-Some.title.now parts.1) names in
+    let found = marked most c.args.text.now c.in-Some.title.now c.in-Some.area.now range c.requires parts.0
+    (all_other_than 33 c.in-Some.title.now parts.1) names in
     false≢true (sym c.if-not-is_loose.true ∙ c.is_loose.ensures.1 found.loose))
 
 pub returns-in_err-rows-in-Some : goal.returns-in_err-rows-in-Some
 returns-in_err-rows-in-Some c =
     let p = err_from_is_err_and c.from_residual.result c.from_residual.ensures.1 in
-    let parts = rw c.in-Some.is at (split_parts 33 c.args.text.now c.split_once.result c.split_once.ensures.cases (lit< tt)) in
+    let parts =
+    rw c.in-Some.is at (split_parts 33 c.args.text.now c.split_once.result c.split_once.ensures.cases (lit< tt)) in
     let fault = c.in_err-rows-in-Some.field-0.0 in
-    rw (p.1, p.2) (marked_fault c.args.text.now c.in-Some.title.now c.in-Some.area.now fault c.requires parts.0 (all_other_than 33 c.in-Some.title.now parts.1)
+    rw (p.1, p.2)
+    (marked_fault c.args.text.now c.in-Some.title.now c.in-Some.area.now fault c.requires parts.0
+    (all_other_than 33 c.in-Some.title.now parts.1)
     (c.is_loose.ensures.0 c.if-not-is_loose.false)
     (record {
       none = c.in_err-rows-in-Some.ensures.none;
@@ -29,4 +34,5 @@ returns-in_err-rows-in-Some c =
 
 pub read_without_sheet-requires-clause-mark : goal.read_without_sheet-requires-clause-mark
 read_without_sheet-requires-clause-mark c =
-    all_other_than 33 c.args.text.now (rw c.in-None.is at (split_parts 33 c.args.text.now c.split_once.result c.split_once.ensures.cases (lit< tt)))
+    all_other_than 33 c.args.text.now
+    (rw c.in-None.is at (split_parts 33 c.args.text.now c.split_once.result c.split_once.ensures.cases (lit< tt)))

@@ -4,8 +4,10 @@ use Rattle.a1_notation.proofs.row.read_row.Goals as goal
 
 parsed : (c : goal.In_ok-number) → IsParsedRow c.args.text.now c.in_ok-number.number
 parsed c =
-    row_parsed c.args.text.now c.in_ok-number.number (c.begins_positive.ensures.0 c.if-not-begins_positive.false) c.if-text-gt-DIGITS.false
-    (parsed_some c.args.text.now c.in_ok-number.number c.parse.result (sym c.in_ok-number.ensures.value) c.parse.ensures.value.0)
+    row_parsed c.args.text.now c.in_ok-number.number
+    (c.begins_positive.ensures.0 c.if-not-begins_positive.false) c.if-text-gt-DIGITS.false
+    (parsed_some c.args.text.now c.in_ok-number.number c.parse.result
+    (sym c.in_ok-number.ensures.value) c.parse.ensures.value.0)
 
 pub overflow_sub-result : goal.overflow_sub-result
 overflow_sub-result c = (parsed c).0

@@ -12,9 +12,13 @@ not_marked (first ∷ more) other = elim (cases_Bool (nat_eq first 39)) [
   | inr plain ↦ plain
 ]
 
-if_none : (text : List ℕ) (r : Option (Bor (List ℕ))) → MatchOption r ((rest : List ℕ) → text ≢ 39 ∷ rest) (λ x. text ≡ 39 ∷ x.now) → IfNone r (is_marked_text text ≡ false)
+if_none : (text : List ℕ) (r : Option (Bor (List ℕ)))
+    → MatchOption r ((rest : List ℕ) → text ≢ 39 ∷ rest) (λ x. text ≡ 39 ∷ x.now)
+    → IfNone r (is_marked_text text ≡ false)
 if_none text None found = not_marked text found
 if_none text (Some x) found = tt
 
 pub returns-clause-none : goal.returns-clause-none
-returns-clause-none c = if_none c.args.text.now c.strip_prefix.result (strip_prefix_char 39 c.args.text.now c.strip_prefix.result c.strip_prefix.ensures.cases (lit< tt))
+returns-clause-none c =
+    if_none c.args.text.now c.strip_prefix.result
+    (strip_prefix_char 39 c.args.text.now c.strip_prefix.result c.strip_prefix.ensures.cases (lit< tt))

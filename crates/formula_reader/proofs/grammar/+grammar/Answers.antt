@@ -1,7 +1,7 @@
 use Rattle.std.proofs.Common.{◌≡◌, ℕ, List, map, ap, ◌∙◌, arith, length}
 use Rattle.std.specs.Prelude.{Some, None}
 use Rattle.std.proofs.lemmas.List.{map-append}
-use Rattle.formula_reader.specs.Tree.{expression_of, call, no_arguments, behind}
+use Rattle.formula_reader.specs.Tree.{expression_of, call, no_arguments, arguments_before}
 use Rattle.formula_reader.proofs.Answers.{alike_both, answer_alike, answer_alike_ok, on_alike, on_none, on_end, chain_alike, chain_none, left_within}
 use Rattle.formula_reader.proofs.Operands.{signed_answer, signed_none, leaf_read, leaf_none, empty_none, bracket_answer, bracket_none, bracket_open, call_answer, call_none, call_bare}
 use Rattle.formula_reader.proofs.Lists.{comma_alike, close_answer, argument_none, other_none}
@@ -34,8 +34,10 @@ chain::read_operands-loop-operator-preserved t c =
     let level : c.tighter.result ≡ _ = c.tighter.ensures in
     record {
       alike = alike_both _ _ _ c.loop-operator.invariant.alike
-          (on_alike c.args.level _ (expression_of c.loop-operator.tree) (expression_of c.in-Some-2.operand) _ c.in-Some.operator
-          c.loop-operator.rest.now c.in-Some.behind.now c.in-Some-2.more.now c.in-Some.ensures.some.0 c.in-Some.ensures.some.1
+          (on_alike c.args.level _ (expression_of c.loop-operator.tree)
+          (expression_of c.in-Some-2.operand) _ c.in-Some.operator
+          c.loop-operator.rest.now c.in-Some.behind.now c.in-Some-2.more.now c.in-Some.ensures.some.0
+          c.in-Some.ensures.some.1
           level c.in_ok-tree-in-Some-2.ensures is);
       ends = rw level at is.0.ends;
       left = omega (arith, left_within _ _ _ _ is.0, ap length c.in-Some.ensures.some.0);
@@ -50,7 +52,8 @@ chain::read_operands-returns-in-None t c =
 
 pub chain::read_operands-returns : goal.chain::read_operands-returns
 chain::read_operands-returns t c =
-    answer_alike _ _ (Some (expression_of c.loop-operator.tree, c.loop-operator.rest.now)) c.loop-operator.invariant.alike
+    answer_alike _ _
+    (Some (expression_of c.loop-operator.tree, c.loop-operator.rest.now)) c.loop-operator.invariant.alike
     (on_end c.args.level (expression_of c.loop-operator.tree) c.loop-operator.rest.now c.requires.level
     c.loop-operator.invariant.ends c.in_default.ensures.none)
 
@@ -93,7 +96,7 @@ primary::read_call-returns-in-None t c =
 
 pub primary::read_call-returns-in_ok-duplicate-in-Some-2 : goal.primary::read_call-returns-in_ok-duplicate-in-Some-2
 primary::read_call-returns-in_ok-duplicate-in-Some-2 t c =
-    let trees = behind (map expression_of c.in-Some-2.arguments.items) no_arguments in
+    let trees = arguments_before (map expression_of c.in-Some-2.arguments.items) no_arguments in
     call_answer c.args.name.now c.args.symbols.now c.in-Some.inside.now (expression_of c.call.result) trees
     c.in-Some-2.rest.now c.in-Some.ensures.some
     (c.call.ensures ∙ ap (λ (name : List ℕ). call name trees) c.in_ok-duplicate-in-Some-2.ensures)
@@ -113,7 +116,8 @@ arguments::read_list-returns-in-None t c =
 pub arguments::read_list-returns-in-Some-strip_close : goal.arguments::read_list-returns-in-Some-strip_close
 arguments::read_list-returns-in-Some-strip_close t c =
     let all = map expression_of c.push.new.self.items in
-    answer_alike _ _ (Some (behind all no_arguments, c.in-Some-strip_close.more.now)) c.loop-arguments.invariant.alike
+    answer_alike _ _
+    (Some (arguments_before all no_arguments, c.in-Some-strip_close.more.now)) c.loop-arguments.invariant.alike
     (close_answer _ all c.loop-arguments.unread.now (expression_of c.in-Some.argument) c.in-Some.rest.now
     c.in-Some-strip_close.more.now (ap (map expression_of) c.in_ok-push.ensures.items ∙ map-append expression_of _ _)
     c.in-Some-strip_close.ensures.some (rw c.in-Some.is at c.in_ok-argument.ensures))
@@ -123,7 +127,8 @@ arguments::read_list-loop-arguments-preserved t c =
     let is = rw c.in-Some.is at c.in_ok-argument.ensures in
     record {
       alike = alike_both _ _ _ c.loop-arguments.invariant.alike
-          (comma_alike _ (map expression_of c.push.new.self.items) c.loop-arguments.unread.now (expression_of c.in-Some.argument)
+          (comma_alike _ (map expression_of c.push.new.self.items) c.loop-arguments.unread.now
+          (expression_of c.in-Some.argument)
           c.in-Some.rest.now c.in-Some-strip_comma.more.now
           (ap (map expression_of) c.in_ok-push.ensures.items ∙ map-append expression_of _ _)
           c.in-Some-strip_comma.ensures.some is);

@@ -1,5 +1,5 @@
 use Rattle.std.proofs.Common.{◌+◌, ◌-◌, ◌*◌, ◌≤◌, length, map}
-use Rattle.formula_reader.specs.Front.{rank, Ends, ReadsArguments, ReadsOn}
+use Rattle.formula_reader.specs.LevelReading.{rank, Ends, ReadsArguments, ReadsOn}
 use Rattle.formula_reader.specs.Grammar.{tighter}
 use Rattle.formula_reader.specs.Tree.{expression_of}
 use Rattle.formula_reader.proofs.Answers.{Alike}
@@ -50,7 +50,8 @@ decreases-arguments::read_list-loop-arguments l = length l.unread
 abbrev pub invariant-chain::read_operands-loop-operator :
     goal.invariant-chain::read_operands-loop-operator
 invariant-chain::read_operands-loop-operator l = record {
-  alike : Alike (ReadsOn l.level (expression_of l.fn.first) l.fn.symbols) (ReadsOn l.level (expression_of l.tree) l.rest);
+  alike : Alike (ReadsOn l.level (expression_of l.fn.first) l.fn.symbols)
+      (ReadsOn l.level (expression_of l.tree) l.rest);
   ends : Ends (tighter l.level) l.rest;
   left : length l.rest ≤ length l.fn.symbols;
 }

@@ -23,6 +23,7 @@ loop-placed-preserved g c =
       c.loop-placed.invariant.1,
       cuts_skipped text c.loop-placed.from _ _ c.in-Some.placed steps.0 c.loop-placed.invariant.2,
       ap (λ pieces. c.loop-placed.pieces.items ++ pieces)
-          (pieces_skipped (g.S.SheetNames.sheets c.args.names.now) c.args.here text c.loop-placed.from _ _ c.in-Some.placed c.piece_of.result steps.0 c.piece_of.ensures c.in_default.is)
+          (pieces_skipped (g.S.SheetNames.sheets c.args.names.now) c.args.here text c.loop-placed.from _ _
+          c.in-Some.placed c.piece_of.result steps.0 c.piece_of.ensures c.in_default.is)
           ∙ c.loop-placed.invariant.3,
     )

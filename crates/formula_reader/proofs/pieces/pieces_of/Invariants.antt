@@ -12,5 +12,6 @@ invariant-loop-placed g l =
     (into_iter_len l.placed-iterator ≡ length (into_iter_items l.placed-iterator))
     × IsCharBoundary l.text l.from
     × Cuts l.text l.from (into_iter_items l.placed-iterator)
-    × (l.pieces.items ++ pieces_from (g.S.SheetNames.sheets l.names) l.here l.text l.from (into_iter_items l.placed-iterator)
+    × (l.pieces.items ++ pieces_from (g.S.SheetNames.sheets l.names) l.here l.text l.from
+    (into_iter_items l.placed-iterator)
     ≡ pieces_from (g.S.SheetNames.sheets l.names) l.here l.text 0 (into_iter_items l.initial.placed-iterator))

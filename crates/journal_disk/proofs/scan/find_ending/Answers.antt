@@ -15,6 +15,7 @@ loop-count-preserved g c =
       front = subst (λ (n : ℕ). IsFront image (c.loop-count.place + (9 + n)) (c.loop-count.held + n)) found.2 longer;
       within = omega (arith, room);
       small = omega (arith, inv.small);
-      read = read_then g.D.Disk.seen g.D.Disk.may_leave g.D.Disk.moment g.D.Disk.left_since c.args.disk.now c.loop-count.disk c.record_at.new.disk inv.read c.record_at.ensures.read;
+      read = read_then g.D.Disk.seen g.D.Disk.may_leave g.D.Disk.moment g.D.Disk.left_since c.args.disk.now
+          c.loop-count.disk c.record_at.new.disk inv.read c.record_at.ensures.read;
       faults = omega (arith, inv.faults, c.record_at.ensures.cause.later);
     }

@@ -18,5 +18,10 @@ returns-clause-found c rest is_left =
     let small : (i : ℕ) → get_or c.args.length_bytes i 0 < 256 = search rules in
     let fits : count < 2 ^ 64 = omega (arith, c.if-count-left.false, c.ranges.left.fits) in
     let room : count < length rest = omega (arith, c.if-count-left.false, is_left, c.requires) in
-    let found = stands c.args.length_bytes rest count eight small c.from_be_bytes-count.ensures fits room in
-    (found.0, found.1, found.2, subst (λ (gate : ℕ). IsRecord (gate ∷ (c.args.length_bytes ++ rest)) found.0 found.1) (sym is_open) found.3)
+    let found = stands c.args.length_bytes rest count eight small c.from_be_bytes-count.ensures fits room in (
+      found.0,
+      found.1,
+      found.2,
+      subst (λ (gate : ℕ). IsRecord
+          (gate ∷ (c.args.length_bytes ++ rest)) found.0 found.1) (sym is_open) found.3,
+    )

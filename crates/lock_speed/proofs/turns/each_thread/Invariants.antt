@@ -4,4 +4,5 @@ use Rattle.lock_speed.specs.Tally.{no_entries, no_pair}
 use Rattle.lock_speed.proofs.turns.each_thread.Given as goal
 
 abbrev pub invariant-loop : goal.invariant-loop
-invariant-loop g l = IsPassOf no_entries no_pair l.lock l.first × All (IsPassOf no_entries no_pair l.lock) l.passes.items
+invariant-loop g l =
+    IsPassOf no_entries no_pair l.lock l.first × All (IsPassOf no_entries no_pair l.lock) l.passes.items

@@ -1,7 +1,7 @@
 use Rattle.std.proofs.Common.{sym}
 use Rattle.std.proofs.lemmas.List.{take_all}
 use Rattle.std.proofs.lemmas.List.Elements.{All-more, All-same}
-use Rattle.protection.specs.Following.{IsWithinOn}
+use Rattle.grid_range.specs.Area.{IsWithinOn}
 use Rattle.protection.proofs.tests.ranges_within.Goals as goal
 
 pub loop-range-preserved : goal.loop-range-preserved

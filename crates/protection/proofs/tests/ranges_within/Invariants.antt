@@ -1,5 +1,5 @@
 use Rattle.std.proofs.Common.{All, take}
-use Rattle.protection.specs.Following.{IsWithinOn}
+use Rattle.grid_range.specs.Area.{IsWithinOn}
 use Rattle.protection.proofs.tests.ranges_within.Given as goal
 
 abbrev pub invariant-loop-range : goal.invariant-loop-range

@@ -6,7 +6,12 @@ use Rattle.ref_rewrite.proofs.renaming.rename_word.Goals.{then-is_word+in-Some+i
 pub loop-piece-preserved : goal.loop-piece-preserved
 loop-piece-preserved c =
     let there : c.loop-piece.piece-index < length c.args.formula.now.pieces =
-    omega (arith, c.loop-piece-test.true, ap length c.take_pieces-pieces.ensures.taken, c.deref_mut-piece-items.ensures.len) in
+    omega (
+      arith,
+      c.loop-piece-test.true,
+      ap length (c.into_vec-pieces.ensures ∙ c.take.ensures.taken),
+      c.deref_mut-piece-items.ensures.len,
+    ) in
     elim c.if-is_word.branch [
       | then-is_word+in-Some+in-Text-1 w ↦ rw (w.piece-items-is, w.words-is)
           (word_put _ _ _ _ _ _ _ _ _ there c.loop-piece.invariant c.piece-item.is

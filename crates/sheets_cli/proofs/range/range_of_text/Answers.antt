@@ -10,18 +10,22 @@ pub returns-in-Some : goal.returns-in-Some
 returns-in-Some c =
     IfOk-weaker _ (FindsOnly (IsTextOf c.args.text.now) c.in-Some.rectangle) _
     (only_range c.args.text.now c.in-Ok.range c.in-Some.rectangle c.in-Some.ensures
-    (read_as c.args.text.now c.read_a1.result c.in-Ok.range c.in-Ok.is c.read_a1.ensures.named))
+    (read_as c.a1_laws.ensures.reads_back c.args.text.now c.read_a1.result c.in-Ok.range c.in-Ok.is
+    c.read_a1.ensures.named))
     c.if_canonical.ensures
 
 pub returns-in-Ok : goal.returns-in-Ok
 returns-in-Ok c = λ range of.
     c.in-None.ensures range
     (part_is c.in-Ok.range range c.args.text.now
-    (read_as c.args.text.now c.read_a1.result c.in-Ok.range c.in-Ok.is c.read_a1.ensures.named range of) of)
+    (read_as c.a1_laws.ensures.reads_back c.args.text.now c.read_a1.result c.in-Ok.range c.in-Ok.is
+    c.read_a1.ensures.named range of) of)
 
 pub returns : goal.returns
 returns c =
     IfOk-weaker _ (λ (found : Option Rectangle). (found ≡ None) × (c.in-Err.fault ≡ NoMemory → ⊥)) _
     (λ found none. subst (λ (f : Option Rectangle). Finds (IsTextOf c.args.text.now) f) (sym none.0)
-    (λ range of. not_read c.args.text.now c.read_a1.result c.in-Err.fault c.in-Err.is none.1 c.read_a1.ensures.named range of))
+    (λ range of. not_read c.a1_laws.ensures.reads_back c.args.text.now c.read_a1.result c.in-Err.fault c.in-Err.is
+    none.1 c.read_a1.ensures.named
+    range of))
     c.no_range.ensures

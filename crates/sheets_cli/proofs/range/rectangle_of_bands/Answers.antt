@@ -12,9 +12,14 @@ pub returns-in-Span-columns : goal.returns-in-Span-columns
 returns-in-Span-columns c =
     let rows = c.in-Span in
     let columns = c.in-Span-columns in
-    let cells : Cells c.args.rows.now c.args.columns.now ≡ Cells (Span rows.top rows.bottom) (Span columns.left columns.right) =
-    ap (λ (b : Band). Cells b c.args.columns.now) rows.is ∙ ap (λ (b : Band). Cells (Span rows.top rows.bottom) b) columns.is in
-    Finds-same (IsRectangleOf (rows.top, rows.bottom) (columns.left, columns.right)) (IsPartOf (Cells c.args.rows.now c.args.columns.now))
-    (of_rectangle (Cells c.args.rows.now c.args.columns.now) (rows.top, rows.bottom) (columns.left, columns.right) cells)
-    (to_rectangle (Cells c.args.rows.now c.args.columns.now) (rows.top, rows.bottom) (columns.left, columns.right) cells)
+    let cells : Cells c.args.rows.now c.args.columns.now ≡ Cells (Span rows.top rows.bottom)
+    (Span columns.left columns.right) =
+    ap (λ (b : Band). Cells b c.args.columns.now) rows.is
+    ∙ ap (λ (b : Band). Cells (Span rows.top rows.bottom) b) columns.is in
+    Finds-same (IsRectangleOf (rows.top, rows.bottom) (columns.left, columns.right))
+    (IsPartOf (Cells c.args.rows.now c.args.columns.now))
+    (of_rectangle (Cells c.args.rows.now c.args.columns.now) (rows.top, rows.bottom) (columns.left, columns.right)
+    cells)
+    (to_rectangle (Cells c.args.rows.now c.args.columns.now) (rows.top, rows.bottom) (columns.left, columns.right)
+    cells)
     c.rectangle_on_sheet.result c.rectangle_on_sheet.ensures

@@ -1,4 +1,4 @@
-use Rattle.std.proofs.Common.{ℕ, List, ◌≡◌, arith, ap, ◌∙◌}
+use Rattle.std.proofs.Common.{List, arith, ap, ◌∙◌}
 use Rattle.std.proofs.Math.Path.{fun_ext}
 use Rattle.cell_value.specs.declared.entered.Input.{Input}
 use Rattle.sheets_cli.specs.Reply.{json_response, update_of}
@@ -14,7 +14,8 @@ write-requires-clause-columns c = λ k d less.
 pub returns-clause-ok : goal.returns-clause-ok
 returns-clause-ok c =
     c.in_ok-response.ensures
-    ∙ ap (λ (values : List (List Input)). json_response 200 c.args.close (update_of c.args.range values)) c.as_slice.ensures
+    ∙ ap (λ (values : List (List Input)). json_response 200 c.args.close (update_of c.args.range values))
+    c.as_slice.ensures
 
 pub returns-clause-written : goal.returns-clause-written
 returns-clause-written c = fun_ext (λ row. fun_ext (λ column. c.write.ensures row column))

@@ -5,7 +5,8 @@ use Rattle.sheets_cli.proofs.report.send_truncated.Goals as goal
 
 pub returns-in-Ok-clause-sends : goal.returns-in-Ok-clause-sends
 returns-in-Ok-clause-sends g c =
-    Sends-then _ _ _ (codes "truncated ") (decimal c.args.count ++ codes "\n") _ _ c.in-Ok.ensures.sent c.send_count.ensures.sends
+    Sends-then _ _ _ (codes "truncated ") (decimal c.args.count ++ codes "\n") _ _ c.in-Ok.ensures.sent
+    c.send_count.ensures.sends
 
 pub returns-in-Err-clause-sends : goal.returns-in-Err-clause-sends
 returns-in-Err-clause-sends g c =

@@ -9,4 +9,5 @@ use Rattle.sheets_cli.proofs.route.write_call.Goals as goal
 pub returns-in-None : goal.returns-in-None
 returns-in-None c =
     no_write c.args.request.now c.requires
-    (subst (λ (found : Option Rectangle). Finds (NamesWritten c.args.request.now.target) found) c.in-None.is (rw c.as_str.ensures at c.in_ok-range.ensures))
+    (subst (λ (found : Option Rectangle). Finds (NamesWritten c.args.request.now.target) found) c.in-None.is
+    (rw c.as_str.ensures at c.in_ok-range.ensures))

@@ -1,4 +1,4 @@
-use Rattle.std.proofs.Common.{◌≡◌, arith, rules}
+use Rattle.std.proofs.Common.{arith, rules}
 use Rattle.std.proofs.lemmas.Result.{IfOk-weaker}
 use Rattle.sheets_cli.specs.Range.{Finds, NamesRange}
 use Rattle.sheets_cli.specs.Route.{IsRaw}

@@ -8,7 +8,8 @@ use Rattle.sheets_cli.proofs.shown.kept.Given as goal
 abbrev pub invariant-loop-kept : goal.invariant-loop-kept
 invariant-loop-kept l =
     (l.kept ≤ length l.values)
-    × (length l.values - suffix_len is_empty (map view l.values) ≡ l.kept - suffix_len is_empty (take l.kept (map view l.values)))
+    × (length l.values - suffix_len is_empty (map view l.values) ≡ l.kept - suffix_len is_empty
+    (take l.kept (map view l.values)))
 
 abbrev pub decreases-loop-kept : goal.decreases-loop-kept
 decreases-loop-kept l = l.kept

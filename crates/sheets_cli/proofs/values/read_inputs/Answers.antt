@@ -11,5 +11,6 @@ returns-in-None c =
 pub loop-value-preserved : goal.loop-value-preserved
 loop-value-preserved c =
     rw c.in_ok-push-in-Some.ensures.items
-    (IsSoFar-next input_of c.args.values.now c.loop-value.value-index c.loop-value.inputs.items c.value-item.result c.in-Some.input
+    (IsSoFar-next input_of c.args.values.now c.loop-value.value-index c.loop-value.inputs.items c.value-item.result
+    c.in-Some.input
     (omega arith) c.value-item.is (sym c.in_ok-input.ensures ∙ c.in-Some.is) c.loop-value.invariant)

@@ -5,4 +5,5 @@ use Rattle.sheets_http.proofs.fields.content_length.Given as goal
 
 -- the fields from here on tell what all of them do
 abbrev pub invariant-loop-at : goal.invariant-loop-at
-invariant-loop-at l = content_length (map header_parts (drop l.at l.fields)) ≡ content_length (map header_parts l.fields)
+invariant-loop-at l =
+    content_length (map header_parts (drop l.at l.fields)) ≡ content_length (map header_parts l.fields)

@@ -5,6 +5,6 @@ pub returns-in-Ok-clause-answer : goal.returns-in-Ok-clause-answer
 returns-in-Ok-clause-answer g c =
     let body = c.in-None.ensures.body in
     answer_request c.args.most c.args.buffer.now c.wait_for_body.new.buffer c.take_request.new.buffer
-    (g.L.Source.left c.args.link.now) (g.L.Source.left c.wait_for_body.new.link) c.args.end c.args.heading
+    (g.L.Source.left c.args.link.now) (g.L.Source.left c.wait_for_body.new.link) c.args.end c.args.summary
     c.in-Ok.wire c.wait_for_body.ensures.stream c.wait_for_body.ensures.used body.0 body.1 body.2
     c.in-Ok.ensures.buffer c.in-Ok.ensures.wire

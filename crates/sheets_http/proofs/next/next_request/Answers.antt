@@ -1,6 +1,6 @@
 use Rattle.std.proofs.Common.{ap, ◌∙◌, arith}
-use Rattle.sheets_http.specs.declared.next.Turn.TheVariants as turn
-use Rattle.sheets_http.specs.Buffering.{room_of, stream_of}
+use Rattle.sheets_http.specs.declared.next.Progress.TheVariants as progress
+use Rattle.sheets_http.specs.Requests.{room_of, stream_of}
 use Rattle.sheets_http.proofs.AnswerLemmas.{exact_on_stream}
 use Rattle.sheets_http.proofs.next.next_request.Goals as goal
 
@@ -11,8 +11,8 @@ returns-in-Answer-clause-exactly g c =
     (stream_of c.read_once.new.buffer (g.L.Source.left c.read_once.new.link))
     (g.L.Source.faults c.args.link.now) (g.L.Source.faults c.loop-next.link)
     (g.L.Source.faults c.read_once.new.link) c.in-Answer.next c.loop-next.invariant.stream
-    c.loop-next.invariant.used c.loop-next.invariant.later c.in-Answer.ensures.turn
-    (λ e. c.in-Answer.ensures.fault (ap turn.Answer e))
+    c.loop-next.invariant.used c.loop-next.invariant.later c.in-Answer.ensures.progress
+    (λ e. c.in-Answer.ensures.fault (ap progress.Answer e))
 
 pub returns-in-Head-clause-exactly : goal.returns-in-Head-clause-exactly
 returns-in-Head-clause-exactly g c =

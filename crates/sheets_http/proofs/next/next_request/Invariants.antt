@@ -1,6 +1,6 @@
 use Rattle.std.proofs.Common.{◌≡◌, ◌-◌, ◌≤◌, length}
 use Rattle.sheets_http.specs.Outside.{StaysSteady}
-use Rattle.sheets_http.specs.Buffering.{room_of, stream_of}
+use Rattle.sheets_http.specs.Requests.{room_of, stream_of}
 use Rattle.sheets_http.proofs.next.next_request.Given as goal
 
 -- the stream and the bound are those from the start, and the count of faults didn't fall

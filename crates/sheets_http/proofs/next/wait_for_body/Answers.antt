@@ -2,14 +2,15 @@ use Rattle.std.proofs.Common.{◌≡◌, List, length, take, refl, ap, ◌∙◌
 use Rattle.std.specs.Prelude.{Ok}
 use Rattle.sheets_http.specs.declared.request.Next.{Next}
 use Rattle.sheets_http.specs.Heads.{skip_breaks}
-use Rattle.sheets_http.specs.Buffering.{room_of, stream_of, end_answer}
-use Rattle.sheets_http.proofs.AnswerLemmas.{Answers, room_is, head_and_body, sight_with_more, body_too_long, body_cut}
+use Rattle.sheets_http.specs.Requests.{room_of, stream_of}
+use Rattle.sheets_http.specs.Buffering.{end_answer}
+use Rattle.sheets_http.proofs.AnswerLemmas.{Answers, room_is, few_bytes, scanned_with_more, body_too_long, body_cut}
 use Rattle.sheets_http.proofs.next.wait_for_body.Goals as goal
 
 pub overflow_add-whole : goal.overflow_add-whole
 overflow_add-whole g c =
-    let small = head_and_body (take (room_of c.args.most c.args.buffer.now) c.args.buffer.now.pending) c.args.end
-    c.args.heading.now c.requires in
+    let small = few_bytes (take (room_of c.args.most c.args.buffer.now) c.args.buffer.now.pending) c.args.end
+    c.args.summary.now c.requires in
     omega (arith, small)
 
 pub returns-then-room-held-clause-body : goal.returns-then-room-held-clause-body
@@ -18,7 +19,7 @@ returns-then-room-held-clause-body g c =
     c.saturating_sub-room.ensures c.used.ensures in
     body_too_long c.args.most c.args.buffer.now c.body.buffer (g.L.Source.left c.args.link.now)
     (g.L.Source.left c.body.link) (stream_of c.body.buffer (g.L.Source.left c.body.link))
-    (room_of c.args.most c.body.buffer) c.args.end c.args.heading.now c.body.invariant.stream
+    (room_of c.args.most c.body.buffer) c.args.end c.args.summary.now c.body.invariant.stream
     c.body.invariant.used c.body.invariant.head
     (omega (
       arith,
@@ -36,12 +37,12 @@ returns-in-Ok-eq0-clause-body g c =
     c.saturating_sub-room.ensures c.used.ensures in
     let nothing : c.fill.result ≡ Ok 0 = cc (c.in-Ok-eq0.is, c.in-Ok-eq0.field-0-test) in
     let same = c.fill.ensures.end nothing in
-    let head = sight_with_more (room_of c.args.most c.args.buffer.now) c.body.buffer.pending
-    c.fill.new.self.pending c.args.end c.args.heading.now c.fill.ensures.kept c.body.invariant.head in
+    let head = scanned_with_more (room_of c.args.most c.args.buffer.now) c.body.buffer.pending
+    c.fill.new.self.pending c.args.end c.args.summary.now c.fill.ensures.kept c.body.invariant.head in
     let cut = body_cut c.args.most c.args.buffer.now c.fill.new.self c.fill.new.self
     (g.L.Source.left c.args.link.now) (g.L.Source.left c.fill.new.source)
     (stream_of c.fill.new.self (g.L.Source.left c.fill.new.source)) (room_of c.args.most c.fill.new.self)
-    c.args.end c.args.heading.now (c.body.invariant.stream ∙ c.fill.ensures.stream)
+    c.args.end c.args.summary.now (c.body.invariant.stream ∙ c.fill.ensures.stream)
     (c.fill.ensures.used ∙ c.body.invariant.used) head
     (omega (
       arith,
@@ -64,8 +65,8 @@ pub body-preserved : goal.body-preserved
 body-preserved g c = record {
   stream = c.body.invariant.stream ∙ c.fill.ensures.stream;
   used = c.fill.ensures.used ∙ c.body.invariant.used;
-  head = sight_with_more (room_of c.args.most c.args.buffer.now) c.body.buffer.pending c.fill.new.self.pending
-      c.args.end c.args.heading.now c.fill.ensures.kept c.body.invariant.head;
+  head = scanned_with_more (room_of c.args.most c.args.buffer.now) c.body.buffer.pending c.fill.new.self.pending
+      c.args.end c.args.summary.now c.fill.ensures.kept c.body.invariant.head;
   later = omega (arith, c.body.invariant.later, c.fill.ensures.later);
   steady = λ s.
       let before = c.body.invariant.steady s in

@@ -5,4 +5,5 @@ use Rattle.cell_store.proofs.Tables.{filled-view}
 use Rattle.cell_store.proofs.tree.TreeGridGrid.filled.Goals as goal
 
 pub returns : goal.returns
-returns g c = c.len.ensures.len ∙ filled-view c.self.inside.rows c.self.inside.cols c.self.inside.items.entries c.self.view_is (IsDistinct-from_sorted by_rows _ c.len.ensures.ordered)
+returns g c = c.len.ensures.len ∙ filled-view c.self.inside.rows c.self.inside.cols c.self.inside.items.entries
+    c.self.view_is (IsDistinct-from_sorted by_rows _ c.len.ensures.ordered)

@@ -1,5 +1,5 @@
 use Rattle.std.proofs.Common.{◌≡◌, ◌+◌, ◌≤◌, length}
-use Rattle.formula_reader.specs.Front.{signs}
+use Rattle.formula_reader.specs.LevelReading.{signs}
 use Rattle.formula_reader.proofs.grammar.unary.read_signs.Given as goal
 
 -- the signs so far and those of the rest are all of them

@@ -1,5 +1,5 @@
 use Rattle.std.proofs.Common.{◌≡◌}
-use Rattle.formula_reader.specs.Front.{negated}
+use Rattle.formula_reader.specs.LevelReading.{negated}
 use Rattle.formula_reader.specs.Tree.{expression_of}
 use Rattle.formula_reader.proofs.grammar.unary.with_minus.Given as goal
 

@@ -7,4 +7,5 @@ use Rattle.formula_reader.proofs.symbols.pieces.symbols_of_tokens.Given as goal
 abbrev pub invariant-loop-placed : goal.invariant-loop-placed
 invariant-loop-placed l =
     (into_iter_len l.placed-iterator ≡ length (into_iter_items l.placed-iterator))
-    × (option_map (λ later. l.symbols.items ++ later) (symbols_of (into_iter_items l.placed-iterator)) ≡ symbols_of l.fn.tokens.items)
+    × (option_map (λ later. l.symbols.items ++ later)
+    (symbols_of (into_iter_items l.placed-iterator)) ≡ symbols_of l.fn.tokens.items)

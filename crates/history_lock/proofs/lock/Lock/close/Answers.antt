@@ -22,19 +22,23 @@ load-requires g c =
           (ap (λ m. m.0.stage) put.3 ∙ turn.stage_is)
           (ap (λ m. m.0.numbered) put.3 ∙ turn.numbered)
           (subst (StartsWith (g.T.Told.list value)) (sym seen) (starts_whole (g.T.Told.list value)))
-          (subst (λ l. AllOf g.T.Told.caller c.exchange.new.seat.me.0.number (drop (length l) (g.T.Told.list value))) (sym seen)
-          (subst (AllOf g.T.Told.caller c.exchange.new.seat.me.0.number) (sym (drop-length (g.T.Told.list value))) (All-nil _)))
+          (subst (λ l. AllOf g.T.Told.caller c.exchange.new.seat.me.0.number (drop (length l) (g.T.Told.list value)))
+          (sym seen)
+          (subst (AllOf g.T.Told.caller c.exchange.new.seat.me.0.number) (sym (drop-length (g.T.Told.list value)))
+          (All-nil _)))
           (c.take-turn.ensures.pair ∙ sym (ap (λ m. m.0.pair) put.3 ∙ turn.view_is.pair_is)),
     )
 
 pub unwrap-last-requires : goal.unwrap-last-requires
-unwrap-last-requires g c = closes_full _ _ _ _ _ _ c.load.new.seat.me.0 _ _ c.take.result (ap (λ m. m.0.stage) c.load.ensures.2) c.close_with-closed.ensures.values.2 c.take.ensures.value
+unwrap-last-requires g c = closes_full _ _ _ _ _ _ c.load.new.seat.me.0 _ _ c.take.result (ap
+    (λ m. m.0.stage) c.load.ensures.2) c.close_with-closed.ensures.values.2 c.take.ensures.value
 
 pub returns-clause-list : goal.returns-clause-list
 returns-clause-list g c =
     let put = c.exchange.ensures in
     let readied = c.load.ensures.2 in
-    let last = closes_with _ _ _ _ _ _ c.load.new.seat.me.0 _ _ c.take.result c.unwrap-last.result (ap (λ m. m.0.stage) readied) c.close_with-closed.ensures.values.2 c.take.ensures.value c.unwrap-last.ensures in
+    let last = closes_with _ _ _ _ _ _ c.load.new.seat.me.0 _ _ c.take.result c.unwrap-last.result
+    (ap (λ m. m.0.stage) readied) c.close_with-closed.ensures.values.2 c.take.ensures.value c.unwrap-last.ensures in
     let same = last.0 ∙ ap (λ m. m.0.seen) readied ∙ ap (λ m. held_list g.T.Told.list m.1) put.3 in
     subst (λ l. StartsWith l (seen_by c.args.pass)) (sym same) c.take-turn.ensures.list
 
@@ -42,13 +46,16 @@ pub returns-clause-own : goal.returns-clause-own
 returns-clause-own g c =
     let put = c.exchange.ensures in
     let readied = c.load.ensures.2 in
-    let last = closes_with _ _ _ _ _ _ c.load.new.seat.me.0 _ _ c.take.result c.unwrap-last.result (ap (λ m. m.0.stage) readied) c.close_with-closed.ensures.values.2 c.take.ensures.value c.unwrap-last.ensures in
+    let last = closes_with _ _ _ _ _ _ c.load.new.seat.me.0 _ _ c.take.result c.unwrap-last.result
+    (ap (λ m. m.0.stage) readied) c.close_with-closed.ensures.values.2 c.take.ensures.value c.unwrap-last.ensures in
     let same = last.0 ∙ ap (λ m. m.0.seen) readied ∙ ap (λ m. held_list g.T.Told.list m.1) put.3 in
-    subst (λ l. NoneOf g.T.Told.caller (number_of c.args.pass) (drop (length (seen_by c.args.pass)) l)) (sym same) c.take-turn.ensures.own
+    subst (λ l. NoneOf g.T.Told.caller (number_of c.args.pass) (drop (length (seen_by c.args.pass)) l))
+    (sym same) c.take-turn.ensures.own
 
 pub returns-clause-pair : goal.returns-clause-pair
 returns-clause-pair g c =
     let put = c.exchange.ensures in
     let readied = c.load.ensures.2 in
-    let last = closes_with _ _ _ _ _ _ c.load.new.seat.me.0 _ _ c.take.result c.unwrap-last.result (ap (λ m. m.0.stage) readied) c.close_with-closed.ensures.values.2 c.take.ensures.value c.unwrap-last.ensures in
+    let last = closes_with _ _ _ _ _ _ c.load.new.seat.me.0 _ _ c.take.result c.unwrap-last.result
+    (ap (λ m. m.0.stage) readied) c.close_with-closed.ensures.values.2 c.take.ensures.value c.unwrap-last.ensures in
     last.1 ∙ ap (λ m. m.0.pair) readied ∙ ap (λ m. m.0.pair) put.3 ∙ c.take-turn.ensures.turn.view_is.pair_is

@@ -18,7 +18,9 @@ store-requires g c =
           (ap (λ m. m.0.stage) put.3 ∙ turn.stage_is)
           (ap (λ m. m.0.numbered) put.3 ∙ turn.numbered)
           (subst (StartsWith (g.T.Told.list value)) (sym seen) c.requires.list)
-          (subst (λ l. AllOf g.T.Told.caller c.exchange.new.seat.me.0.number (drop (length l) (g.T.Told.list value))) (sym seen)
-          (subst (λ n. AllOf g.T.Told.caller n (drop (length c.args.turn.seat.me.0.seen) (g.T.Told.list value))) (sym number) c.requires.own))
+          (subst (λ l. AllOf g.T.Told.caller c.exchange.new.seat.me.0.number (drop (length l) (g.T.Told.list value)))
+          (sym seen)
+          (subst (λ n. AllOf g.T.Told.caller n (drop (length c.args.turn.seat.me.0.seen) (g.T.Told.list value)))
+          (sym number) c.requires.own))
           (c.requires.pair ∙ sym (ap (λ m. m.0.pair) put.3 ∙ turn.view_is.pair_is)),
     )

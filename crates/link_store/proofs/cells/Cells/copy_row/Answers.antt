@@ -8,11 +8,13 @@ loop-cell-init g c = record {
   grid = c.requires.copy;
   size = c.requires.size;
   copied = row_starts c.args.self.now c.args.row c.args.copy.now c.into_iter-cell-iterator.result c.requires.before
-      (c.into_iter-cell-iterator.ensures.into_iter_gives ∙ c.entries-cell-items.ensures ∙ ap (entries_of c.args.self.now.rows.links) c.list.ensures.value);
+      (c.into_iter-cell-iterator.ensures.into_iter_gives ∙ c.entries-cell-items.ensures.entries
+      ∙ ap (entries_of c.args.self.now.rows.links) c.list.ensures.value);
 }
 
 pub bounds-columns-cell : goal.bounds-columns-cell
-bounds-columns-cell g c = column_listed c.requires.grid c.requires.columns c.loop-cell.invariant.copied c.in-Some.ensures.steps
+bounds-columns-cell g c = column_listed c.requires.grid c.requires.columns c.loop-cell.invariant.copied
+    c.in-Some.ensures.steps
 
 pub add-requires-clause-there : goal.add-requires-clause-there
 add-requires-clause-there g c =
@@ -32,7 +34,8 @@ loop-cell-preserved g c =
     record {
       grid = added.grid;
       size = record { rows = added.size.rows ∙ inv.size.rows; columns = added.size.columns ∙ inv.size.columns };
-      copied = cell_copied c.requires.grid c.requires.columns inv.copied c.in-Some.ensures.steps c.in_ok-item.ensures added.put;
+      copied = cell_copied c.requires.grid c.requires.columns inv.copied c.in-Some.ensures.steps
+          c.in_ok-item.ensures added.put;
     }
 
 pub returns-clause-copied : goal.returns-clause-copied

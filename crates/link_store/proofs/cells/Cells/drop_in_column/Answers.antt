@@ -10,26 +10,37 @@ use Rattle.link_store.proofs.cells.Cells.drop_in_column.Goals as goal
 pub unlink_counted-requires : goal.unlink_counted-requires
 unlink_counted-requires g c =
     let held = c.requires.grid.crossed.in_row c.args.list c.in-Some.field-0-0 c.in-Some.link
-    (first_in (entries_of c.args.self.now.columns.links c.args.list) (c.in-Some.field-0-0, c.in-Some.link) c.in-Some.ensures.first) in
+    (first_in (entries_of c.args.self.now.columns.links c.args.list) (c.in-Some.field-0-0, c.in-Some.link)
+    c.in-Some.ensures.first) in
     (record { item = held.0; column = c.args.list; column_node = c.in-Some.field-0-0 }, (c.in-Some.link.row, held.1))
 
 -- the cell of the link that went, and what is left
 removed : (g : _) (c : goal.After-self-1 g) → IsRemoved c.args.self.now
     (record {
-      rows = record { links = c.unlink_counted.new.self; lists = c.args.self.now.rows.lists; count = c.args.self.now.rows.count };
-      columns = record { links = c.take_first_counted.new.self; lists = c.args.self.now.columns.lists; count = c.args.self.now.columns.count };
+      rows = record {
+        links = c.unlink_counted.new.self;
+        lists = c.args.self.now.rows.lists;
+        count = c.args.self.now.rows.count;
+      };
+      columns = record {
+        links = c.take_first_counted.new.self;
+        lists = c.args.self.now.columns.lists;
+        count = c.args.self.now.columns.count;
+      };
       filled = c.args.self.now.filled - 1;
     })
     c.in-Some.link.row c.in-Some.link.row_node
     (record {
       item = (c.requires.grid.crossed.in_row c.args.list c.in-Some.field-0-0 c.in-Some.link
-          (first_in (entries_of c.args.self.now.columns.links c.args.list) (c.in-Some.field-0-0, c.in-Some.link) c.in-Some.ensures.first)).0;
+          (first_in (entries_of c.args.self.now.columns.links c.args.list) (c.in-Some.field-0-0, c.in-Some.link)
+          c.in-Some.ensures.first)).0;
       column = c.args.list;
       column_node = c.in-Some.field-0-0;
     })
 removed g c = record {
   stood = (c.requires.grid.crossed.in_row c.args.list c.in-Some.field-0-0 c.in-Some.link
-      (first_in (entries_of c.args.self.now.columns.links c.args.list) (c.in-Some.field-0-0, c.in-Some.link) c.in-Some.ensures.first)).1;
+      (first_in (entries_of c.args.self.now.columns.links c.args.list) (c.in-Some.field-0-0, c.in-Some.link)
+      c.in-Some.ensures.first)).1;
   rows_once = c.unlink_counted.ensures.once;
   columns_once = c.in-Some.ensures.once;
   rows = c.unlink_counted.ensures.taken;
@@ -43,23 +54,29 @@ removed g c = record {
 }
 
 pub returns-in-Some-clause-grid : goal.returns-in-Some-clause-grid
-returns-in-Some-clause-grid g c = grid_left c.args.self.now _ c.in-Some.link.row c.in-Some.link.row_node _ c.requires.grid (removed g c)
+returns-in-Some-clause-grid g c = grid_left c.args.self.now _ c.in-Some.link.row c.in-Some.link.row_node _
+    c.requires.grid (removed g c)
 
 pub returns-in-Some-clause-lost : goal.returns-in-Some-clause-lost
 returns-in-Some-clause-lost g c = record {
   lines = record { rows = refl; columns = refl; size = record { rows = refl; columns = refl } };
-  others = λ place other. other_columns_left c.args.self.now _ c.in-Some.link.row c.in-Some.link.row_node _ c.requires.grid (removed g c) place other;
-  fewer = λ _. let less : c.args.self.now.filled - 1 < c.args.self.now.filled = omega (arith, c.in-Some.ensures.count, c.requires.grid.linked) in less;
+  others = λ place other. other_columns_left c.args.self.now _ c.in-Some.link.row c.in-Some.link.row_node _
+      c.requires.grid (removed g c) place other;
+  fewer = λ _. let less : c.args.self.now.filled - 1 < c.args.self.now.filled = omega
+      (arith, c.in-Some.ensures.count, c.requires.grid.linked) in less;
   none = λ kept. absurd (false≢true (sym kept));
 }
 
 pub returns-in-None-clause-lost : goal.returns-in-None-clause-lost
 returns-in-None-clause-lost g c = record {
   lines = record { rows = refl; columns = refl; size = record { rows = refl; columns = refl } };
-  others = λ place other. ap (λ all. entry_at (sheet_items (record c.args.self.now { columns = record c.args.self.now.columns { links = all } })) place) c.in-None.ensures.unchanged;
+  others = λ place other. ap (λ all. entry_at
+      (sheet_items (record c.args.self.now { columns = record c.args.self.now.columns { links = all } })) place)
+      c.in-None.ensures.unchanged;
   fewer = λ lost. absurd (false≢true lost);
   none = λ _. (
-    ap (λ all. record c.args.self.now { columns = record c.args.self.now.columns { links = all } }) c.in-None.ensures.unchanged,
+    ap (λ all. record c.args.self.now { columns = record c.args.self.now.columns { links = all } })
+        c.in-None.ensures.unchanged,
     none_first (entries_of c.args.self.now.columns.links c.args.list) c.in-None.ensures.first,
   );
 }

@@ -9,8 +9,10 @@ use Rattle.link_store.proofs.cells.Cells.empty_column.Goals as goal
 pub drop_in_column-requires-clause-list : goal.drop_in_column-requires-clause-list
 drop_in_column-requires-clause-list g c =
     let inv = c.loop.invariant in
-    subst (λ list. list < length c.loop.self.columns.links) (sym (c.list-list.ensures.value ∙ ap (λ xs. get_or xs c.args.column 0) (sym inv.lines.columns)))
-    (list_within c.loop.self.columns inv.grid.columns_are c.args.column (omega (arith, c.requires.there, inv.lines.size.columns, inv.grid.columns_are.count)))
+    subst (λ list. list < length c.loop.self.columns.links)
+    (sym (c.list-list.ensures.value ∙ ap (λ xs. get_or xs c.args.column 0) (sym inv.lines.columns)))
+    (list_within c.loop.self.columns inv.grid.columns_are c.args.column
+    (omega (arith, c.requires.there, inv.lines.size.columns, inv.grid.columns_are.count)))
 
 pub loop-preserved : goal.loop-preserved
 loop-preserved g c =
@@ -20,9 +22,12 @@ loop-preserved g c =
       grid = made.grid;
       lines = lines_trans Columns c.args.self.now c.loop.self c.drop_in_column.new.self inv.lines made.lost.lines;
       others = λ place differs.
-          kept_elsewhere Columns c.loop.self c.drop_in_column.new.self c.args.column c.list-list.result c.drop_in_column.result inv.grid made.grid made.lost
-          (c.list-list.ensures.value ∙ ap (λ xs. get_or xs c.args.column 0) (sym inv.lines.columns)) (omega (arith, c.requires.there, inv.lines.size.columns)) place differs
+          kept_elsewhere Columns c.loop.self c.drop_in_column.new.self c.args.column c.list-list.result
+          c.drop_in_column.result inv.grid made.grid made.lost
+          (c.list-list.ensures.value ∙ ap (λ xs. get_or xs c.args.column 0) (sym inv.lines.columns))
+          (omega (arith, c.requires.there, inv.lines.size.columns)) place differs
           ∙ inv.others place differs;
+      few = omega (arith, made.few, inv.few);
       steps = omega (arith, made.steps, inv.steps, ap {B = ℕ} (λ b. if b then 0 else 1) c.loop-test.true);
     }
 

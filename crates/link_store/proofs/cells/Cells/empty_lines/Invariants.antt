@@ -7,5 +7,6 @@ abbrev pub invariant-loop-line : goal.invariant-loop-line
 invariant-loop-line g l = record {
   grid : IsGrid l.self;
   lost : LosesItems l.axis l.start l.line l.initial.self l.self;
+  few : l.self.filled ≤ l.initial.self.filled;
   steps : l.steps + 2 * l.self.filled ≤ l.initial.steps + 2 * l.initial.self.filled + (l.line - l.start);
 }

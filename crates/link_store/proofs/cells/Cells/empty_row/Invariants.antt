@@ -9,7 +9,9 @@ abbrev pub invariant-loop : goal.invariant-loop
 invariant-loop g l = record {
   grid : IsGrid l.self;
   lines : HasSameLines l.initial.self l.self;
-  others : (place : ℕ × ℕ) → line_on Rows place ≢ l.row → entry_at (sheet_items l.self) place ≡ entry_at (sheet_items l.initial.self) place;
+  others : (place : ℕ × ℕ) → line_on Rows place ≢ l.row
+      → entry_at (sheet_items l.self) place ≡ entry_at (sheet_items l.initial.self) place;
+  few : l.self.filled ≤ l.initial.self.filled;
   steps : l.steps + 2 * l.self.filled ≤ l.initial.steps + 2 * l.initial.self.filled;
 }
 

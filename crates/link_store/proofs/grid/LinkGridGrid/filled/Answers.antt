@@ -4,4 +4,5 @@ use Rattle.link_store.proofs.Views.{filled-table}
 use Rattle.link_store.proofs.grid.LinkGridGrid.filled.Goals as goal
 
 pub returns : goal.returns
-returns g c = c.from.ensures ∙ filled-table c.self.inside.cells c.self.invariant ∙ ap filled_places c.self.view_is
+returns g c = c.from.ensures ∙ filled-table c.tables_by_items.ensures c.self.inside.cells c.self.invariant
+    ∙ ap (λ sheet. filled_places sheet.table) c.self.view_is

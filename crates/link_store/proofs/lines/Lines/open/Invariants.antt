@@ -10,6 +10,7 @@ invariant-loop-moved g l = record {
   count : l.self.count ≡ l.initial.self.count;
   long : length l.self.lists.items ≡ length l.initial.self.lists.items;
   numbers : IsPermutation l.initial.self.lists.items l.self.lists.items;
-  order : (index : ℕ) → StoodAt l.initial.self.lists.items l.self.lists.items (l.initial.self.count - l.moved) l.count l.initial.self.count index;
+  order : (index : ℕ) → StoodAt l.initial.self.lists.items l.self.lists.items (l.initial.self.count - l.moved)
+      l.count l.initial.self.count index;
   steps : l.steps ≡ l.initial.steps + 2 * l.moved;
 }

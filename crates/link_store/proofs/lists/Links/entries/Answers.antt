@@ -13,5 +13,6 @@ invariant_of-result g c = record {
       (first.0, first.2);
 }
 
-pub returns : goal.returns
-returns g c = ap (entries_from (entries_of c.args.self.now c.args.list)) c.first.ensures.node ∙ from_first (entries_of c.args.self.now c.args.list)
+pub returns-clause-entries : goal.returns-clause-entries
+returns-clause-entries g c = ap (entries_from (entries_of c.args.self.now c.args.list)) c.first.ensures.node
+    ∙ from_first (entries_of c.args.self.now c.args.list)

@@ -6,7 +6,8 @@ use Rattle.link_store.proofs.lists.Links.item.Goals as goal
 
 pub index-requires : goal.index-requires
 index-requires g c =
-    let kept = live_node (get c.self.inside.nodes) c.self.inside.ends.items c.args.self.now c.self.view_is c.self.invariant c.args.node c.requires in
+    let kept = live_node (get c.self.inside.nodes) c.self.inside.ends.items c.args.self.now c.self.view_is
+    c.self.invariant c.args.node c.requires in
     ap is_some kept.1
 
 pub returns : goal.returns

@@ -14,40 +14,53 @@ pub returns-then-is_cutting-clause-cut : goal.returns-then-is_cutting-clause-cut
 returns-then-is_cutting-clause-cut c =
     let are : AreMerges c.args.self.now = subst AreMerges c.self.view_is c.self.invariant in
     let some : list_any (cuts c.args.area.now) c.args.self.now ≡ true =
-    sym (ap (list_any (cuts c.args.area.now)) (c.as_slice.ensures ∙ c.self.view_is)) ∙ sym c.is_cutting.ensures ∙ c.if-is_cutting.true in
+    sym (ap (list_any (cuts c.args.area.now)) (c.as_slice.ensures ∙ c.self.view_is)) ∙ sym c.is_cutting.ensures
+    ∙ c.if-is_cutting.true in
     ((λ _. cut_some c.args.area.now c.args.self.now are.each some), (λ _. refl))
 
 pub invariant_of-self : goal.invariant_of-self
 invariant_of-self c =
     let none : list_any (cuts c.args.area.now) c.args.self.now ≡ false =
-    sym (ap (list_any (cuts c.args.area.now)) (c.as_slice.ensures ∙ c.self.view_is)) ∙ sym c.is_cutting.ensures ∙ c.if-is_cutting.false in
+    sym (ap (list_any (cuts c.args.area.now)) (c.as_slice.ensures ∙ c.self.view_is)) ∙ sym c.is_cutting.ensures
+    ∙ c.if-is_cutting.false in
     elim c.match-added.branch [
       | in-Ok w ↦ subst AreMerges (sym c.of.ensures)
-          (added_are_merges c.args.area.now c.args.self.now c.take-merges.ensures.sound c.requires none c.put-added.new.merges.items
-          (subst (λ ms. IsPermutation (filter (λ merge. not (holds_all c.args.area.now merge)) ms ++ c.args.area.now ∷ []) c.put-added.new.merges.items) c.take-merges.ensures.merges w.in-Ok.ensures.put)
+          (added_are_merges c.args.area.now c.args.self.now
+          (subst AreMerges c.self.view_is c.self.invariant) c.requires none c.put-added.new.merges.items
+          (subst (λ ms. IsPermutation (filter
+          (λ merge. not (holds_all c.args.area.now merge)) ms ++ c.args.area.now ∷ []) c.put-added.new.merges.items)
+          (c.into_vec-merges.ensures ∙ c.take.ensures.taken ∙ c.self.view_is) w.in-Ok.ensures.put)
           w.in-Ok.ensures.in_order)
-      | in-Err w ↦ subst AreMerges (sym (c.of.ensures ∙ w.in-Err.ensures.unchanged ∙ c.take-merges.ensures.merges)) c.take-merges.ensures.sound
+      | in-Err w ↦ subst AreMerges (sym (c.of.ensures ∙ w.in-Err.ensures.unchanged
+          ∙ (c.into_vec-merges.ensures ∙ c.take.ensures.taken ∙ c.self.view_is)))
+          (subst AreMerges c.self.view_is c.self.invariant)
     ]
 
 pub returns-clause-cut : goal.returns-clause-cut
 returns-clause-cut c =
     let none : list_any (cuts c.args.area.now) c.args.self.now ≡ false =
-    sym (ap (list_any (cuts c.args.area.now)) (c.as_slice.ensures ∙ c.self.view_is)) ∙ sym c.is_cutting.ensures ∙ c.if-is_cutting.false in (
+    sym (ap (list_any (cuts c.args.area.now)) (c.as_slice.ensures ∙ c.self.view_is)) ∙ sym c.is_cutting.ensures
+    ∙ c.if-is_cutting.false in (
       (λ h. elim c.match-added.branch [
         | in-Ok w ↦ let e = sym w.result-is ∙ h in cc
         | in-Err w ↦ let e = sym w.result-is ∙ h in cc
       ]),
-      (λ cut. absurd (false≢true (sym none ∙ from_cut_some c.args.area.now c.args.self.now c.take-merges.ensures.sound.each cut))),
+      (λ cut. absurd (false≢true (sym none
+          ∙ from_cut_some c.args.area.now c.args.self.now (subst AreMerges c.self.view_is c.self.invariant).each cut))),
     )
 
 pub returns-clause-added : goal.returns-clause-added
 returns-clause-added c =
     let none : list_any (cuts c.args.area.now) c.args.self.now ≡ false =
-    sym (ap (list_any (cuts c.args.area.now)) (c.as_slice.ensures ∙ c.self.view_is)) ∙ sym c.is_cutting.ensures ∙ c.if-is_cutting.false in
+    sym (ap (list_any (cuts c.args.area.now)) (c.as_slice.ensures ∙ c.self.view_is)) ∙ sym c.is_cutting.ensures
+    ∙ c.if-is_cutting.false in
     elim c.match-added.branch [
       | in-Ok w ↦ rw w.result-is (subst (ListsJust (IsLeftOrNew c.args.area.now c.args.self.now)) (sym c.of.ensures)
-          (lists_added c.args.area.now c.args.self.now c.take-merges.ensures.sound c.requires none c.put-added.new.merges.items
-          (subst (λ ms. IsPermutation (filter (λ merge. not (holds_all c.args.area.now merge)) ms ++ c.args.area.now ∷ []) c.put-added.new.merges.items) c.take-merges.ensures.merges w.in-Ok.ensures.put)
+          (lists_added c.args.area.now c.args.self.now
+          (subst AreMerges c.self.view_is c.self.invariant) c.requires none c.put-added.new.merges.items
+          (subst (λ ms. IsPermutation (filter
+          (λ merge. not (holds_all c.args.area.now merge)) ms ++ c.args.area.now ∷ []) c.put-added.new.merges.items)
+          (c.into_vec-merges.ensures ∙ c.take.ensures.taken ∙ c.self.view_is) w.in-Ok.ensures.put)
           w.in-Ok.ensures.in_order))
       | in-Err w ↦ rw w.result-is tt
     ]

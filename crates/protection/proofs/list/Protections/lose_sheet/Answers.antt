@@ -1,4 +1,4 @@
-use Rattle.std.proofs.Common.{List, sym, subst}
+use Rattle.std.proofs.Common.{List, ◌∙◌, sym, subst}
 use Rattle.protection.specs.declared.range.Protection.{Protection}
 use Rattle.protection.specs.Listed.{IsInOrder}
 use Rattle.protection.proofs.Ordered.{IsInOrder-filter_map, KeepsId-without_sheet}
@@ -6,5 +6,5 @@ use Rattle.protection.proofs.list.Protections.lose_sheet.Goals as goal
 
 pub invariant_of-self : goal.invariant_of-self
 invariant_of-self c =
-    subst (λ (list : List Protection). IsInOrder list) (sym c.lose_all.ensures)
-    (IsInOrder-filter_map _ _ (KeepsId-without_sheet _) c.self.invariant)
+    subst (λ (list : List Protection). IsInOrder list) (sym (c.into_vec.ensures ∙ c.follow.ensures.followed))
+    (IsInOrder-filter_map _ _ (KeepsId-without_sheet _) c.take_items-items.ensures.order)

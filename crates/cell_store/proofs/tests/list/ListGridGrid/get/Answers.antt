@@ -8,11 +8,13 @@ use Rattle.cell_store.proofs.tests.list.ListGridGrid.get.Goals as goal
 pub returns-in-Some-clause-item : goal.returns-in-Some-clause-item
 returns-in-Some-clause-item g c =
     let at = sym (ap (position (at_place c.args.row c.args.column)) c.deref.ensures.value) ∙ sym c.in-Some.ensures in
-    ap Some (ap (λ e. e.1) c.index.ensures) ∙ sym (found c.args.row c.args.column c.self.inside.items.items c.in-Some.at c.index.result.now at).0
+    ap Some (ap (λ e. e.1) c.index.ensures) ∙ sym
+    (found c.args.row c.args.column c.self.inside.items.items c.in-Some.at c.index.result.now at).0
     ∙ item-view c.self.inside.rows c.self.inside.cols c.self.inside.items.items c.self.view_is c.args.row c.args.column
 
 pub returns-in-Some-clause-inside : goal.returns-in-Some-clause-inside
-returns-in-Some-clause-inside g c = inside-view c.self.inside.rows c.self.inside.cols c.self.inside.items.items c.self.view_is c.self.invariant.1
+returns-in-Some-clause-inside g c = inside-view c.self.inside.rows c.self.inside.cols c.self.inside.items.items
+    c.self.view_is c.self.invariant.1
 
 pub returns-in-None-clause-item : goal.returns-in-None-clause-item
 returns-in-None-clause-item g c =
@@ -21,4 +23,5 @@ returns-in-None-clause-item g c =
     ∙ item-view c.self.inside.rows c.self.inside.cols c.self.inside.items.items c.self.view_is c.args.row c.args.column
 
 pub returns-in-None-clause-inside : goal.returns-in-None-clause-inside
-returns-in-None-clause-inside g c = inside-view c.self.inside.rows c.self.inside.cols c.self.inside.items.items c.self.view_is c.self.invariant.1
+returns-in-None-clause-inside g c = inside-view c.self.inside.rows c.self.inside.cols c.self.inside.items.items
+    c.self.view_is c.self.invariant.1

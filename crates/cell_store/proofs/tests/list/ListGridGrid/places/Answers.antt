@@ -1,28 +1,43 @@
-use Rattle.std.proofs.Common.{true, false, sym, ap, subst, ◌∙◌}
-use Rattle.std.proofs.lemmas.List.{append-nil, take_all}
-use Rattle.cell_store.specs.Places.{AreFilledPlaces}
-use Rattle.std.specs.List.Sorted.{IsPermutation}
-use Rattle.cell_store.proofs.Listed.{held_places, holds_true, holds_false}
-use Rattle.cell_store.proofs.Scanned.{held_next, sorted_places}
+use Rattle.std.proofs.Common.{sym, ap, subst, ◌∙◌}
+use Rattle.std.specs.Prelude.{Contains}
+use Rattle.std.specs.Option.{IsSome}
+use Rattle.std.specs.Ordering.{eq_by_cmp}
+use Rattle.std.specs.List.{IsDistinct}
+use Rattle.std.specs.Map.{keys_of}
+use Rattle.std.proofs.lemmas.Cmp.{eq_by_cmp_equiv}
+use Rattle.std.proofs.lemmas.Map.Views.{tells_apart, Contains-keys_from_lookup, IsSome-lookup_from_Contains}
+use Rattle.cell_store.specs.Table.{by_rows}
+use Rattle.cell_store.proofs.Cells.{by_rows_total, by_rows_exact}
+use Rattle.cell_store.proofs.Tables.{item-view}
 use Rattle.cell_store.proofs.tests.list.ListGridGrid.places.Goals as goal
-use Rattle.cell_store.proofs.tests.list.ListGridGrid.places.Goals.{then-holds+in_ok-push, else-holds}
 
-pub loop-entry-preserved : goal.loop-entry-preserved
-loop-entry-preserved g c = elim c.if-holds.branch [
-  | then-holds+in_ok-push w ↦
-      rw w.places-is (w.in_ok-push.ensures.items
-      ∙ held_next c.args.area.now c.deref-entry-items.result.now c.loop-entry.entry-index c.entry-item.result c.loop-entry.places.items true
-      c.loop-entry-test.true c.entry-item.is (sym (holds_true c.args.area.now c.entry-item.result.0 (c.holds.ensures.0 w.if-holds.true))) c.loop-entry.invariant)
-  | else-holds w ↦
-      rw w.places-is (sym (append-nil c.loop-entry.places.items)
-      ∙ held_next c.args.area.now c.deref-entry-items.result.now c.loop-entry.entry-index c.entry-item.result c.loop-entry.places.items false
-      c.loop-entry-test.true c.entry-item.is (sym (holds_false c.args.area.now c.entry-item.result.0 c.holds.result c.holds.ensures.1 w.if-holds.false)) c.loop-entry.invariant)
-]
+pub held_by_rows-requires : goal.held_by_rows-requires
+held_by_rows-requires g c = record {
+  distinct = subst (IsDistinct (eq_by_cmp by_rows))
+      (sym (c.in_ok-places.ensures ∙ ap keys_of c.deref.ensures.value)) c.self.invariant.0;
+}
 
 pub returns : goal.returns
 returns g c =
-    let all = c.loop-entry.invariant
-    ∙ ap (held_places c.args.area.now) (take_all c.loop-entry.entry-index c.deref-entry-items.result.now c.loop-entry-test.false ∙ c.deref-entry-items.ensures.value) in
-    subst (AreFilledPlaces c.args.area.now c.args.self.now) (sym c.of.ensures)
-    (sorted_places c.args.area.now c.self.inside.rows c.self.inside.cols c.self.inside.items.items c.sort_unstable.new.self.items c.self.view_is c.self.invariant.0
-    (subst (λ ps. IsPermutation ps c.sort_unstable.new.self.items) all c.sort_unstable.ensures.permutation) c.sort_unstable.ensures.sorted)
+    let items = c.self.inside.items.items in
+    let exactly = c.held_by_rows.ensures.exactly in
+    let view = item-view c.self.inside.rows c.self.inside.cols items c.self.view_is in
+    record {
+      in_order = c.held_by_rows.ensures.in_order;
+      exactly = λ row col. (
+        (λ has.
+            let held = (exactly row col).0 has in (
+              held.0,
+              subst IsSome (view row col) (IsSome-lookup_from_Contains (eq_by_cmp_equiv by_rows_total) (row, col) items
+                  (subst (λ ps. Contains ps (row, col)) (c.in_ok-places.ensures ∙ ap keys_of c.deref.ensures.value)
+                  held.1)),
+            )),
+        (λ held.
+            (exactly row col).1 (
+              held.0,
+              subst (λ ps. Contains ps (row, col)) (sym (c.in_ok-places.ensures ∙ ap keys_of c.deref.ensures.value))
+                  (Contains-keys_from_lookup (tells_apart by_rows_exact) (row, col) items
+                  (subst IsSome (sym (view row col)) held.1)),
+            )),
+      );
+    }

@@ -16,12 +16,15 @@ pub invariant_of-self : goal.invariant_of-self
 invariant_of-self g c =
     let at = sym (ap (position (at_place c.args.row c.args.column)) c.deref.ensures.value) ∙ sym c.in-Some.ensures in
     let here = found c.args.row c.args.column c.self.inside.items.items c.in-Some.at c.index_mut.result.now at in
-    let is = ap (λ e. set c.self.inside.items.items c.in-Some.at (e.0, c.replace.new.dest)) c.index_mut.ensures.value ∙ here.2 c.replace.new.dest in (
+    let is = ap (λ e. set c.self.inside.items.items c.in-Some.at (e.0, c.replace.new.dest))
+    c.index_mut.ensures.value ∙ here.2 c.replace.new.dest in (
       subst (λ es. IsDistinct (eq_by_cmp by_rows) (keys_of es)) (sym is)
           (distinct-set c.args.row c.args.column c.self.inside.items.items c.replace.new.dest c.self.invariant.0),
-      inside-put c.self.inside.rows c.self.inside.cols c.self.inside.items.items _ c.self.invariant.1 c.args.row c.args.column c.replace.new.dest
+      inside-put c.self.inside.rows c.self.inside.cols c.self.inside.items.items _ c.self.invariant.1 c.args.row
+          c.args.column c.replace.new.dest
           (subst (λ t. HasPlace t c.args.row c.args.column) (sym c.self.view_is) c.requires.inside)
-          (subst (λ es. SetsPlace c.self.inside.items.items es (c.args.row, c.args.column) (Some c.replace.new.dest)) (sym is)
+          (subst (λ es. SetsPlace c.self.inside.items.items es (c.args.row, c.args.column)
+          (Some c.replace.new.dest)) (sym is)
           (λ q. get-set c.args.row c.args.column c.self.inside.items.items c.replace.new.dest q (ap is_some here.0))),
     )
 
@@ -33,12 +36,15 @@ invariant_of-self-in-None g c =
       | in-Ok w ↦ (
         subst (λ es. IsDistinct (eq_by_cmp by_rows) (keys_of es)) (sym w.in-Ok.ensures.items)
             (distinct-push c.args.row c.args.column c.self.inside.items.items c.args.item missing c.self.invariant.0),
-        inside-put c.self.inside.rows c.self.inside.cols c.self.inside.items.items c.push.new.self.items c.self.invariant.1 c.args.row c.args.column c.args.item
+        inside-put c.self.inside.rows c.self.inside.cols c.self.inside.items.items c.push.new.self.items
+            c.self.invariant.1 c.args.row c.args.column c.args.item
             (subst (λ t. HasPlace t c.args.row c.args.column) (sym c.self.view_is) c.requires.inside)
-            (subst (λ es. SetsPlace c.self.inside.items.items es (c.args.row, c.args.column) (Some c.args.item)) (sym w.in-Ok.ensures.items)
+            (subst (λ es. SetsPlace c.self.inside.items.items es (c.args.row, c.args.column) (Some c.args.item))
+            (sym w.in-Ok.ensures.items)
             (λ q. get-push c.args.row c.args.column c.self.inside.items.items c.args.item q missing)),
       )
-      | in-Err w ↦ subst (λ es. IsDistinct (eq_by_cmp by_rows) (keys_of es) × HasEntriesInside c.self.inside.rows c.self.inside.cols es) (sym w.in-Err.ensures.items) c.self.invariant
+      | in-Err w ↦ subst (λ es. IsDistinct (eq_by_cmp by_rows) (keys_of es) × HasEntriesInside c.self.inside.rows
+          c.self.inside.cols es) (sym w.in-Err.ensures.items) c.self.invariant
     ]
 
 pub returns-in-Some-clause-old : goal.returns-in-Some-clause-old
@@ -52,9 +58,13 @@ pub returns-in-Some-clause-put : goal.returns-in-Some-clause-put
 returns-in-Some-clause-put g c =
     let at = sym (ap (position (at_place c.args.row c.args.column)) c.deref.ensures.value) ∙ sym c.in-Some.ensures in
     let here = found c.args.row c.args.column c.self.inside.items.items c.in-Some.at c.index_mut.result.now at in
-    let is = ap (λ e. set c.self.inside.items.items c.in-Some.at (e.0, c.replace.new.dest)) c.index_mut.ensures.value ∙ here.2 c.replace.new.dest in
-    put-view c.self.inside.rows c.self.inside.cols c.self.inside.items.items c.self.view_is _ c.args.row c.args.column c.args.item
-    (subst (λ x. SetsPlace c.self.inside.items.items (set c.self.inside.items.items c.in-Some.at (c.index_mut.result.now.0, c.replace.new.dest)) (c.args.row, c.args.column) (Some x)) c.replace.ensures.after
+    let is = ap (λ e. set c.self.inside.items.items c.in-Some.at (e.0, c.replace.new.dest))
+    c.index_mut.ensures.value ∙ here.2 c.replace.new.dest in
+    put-view c.self.inside.rows c.self.inside.cols c.self.inside.items.items c.self.view_is _ c.args.row
+    c.args.column c.args.item
+    (subst (λ x. SetsPlace c.self.inside.items.items
+    (set c.self.inside.items.items c.in-Some.at (c.index_mut.result.now.0, c.replace.new.dest))
+    (c.args.row, c.args.column) (Some x)) c.replace.ensures.after
     (subst (λ es. SetsPlace c.self.inside.items.items es (c.args.row, c.args.column) (Some c.replace.new.dest)) (sym is)
     (λ q. get-set c.args.row c.args.column c.self.inside.items.items c.replace.new.dest q (ap is_some here.0))))
 
@@ -63,7 +73,8 @@ returns-after-push-clause-old g c =
     let none = sym (ap (position (at_place c.args.row c.args.column)) c.deref.ensures.value) ∙ sym c.in-None.ensures in
     elim c.match-push.branch [
       | in-Ok w ↦ rw w.result-is (sym (missed c.args.row c.args.column c.self.inside.items.items none)
-          ∙ item-view c.self.inside.rows c.self.inside.cols c.self.inside.items.items c.self.view_is c.args.row c.args.column)
+          ∙ item-view c.self.inside.rows c.self.inside.cols c.self.inside.items.items c.self.view_is c.args.row
+          c.args.column)
       | in-Err w ↦ rw w.result-is tt
     ]
 
@@ -72,8 +83,10 @@ returns-after-push-clause-put g c =
     let none = sym (ap (position (at_place c.args.row c.args.column)) c.deref.ensures.value) ∙ sym c.in-None.ensures in
     let missing = missed c.args.row c.args.column c.self.inside.items.items none in
     elim c.match-push.branch [
-      | in-Ok w ↦ rw w.result-is (put-view c.self.inside.rows c.self.inside.cols c.self.inside.items.items c.self.view_is c.push.new.self.items c.args.row c.args.column c.args.item
-          (subst (λ es. SetsPlace c.self.inside.items.items es (c.args.row, c.args.column) (Some c.args.item)) (sym w.in-Ok.ensures.items)
+      | in-Ok w ↦ rw w.result-is (put-view c.self.inside.rows c.self.inside.cols c.self.inside.items.items
+          c.self.view_is c.push.new.self.items c.args.row c.args.column c.args.item
+          (subst (λ es. SetsPlace c.self.inside.items.items es (c.args.row, c.args.column) (Some c.args.item))
+          (sym w.in-Ok.ensures.items)
           (λ q. get-push c.args.row c.args.column c.self.inside.items.items c.args.item q missing)))
       | in-Err w ↦ rw w.result-is tt
     ]
@@ -83,6 +96,7 @@ returns-after-push-clause-was_empty g c =
     let none = sym (ap (position (at_place c.args.row c.args.column)) c.deref.ensures.value) ∙ sym c.in-None.ensures in
     elim c.match-push.branch [
       | in-Ok w ↦ rw w.result-is tt
-      | in-Err w ↦ rw w.result-is (sym (item-view c.self.inside.rows c.self.inside.cols c.self.inside.items.items c.self.view_is c.args.row c.args.column)
+      | in-Err w ↦ rw w.result-is (sym (item-view c.self.inside.rows c.self.inside.cols c.self.inside.items.items
+          c.self.view_is c.args.row c.args.column)
           ∙ missed c.args.row c.args.column c.self.inside.items.items none)
     ]

@@ -12,10 +12,12 @@ use Rattle.cell_store.proofs.tests.list.ListGridGrid.take.Goals as goal
 pub invariant_of-self : goal.invariant_of-self
 invariant_of-self g c =
     let at = sym (ap (position (at_place c.args.row c.args.column)) c.deref.ensures.value) ∙ sym c.in-Some.ensures in
-    let is = c.remove.ensures.items ∙ (found c.args.row c.args.column c.self.inside.items.items c.in-Some.at c.remove.result at).1 in (
+    let is = c.remove.ensures.items ∙ (found c.args.row c.args.column c.self.inside.items.items c.in-Some.at
+    c.remove.result at).1 in (
       subst (λ es. IsDistinct (eq_by_cmp by_rows) (keys_of es)) (sym is)
           (distinct-taken (eq_by_cmp by_rows (c.args.row, c.args.column)) c.self.inside.items.items c.self.invariant.0),
-      inside-taken c.self.inside.rows c.self.inside.cols c.self.inside.items.items c.remove.new.self.items c.self.invariant.1 c.args.row c.args.column
+      inside-taken c.self.inside.rows c.self.inside.cols c.self.inside.items.items c.remove.new.self.items
+          c.self.invariant.1 c.args.row c.args.column
           (subst (λ es. SetsPlace c.self.inside.items.items es (c.args.row, c.args.column) None) (sym is)
           (λ q. get-taken c.args.row c.args.column c.self.inside.items.items q c.self.invariant.0)),
     )
@@ -23,14 +25,17 @@ invariant_of-self g c =
 pub returns-in-Some-clause-item : goal.returns-in-Some-clause-item
 returns-in-Some-clause-item g c =
     let at = sym (ap (position (at_place c.args.row c.args.column)) c.deref.ensures.value) ∙ sym c.in-Some.ensures in
-    ap Some (ap (λ e. e.1) c.remove.ensures.value) ∙ sym (found c.args.row c.args.column c.self.inside.items.items c.in-Some.at c.remove.result at).0
+    ap Some (ap (λ e. e.1) c.remove.ensures.value)
+    ∙ sym (found c.args.row c.args.column c.self.inside.items.items c.in-Some.at c.remove.result at).0
     ∙ item-view c.self.inside.rows c.self.inside.cols c.self.inside.items.items c.self.view_is c.args.row c.args.column
 
 pub returns-in-Some-clause-taken : goal.returns-in-Some-clause-taken
 returns-in-Some-clause-taken g c =
     let at = sym (ap (position (at_place c.args.row c.args.column)) c.deref.ensures.value) ∙ sym c.in-Some.ensures in
-    let is = c.remove.ensures.items ∙ (found c.args.row c.args.column c.self.inside.items.items c.in-Some.at c.remove.result at).1 in
-    taken-view c.self.inside.rows c.self.inside.cols c.self.inside.items.items c.self.view_is c.remove.new.self.items c.args.row c.args.column
+    let is = c.remove.ensures.items ∙ (found c.args.row c.args.column c.self.inside.items.items c.in-Some.at
+    c.remove.result at).1 in
+    taken-view c.self.inside.rows c.self.inside.cols c.self.inside.items.items c.self.view_is
+    c.remove.new.self.items c.args.row c.args.column
     (subst (λ es. SetsPlace c.self.inside.items.items es (c.args.row, c.args.column) None) (sym is)
     (λ q. get-taken c.args.row c.args.column c.self.inside.items.items q c.self.invariant.0))
 
@@ -44,5 +49,7 @@ pub returns-in-None-clause-taken : goal.returns-in-None-clause-taken
 returns-in-None-clause-taken g c =
     let none = sym (ap (position (at_place c.args.row c.args.column)) c.deref.ensures.value) ∙ sym c.in-None.ensures in
     sym c.self.view_is
-    ∙ taken-view c.self.inside.rows c.self.inside.cols c.self.inside.items.items c.self.view_is c.self.inside.items.items c.args.row c.args.column
-    (same-taken c.args.row c.args.column c.self.inside.items.items (missed c.args.row c.args.column c.self.inside.items.items none))
+    ∙ taken-view c.self.inside.rows c.self.inside.cols c.self.inside.items.items c.self.view_is
+    c.self.inside.items.items c.args.row c.args.column
+    (same-taken c.args.row c.args.column c.self.inside.items.items
+    (missed c.args.row c.args.column c.self.inside.items.items none))

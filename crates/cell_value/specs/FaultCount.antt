@@ -1,0 +1,10 @@
+-- How often a device outside the program failed, or found no memory: a count of 64 bits.
+use Rattle.std.specs.Prelude.{◌≡◌, ℕ, ◌<◌, ◌⊎◌}
+
+-- the last value of a count, which stands still there
+abbrev pub last_count : ℕ
+last_count = 18446744073709551615
+
+-- a count rose: it is greater than before, or stands at its last value
+abbrev pub Rose : ℕ → ℕ → Type 0
+Rose before after = (before < after) ⊎ (after ≡ last_count)

@@ -1,9 +1,0 @@
-pub mod Lists
-pub mod Orders
-pub mod Ranges
-pub mod Changes
-pub mod Arrivals
-pub mod Deletions
-pub mod Following
-pub mod Program
-pub mod Changing

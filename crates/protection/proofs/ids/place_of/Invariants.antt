@@ -1,5 +1,0 @@
-use Rattle.std.proofs.Common.{◌≡◌, All, take}
-use Rattle.protection.proofs.ids.place_of.Given as goal
-
-abbrev pub invariant-loop-place : goal.invariant-loop-place
-invariant-loop-place l = All (λ one. ¬ (one.id ≡ l.id)) (take l.place l.protections)

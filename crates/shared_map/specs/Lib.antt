@@ -1,0 +1,5 @@
+pub mod Finding
+pub mod Places
+pub mod Found
+pub mod Map
+pub mod Root

@@ -1,0 +1,142 @@
+ghost use Rattle.std.specs.Prelude.{◌≡◌, ◌+◌, ◌++◌, ◌<◌, ◌^◌, OnOk};
+ghost use Rattle.std.specs.Option.{option_copied};
+ghost use Rattle.shared_map.specs.Found.{keys_found};
+ghost use Rattle.shared_map.specs.Places.{in_part, in_parts, place_at, positive};
+
+use crate::part::Part;
+use crate::places::reach;
+use crate::shared::Shared;
+use cell_value::NoMemory;
+use std::alloc::Global;
+
+/// Parts of `SPAN` keys each. There are places up to the last part that was made.
+#[derive(Drop)]
+pub struct Branch<C, const SPAN: u64> {
+    alloc: Global,
+    parts: Vec<Option<Shared<C>>>,
+}
+
+/// How many keys a part spans: at least one.
+fn span<const SPAN: u64>() -> u64
+    ensures is { result ≡ positive SPAN }
+    ensures positive { 0 < result }
+{
+    if SPAN == 0 { 1 } else { SPAN }
+}
+
+impl<C: Part + Drop, const SPAN: u64> Branch<C, SPAN> {
+    /// The part at the index, lent.
+    fn part(&self, index: u64) -> Option<&Shared<C>>
+        ensures { option_copied result ≡ place_at self.now.parts.items index }
+    {
+        match self.parts.get(index as usize) {
+            Some(place) => place.as_ref(),
+            None => None,
+        }
+    }
+
+    /// [`Part::list`] of the part at the index, where there is one.
+    fn list_part(
+        &self,
+        index: u64,
+        base: u64,
+        first: u64,
+        last: u64,
+        found: &mut Vec<u64>,
+    ) -> Result<(), NoMemory>
+        requires { base + last < 2 ^ 64 }
+        ensures { OnOk result (found.new.items ≡ found.old.items
+            ++ keys_found (in_part C.at (place_at self.now.parts.items index)) base first (last + 1)) }
+    {
+        match self.part(index) {
+            Some(part) => part.list(base, first, last, found),
+            None => Ok(()),
+        }
+    }
+}
+
+impl<C: Part + Drop, const SPAN: u64> Part for Branch<C, SPAN> {
+    type Item = C::Item;
+
+    ghost at = { λ branch. in_parts C.at (positive SPAN) branch.parts.items };
+
+    fn empty(alloc: Global) -> Branch<C, SPAN> {
+        Branch {
+            alloc,
+            parts: Vec::new(alloc),
+        }
+    }
+
+    fn get(&self, key: u64) -> Option<&C::Item> {
+        let span = span::<SPAN>();
+        match self.part(key / span) {
+            Some(part) => part.get(key % span),
+            None => None,
+        }
+    }
+
+    fn put(&mut self, key: u64, item: C::Item) -> Result<Option<C::Item>, (C::Item, NoMemory)> {
+        let span = span::<SPAN>();
+        let index = key / span;
+        if let Err(no_memory) = reach(&mut self.parts, index) {
+            return Err((item, no_memory));
+        }
+        match &mut self.parts[index as usize] {
+            Some(part) => part.put(key % span, item),
+            None => {
+                let mut part = match Shared::empty(self.alloc) {
+                    Ok(part) => part,
+                    Err(no_memory) => return Err((item, no_memory)),
+                };
+                let old = part.put(key % span, item)?;
+                self.parts[index as usize] = Some(part);
+                Ok(old)
+            }
+        }
+    }
+
+    fn take(&mut self, key: u64) -> Result<Option<C::Item>, NoMemory> {
+        let span = span::<SPAN>();
+        let index = key / span;
+        if index >= self.parts.len() as u64 {
+            return Ok(None);
+        }
+        match &mut self.parts[index as usize] {
+            Some(part) => part.take(key % span),
+            None => Ok(None),
+        }
+    }
+
+    fn copy(&self) -> Result<Branch<C, SPAN>, NoMemory> {
+        let mut parts = Vec::with_capacity(self.alloc, self.parts.len())?;
+        for part in &self.parts {
+            parts.push(match part {
+                Some(part) => Some(part.share()?),
+                None => None,
+            })?;
+        }
+        Ok(Branch {
+            alloc: self.alloc,
+            parts,
+        })
+    }
+
+    fn list(&self, base: u64, first: u64, last: u64, found: &mut Vec<u64>) -> Result<(), NoMemory> {
+        let span = span::<SPAN>();
+        let count = self.parts.len() as u64;
+        let top = last / span;
+        let end = if top < count { top + 1 } else { count };
+        for index in first / span..end {
+            let start = index * span;
+            let last_of_part = (last - start).min(span - 1);
+            self.list_part(
+                index,
+                base + start,
+                first.saturating_sub(start),
+                last_of_part,
+                found,
+            )?;
+        }
+        Ok(())
+    }
+}

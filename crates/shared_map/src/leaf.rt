@@ -1,0 +1,73 @@
+ghost use Rattle.shared_map.specs.Places.{place_at};
+
+use crate::part::Part;
+use crate::places::reach;
+use cell_value::{Duplicate, NoMemory};
+use std::alloc::Global;
+
+/// The items of a map's neighbouring keys, each at its place. There are places up to the last that
+/// was filled.
+#[derive(Drop)]
+pub struct Leaf<T> {
+    alloc: Global,
+    places: Vec<Option<T>>,
+}
+
+impl<T: Duplicate + Drop> Part for Leaf<T> {
+    type Item = T;
+
+    ghost at = { λ leaf. place_at leaf.places.items };
+
+    fn empty(alloc: Global) -> Leaf<T> {
+        Leaf {
+            alloc,
+            places: Vec::new(alloc),
+        }
+    }
+
+    fn get(&self, key: u64) -> Option<&T> {
+        match self.places.get(key as usize) {
+            Some(place) => place.as_ref(),
+            None => None,
+        }
+    }
+
+    fn put(&mut self, key: u64, item: T) -> Result<Option<T>, (T, NoMemory)> {
+        match reach(&mut self.places, key) {
+            Ok(()) => Ok(self.places[key as usize].replace(item)),
+            Err(no_memory) => Err((item, no_memory)),
+        }
+    }
+
+    fn take(&mut self, key: u64) -> Result<Option<T>, NoMemory> {
+        match self.places.get_mut(key as usize) {
+            Some(place) => Ok(place.take()),
+            None => Ok(None),
+        }
+    }
+
+    fn copy(&self) -> Result<Leaf<T>, NoMemory> {
+        let mut places = Vec::with_capacity(self.alloc, self.places.len())?;
+        for place in &self.places {
+            places.push(match place {
+                Some(item) => Some(item.duplicate()?),
+                None => None,
+            })?;
+        }
+        Ok(Leaf {
+            alloc: self.alloc,
+            places,
+        })
+    }
+
+    fn list(&self, base: u64, first: u64, last: u64, found: &mut Vec<u64>) -> Result<(), NoMemory> {
+        let count = self.places.len() as u64;
+        let end = if last < count { last + 1 } else { count };
+        for key in first..end {
+            if self.get(key).is_some() {
+                found.push(base + key)?;
+            }
+        }
+        Ok(())
+    }
+}

@@ -1,0 +1,15 @@
+//! A finite map from 64-bit keys whose copy copies no item: versions of it share what they have in
+//! common, and a write copies only the parts on the way to its key that another version shares.
+#![tactic(auto)]
+
+mod branch;
+mod leaf;
+mod map;
+mod part;
+mod places;
+mod shared;
+
+pub use map::SharedMap;
+
+#[cfg(test)]
+mod tests;

@@ -1,0 +1,150 @@
+ghost use Rattle.std.specs.Prelude.{◌≡◌, IfOk, OnOk, OnErr, IfErr};
+ghost use Rattle.std.specs.Option.{option_copied};
+ghost use Rattle.std.specs.FinMap as map;
+ghost use Rattle.shared_map.specs.Map.{AreKeysWithin};
+
+use crate::branch::Branch;
+use crate::leaf::Leaf;
+use crate::shared::Shared;
+use cell_value::{Duplicate, Items, NoMemory};
+use std::alloc::Global;
+use std::marker::Model;
+
+/// The keys of one number of a line, by digits of 6, 6, 6 and 14 bits from the last: 64 places a part,
+/// but for the first digit, whose part has as many places as are in use, at most 16,384.
+type Line<T> = Branch<Branch<Branch<Leaf<T>, 64>, 4_096>, 262_144>;
+
+/// All keys of 64 bits: of the upper 32 the same digits again.
+type Root<T> = Branch<
+    Branch<Branch<Branch<Line<T>, 4_294_967_296>, 274_877_906_944>, 17_592_186_044_416>,
+    1_125_899_906_842_624,
+>;
+
+/// A finite map from keys of 64 bits to items, of which any number of versions can be held: a copy
+/// copies no item, and a write to one version shows in no other.
+///
+/// A call takes steps in proportion to the depth, which is eight, and to the places of the parts on the
+/// way; a write copies those that another version shares. A version that is dropped costs what it
+/// alone held.
+#[derive(Drop)]
+pub struct SharedMap<T: Duplicate + Drop> {
+    alloc: Global,
+    root: Shared<Root<T>>,
+    count: u64,
+}
+
+impl<T: Duplicate + Drop> Model for SharedMap<T> {
+    ghost use Rattle.std.specs.Prelude.{◌≡◌};
+    ghost use Rattle.std.specs.Ordering.{nat_cmp};
+    ghost use Rattle.std.specs.Coded.{coded_ℕ};
+    ghost use Rattle.std.specs.FinMap as map;
+    ghost use Rattle.shared_map.specs.Map.{map_of};
+    ghost use Rattle.shared_map.specs.Root.{in_root};
+
+    ghost Value = { map.FinMap nat_cmp T };
+
+    ghost coded = { map.code coded_ℕ T.code };
+
+    ghost view = { λ m. map_of (in_root m.root) };
+
+    ghost invariant = { λ m. m.count ≡ map.len (map_of (in_root m.root)) };
+}
+
+impl<T: Duplicate + Drop> SharedMap<T> {
+    /// A map with nothing in it.
+    ///
+    /// # Errors
+    ///
+    /// [`NoMemory`] where memory runs out.
+    pub fn new(alloc: Global) -> Result<SharedMap<T>, NoMemory>
+        ensures { IfOk result (λ items. items ≡ map.empty) }
+    {
+        Ok(SharedMap {
+            alloc,
+            root: Shared::empty(alloc)?,
+            count: 0,
+        })
+    }
+
+    /// How many keys hold an item.
+    pub fn count(&self) -> u64
+        ensures { result ≡ map.len self.now }
+    {
+        self.count
+    }
+
+    /// The item at the key, lent; None where it holds none.
+    pub fn get(&self, key: u64) -> Option<&T>
+        ensures { option_copied result ≡ map.get self.now key }
+    {
+        self.root.get(key)
+    }
+
+    /// Puts the item at the key, and gives the one that was there.
+    ///
+    /// # Errors
+    ///
+    /// [`NoMemory`] with the item where memory runs out; the map is as it was.
+    pub fn put(&mut self, key: u64, item: T) -> Result<Option<T>, (T, NoMemory)>
+        ensures old { IfOk result (λ old. old ≡ map.get self.old key) }
+        ensures put { OnOk result (self.new ≡ map.insert self.old key item) }
+        ensures back { IfErr result (λ refused. refused.0 ≡ item) }
+        ensures unchanged { OnErr result (self.new ≡ self.old) }
+    {
+        if self.count == u64::MAX {
+            return Err((item, NoMemory));
+        }
+        let old = self.root.put(key, item)?;
+        if old.is_none() {
+            self.count += 1;
+        }
+        Ok(old)
+    }
+
+    /// Takes the item at the key out; None where it holds none, and then no memory is wanted.
+    ///
+    /// # Errors
+    ///
+    /// [`NoMemory`] where memory runs out for the parts that other versions share; the map is as it
+    /// was.
+    pub fn take(&mut self, key: u64) -> Result<Option<T>, NoMemory>
+        ensures item { IfOk result (λ item. item ≡ map.get self.old key) }
+        ensures taken { OnOk result (self.new ≡ map.remove self.old key) }
+        ensures unchanged { OnErr result (self.new ≡ self.old) }
+    {
+        if self.root.get(key).is_none() {
+            return Ok(None);
+        }
+        let item = self.root.take(key)?;
+        self.count -= 1;
+        Ok(item)
+    }
+
+    /// Another version, which holds the same. No item is copied.
+    ///
+    /// # Errors
+    ///
+    /// [`NoMemory`] where there are too many versions.
+    pub fn copy(&self) -> Result<SharedMap<T>, NoMemory>
+        ensures { IfOk result (λ copy. copy ≡ self.now) }
+    {
+        Ok(SharedMap {
+            alloc: self.alloc,
+            root: self.root.share()?,
+            count: self.count,
+        })
+    }
+
+    /// The keys from the first to the last that hold an item, in order.
+    ///
+    /// # Errors
+    ///
+    /// [`NoMemory`] where memory runs out.
+    pub fn keys(&self, first: u64, last: u64) -> Result<Items<u64>, NoMemory>
+        ensures { IfOk result (AreKeysWithin first last self.now) }
+    {
+        let mut found = Vec::new(self.alloc);
+        self.root.list(0, first, last, &mut found)?;
+        Ok(Items::of(found))
+    }
+}

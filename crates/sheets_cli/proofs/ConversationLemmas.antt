@@ -1,0 +1,223 @@
+-- Conversations: one part behind another.
+use Rattle.std.proofs.Common.{◌≡◌, ℕ, ◌-◌, List, [], ◌∷◌, ◌++◌, length, Option, None, Some, IfSome}
+use Rattle.std.proofs.Common.{MatchOption, ◌⊎◌, inl, inr, refl, sym, ◌∙◌, ap, subst}
+use Rattle.std.proofs.Common.{append_assoc, arith}
+use Rattle.std.specs.Option.{option_map}
+use Rattle.sheets_http.specs.declared.request.Wire.{Wire}
+use Rattle.sheets_http.specs.Framing.{End, ended, asked, closed, truncated, long_talk}
+use Rattle.sheets_http.specs.Framing.{Talk}
+use Rattle.sheets_http.specs.Laws.{HasOneTalk}
+use Rattle.sheets_cli.specs.Program.{status_of, status_at}
+use Rattle.sheets_http.specs.Outside.{TakesAll}
+use Rattle.sheets_cli.specs.declared.ended.Ended.{Ended}
+use Rattle.sheets_cli.specs.declared.ended.Ended.TheVariants as how
+use Rattle.sheets_cli.specs.Conversation.{AreAnswered, StartsWithRequests, Moment, HasAnswered}
+use Rattle.sheets_cli.specs.Conversation.{IsWhole, IsCutOff, end_of_talk, IsConversation, HasEnd, EndsAs}
+use Rattle.sheets_cli.proofs.SendLemmas.{append_twice, nothing_more}
+
+-- some requests are answered, and then others
+pub AreAnswered-append : {State : Type 0} (IsReply : State → Wire → State → List ℕ → Type 0)
+    (state between state' : State) (requests others : List Wire) (responses more : List ℕ)
+    → AreAnswered IsReply state requests between responses → AreAnswered IsReply between others state' more
+    → AreAnswered IsReply state (requests ++ others) state' (responses ++ more)
+AreAnswered-append {State} IsReply state between state' [] others responses more first then =
+    subst (λ (bytes : List ℕ). AreAnswered IsReply state others state' (bytes ++ more)) (sym first.1)
+    (subst (λ (s : State). AreAnswered IsReply s others state' more) first.0 then)
+AreAnswered-append IsReply state between state' (request ∷ requests) others responses more first then = (
+  first.0,
+  first.1,
+  first.2 ++ more,
+  first.3,
+  AreAnswered-append IsReply first.0 between state' requests others first.2 more first.4 then,
+  ap (λ (bytes : List ℕ). bytes ++ more) first.5 ∙ append_assoc first.1 first.2 more,
+)
+
+-- a stream begins with some requests, and what is left with others
+pub StartsWithRequests-append : (room : ℕ) (bytes : List ℕ) (requests others : List Wire) (between : ℕ)
+    (middle : List ℕ) (room' : ℕ) (rest : List ℕ)
+    → StartsWithRequests room bytes requests between middle → StartsWithRequests between middle others room' rest
+    → StartsWithRequests room bytes (requests ++ others) room' rest
+StartsWithRequests-append room bytes [] others between middle room' rest first then =
+    subst (λ (r : ℕ). StartsWithRequests r bytes others room' rest) first.0
+    (subst (λ (b : List ℕ). StartsWithRequests between b others room' rest) first.1 then)
+StartsWithRequests-append room bytes (request ∷ requests) others between middle room' rest first then = (
+  first.0,
+  first.1,
+  first.2,
+  StartsWithRequests-append (room - (length bytes - length first.0)) first.0 requests others between middle room' rest
+      first.3 then,
+)
+
+-- the talk of what is left behind requests is the end of the whole talk
+pub Talk-behind : (room : ℕ) (bytes : List ℕ) (requests others : List Wire) (room' : ℕ) (rest : List ℕ) (end : End)
+    → StartsWithRequests room bytes requests room' rest → Talk room' rest others end
+    → Talk room bytes (requests ++ others) end
+Talk-behind room bytes [] others room' rest end first talk =
+    subst (λ (r : ℕ). Talk r bytes others end) first.0 (subst (λ (b : List ℕ). Talk room' b others end) first.1 talk)
+Talk-behind room bytes (request ∷ requests) others room' rest end first talk = (
+  first.0,
+  first.1,
+  rw first.2 (Talk-behind (room - (length bytes - length first.0)) first.0 requests others room' rest end first.3 talk),
+)
+
+-- ---- parts of a conversation
+
+-- what holds of the rest of a stream, where the source tells it
+behind : (stream' : Option (List ℕ)) (rest : List ℕ) (P : List ℕ → Type 0) → stream' ≡ Some rest → IfSome stream' P
+    → P rest
+behind stream' rest P is holds = subst (λ (s : Option (List ℕ)). IfSome s P) is holds
+
+first_then : (room : ℕ) (stream : Option (List ℕ)) (requests : List Wire) (between : ℕ) (middle : Option (List ℕ))
+    (others : List Wire) (room' : ℕ) (stream' : Option (List ℕ))
+    → IfSome stream
+    (λ bytes. (rest : List ℕ) × StartsWithRequests room bytes requests between rest × (middle ≡ Some rest))
+    → IfSome middle
+    (λ bytes. (rest : List ℕ) × StartsWithRequests between bytes others room' rest × (stream' ≡ Some rest))
+    → IfSome stream
+    (λ bytes. (rest : List ℕ) × StartsWithRequests room bytes (requests ++ others) room' rest
+    × (stream' ≡ Some rest))
+first_then room None requests between middle others room' stream' first then = tt
+first_then room (Some bytes) requests between middle others room' stream' first then =
+    let on = behind middle first.0
+    (λ b. (rest : List ℕ) × StartsWithRequests between b others room' rest × (stream' ≡ Some rest)) first.2 then in
+    (on.0, StartsWithRequests-append room bytes requests others between first.0 room' on.0 first.1 on.1, on.2)
+
+talk_then : (room : ℕ) (stream : Option (List ℕ)) (requests : List Wire) (between : ℕ) (middle : Option (List ℕ))
+    (others : List Wire) (end : End)
+    → IfSome stream
+    (λ bytes. (rest : List ℕ) × StartsWithRequests room bytes requests between rest × (middle ≡ Some rest))
+    → IfSome middle (λ bytes. Talk between bytes others end)
+    → IfSome stream (λ bytes. Talk room bytes (requests ++ others) end)
+talk_then room None requests between middle others end first talk = tt
+talk_then room (Some bytes) requests between middle others end first talk =
+    Talk-behind room bytes requests others between first.0 end first.1
+    (behind middle first.0 (λ b. Talk between b others end) first.2 talk)
+
+-- some bytes were written, and then others
+takes_twice : (before middle after : Option (List ℕ)) (a b : List ℕ) → TakesAll before middle a
+    → TakesAll middle after b → TakesAll before after (a ++ b)
+takes_twice before middle after a b first second = second ∙ ap (option_map (λ bytes. bytes ++ b)) first
+    ∙ append_twice before a b
+
+-- no request was answered
+pub HasAnswered-none : {State : Type 0} (IsReply : State → Wire → State → List ℕ → Type 0) (room : ℕ)
+    (stream : Option (List ℕ)) (at : Moment State)
+    → HasAnswered IsReply room stream at room stream at
+HasAnswered-none {State} IsReply room stream at = record {
+  requests = [];
+  responses = [];
+  are_first = first stream;
+  are_answered = (refl, refl);
+  are_written = nothing_more at.written;
+  later = omega arith;
+}
+  where
+    first : (stream : Option (List ℕ))
+        → IfSome stream (λ bytes. (rest : List ℕ) × StartsWithRequests room bytes [] room rest × (stream ≡ Some rest))
+    first None = tt
+    first (Some bytes) = (bytes, (refl, refl), refl)
+
+-- some requests were answered, and then others
+pub HasAnswered-then : {State : Type 0} (IsReply : State → Wire → State → List ℕ → Type 0) (room between room' : ℕ)
+    (stream middle stream' : Option (List ℕ)) (before now after : Moment State)
+    → HasAnswered IsReply room stream before between middle now
+    → HasAnswered IsReply between middle now room' stream' after
+    → HasAnswered IsReply room stream before room' stream' after
+HasAnswered-then IsReply room between room' stream middle stream' before now after first then = record {
+  requests = first.requests ++ then.requests;
+  responses = first.responses ++ then.responses;
+  are_first = first_then room stream first.requests between middle then.requests room' stream' first.are_first
+      then.are_first;
+  are_answered = AreAnswered-append IsReply before.state now.state after.state first.requests then.requests
+      first.responses then.responses first.are_answered then.are_answered;
+  are_written = takes_twice before.written now.written after.written first.responses then.responses first.are_written
+      then.are_written;
+  later = omega (arith, first.later, then.later);
+}
+
+-- some requests were answered, and then the conversation ended: so ended the whole
+pub IsConversation-behind : {State : Type 0} (IsReply : State → Wire → State → List ℕ → Type 0) (room between : ℕ)
+    (stream middle : Option (List ℕ)) (before now after : Moment State) (end : Ended)
+    → HasAnswered IsReply room stream before between middle now → IsConversation IsReply between middle now after end
+    → IsConversation IsReply room stream before after end
+IsConversation-behind {State} IsReply room between stream middle before now after end first then = go
+    (end_of_talk end) then
+  where
+    go : (whole : Option End)
+        → MatchOption whole (IsCutOff IsReply between middle now after end)
+        (λ e. IsWhole IsReply between middle now after e)
+        → MatchOption whole (IsCutOff IsReply room stream before after end)
+        (λ e. IsWhole IsReply room stream before after e)
+    go None cut = record {
+      room' = cut.room';
+      rest = cut.rest;
+      between = cut.between;
+      answered = HasAnswered-then IsReply room between cut.room' stream middle cut.rest before now cut.between first
+          cut.answered;
+      stops = cut.stops;
+    }
+    go (Some e) whole = record {
+      requests = first.requests ++ whole.requests;
+      responses = first.responses ++ whole.responses;
+      last = whole.last;
+      are_all = talk_then room stream first.requests between middle whole.requests e first.are_first whole.are_all;
+      are_answered = AreAnswered-append IsReply before.state now.state after.state first.requests whole.requests
+          first.responses whole.responses first.are_answered whole.are_answered;
+      is_last = whole.is_last;
+      are_written = rw (append_assoc first.responses whole.responses whole.last)
+          (takes_twice before.written now.written after.written first.responses (whole.responses ++ whole.last)
+          first.are_written whole.are_written);
+    }
+
+-- it ends as the talk does
+pub ends_as : {State : Type 0} (IsReply : State → Wire → State → List ℕ → Type 0) (room : ℕ)
+    (stream : Option (List ℕ)) (before after : Moment State) (end : Ended)
+    → IsConversation IsReply room stream before after end → IfSome stream (λ bytes. EndsAs room bytes end)
+ends_as {State} IsReply room stream before after end is = go stream (end_of_talk end) is
+  where
+    go : (stream : Option (List ℕ)) (whole : Option End)
+        → MatchOption whole (IsCutOff IsReply room stream before after end)
+        (λ e. IsWhole IsReply room stream before after e)
+        → IfSome stream (λ bytes. IfSome whole (λ e. HasEnd room bytes e))
+    go None whole is = tt
+    go (Some bytes) None is = tt
+    go (Some bytes) (Some e) is = (is.requests, is.are_all)
+
+-- ---- statuses
+
+-- a stream has one end
+one_end : HasOneTalk → (room : ℕ) (bytes : List ℕ) (requests : List Wire) (end other : End)
+    → Talk room bytes requests other → HasEnd room bytes end → end ≡ other
+one_end one_talk room bytes requests end other talk has = (one_talk room bytes has.0 requests end other has.1 talk).1
+
+-- the status is that of the talk's end, or says why not
+exactly_at : HasOneTalk → (room : ℕ) (bytes : List ℕ) (result : Ended) (status : ℕ) (Read Write : Type 0)
+    → status ≡ status_of result → EndsAs room bytes result
+    → (status ≡ status_of how.ReadFault → Read) → (status ≡ status_of how.WriteFault → Write)
+    → (requests : List Wire) (end : End) → Talk room bytes requests end
+    → (status ≡ status_at end) ⊎ ((status ≡ status_of how.NoMemory) ⊎ (Read ⊎ Write))
+exactly_at one room bytes how.End status Read Write is ends read write requests end talk = inl
+    (is ∙ ap status_at (one_end one room bytes requests ended end talk ends))
+exactly_at one room bytes how.Asked status Read Write is ends read write requests end talk = inl
+    (is ∙ ap status_at (one_end one room bytes requests asked end talk ends))
+exactly_at one room bytes (how.Closed fault) status Read Write is ends read write requests end talk = inl
+    (is ∙ ap status_at (one_end one room bytes requests (closed fault) end talk ends))
+exactly_at one room bytes (how.Truncated count) status Read Write is ends read write requests end talk = inl
+    (is ∙ ap status_at (one_end one room bytes requests (truncated count) end talk ends))
+exactly_at one room bytes how.LongTalk status Read Write is ends read write requests end talk = inl
+    (is ∙ ap status_at (one_end one room bytes requests long_talk end talk ends))
+exactly_at one room bytes how.ReadFault status Read Write is ends read write requests end talk = inr
+    (inr (inl (read is)))
+exactly_at one room bytes how.WriteFault status Read Write is ends read write requests end talk = inr
+    (inr (inr (write is)))
+exactly_at one room bytes how.NoMemory status Read Write is ends read write requests end talk = inr (inl is)
+
+pub exactly_as : HasOneTalk → (left : Option (List ℕ)) (room : ℕ) (result : Ended) (status : ℕ) (Read Write : Type 0)
+    → status ≡ status_of result
+    → IfSome left (λ bytes. EndsAs room bytes result) → (status ≡ status_of how.ReadFault → Read)
+    → (status ≡ status_of how.WriteFault → Write)
+    → IfSome left (λ bytes. (requests : List Wire) (end : End) → Talk room bytes requests end
+    → (status ≡ status_at end) ⊎ ((status ≡ status_of how.NoMemory) ⊎ (Read ⊎ Write)))
+exactly_as one None room result status Read Write is ends read write = tt
+exactly_as one (Some bytes) room result status Read Write is ends read write = exactly_at one room bytes result status
+    Read Write is ends read write

@@ -1,0 +1,17 @@
+-- What holds of every reply.
+use Rattle.std.specs.Prelude.{◌≡◌, ℕ, List}
+use Rattle.sheets_http.specs.declared.request.Wire.{Wire}
+use Rattle.sheets_cli.specs.Cells.{Cells}
+use Rattle.sheets_cli.specs.Reply.{IsReply}
+
+-- a request has one reply on given cells, and leaves them one way
+abbrev pub HasOneReply : Type 0
+HasOneReply =
+    (cells cells_one cells_other : Cells) (request : Wire) (one other : List ℕ)
+    → IsReply cells request cells_one one → IsReply cells request cells_other other
+    → (cells_one ≡ cells_other) × (one ≡ other)
+
+-- each request has a reply on each cells
+abbrev pub HasReply : Type 0
+HasReply = (cells : Cells) (request : Wire)
+    → (cells' : Cells) × (response : List ℕ) × IsReply cells request cells' response

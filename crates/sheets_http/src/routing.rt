@@ -1,0 +1,178 @@
+ghost use Rattle.std.specs.Prelude.{◌≡◌, ◌↔◌, [], map, IfOk, IsTrue, IsUtf8};
+ghost use Rattle.percent_encoding.specs.Percent.{percent_decode};
+ghost use Rattle.sheets_http.specs.Table.{line};
+ghost use Rattle.sheets_http.specs.Routes.{FitsSegment, FitSegments, raw_segments, part, path_of, query_of, GivesLast, IsRoute};
+ghost use Rattle.sheets_http.specs.Routing.{IsBefore, FindsCall, RoutesCall};
+
+use crate::query::{fits_query, members_of};
+use crate::table::Segment;
+use crate::{Route, RouteFault, Verb};
+use cell_value::{NoMemory, Text};
+use percent_encoding::percent_decode;
+use std::alloc::{AllocError, Global};
+
+/// The call that a request with that method and that target is, with the parts of its path and the
+/// members of its query.
+///
+/// # Errors
+///
+/// [`RouteFault::NoRoute`] where no line of the table has the method and the path, else
+/// [`RouteFault::BadQuery`] where the call doesn't take the query; [`RouteFault::NoMemory`] where
+/// memory runs out.
+pub fn route(alloc: Global, method: &str, target: &str) -> Result<Route, RouteFault>
+    ensures { IsRoute method.now target.now result }
+{
+    let (path, query) = split_target(target);
+    match call_of(alloc, &Verb::ALL, method, path) {
+        Ok(Some((verb, before))) => route_call(alloc, verb, before, query),
+        Ok(None) => Err(RouteFault::NoRoute),
+        Err(NoMemory) => Err(RouteFault::NoMemory),
+    }
+}
+
+/// The path and the query of a target.
+fn split_target(target: &str) -> (&[u8], &[u8])
+    ensures path { result.0.now ≡ path_of target.now }
+    ensures query { result.1.now ≡ query_of target.now }
+{
+    match target.split_once('?') {
+        Some((path, query)) => (path.as_bytes(), query.as_bytes()),
+        None => (target.as_bytes(), b""),
+    }
+}
+
+/// The first of these calls that a request is, with the path before its verb.
+fn call_of<'a>(
+    alloc: Global,
+    verbs: &[Verb],
+    method: &str,
+    path: &'a [u8],
+) -> Result<Option<(Verb, &'a [u8])>, NoMemory>
+    ensures { IfOk result (λ found. FindsCall verbs.now method.now path.now found) }
+{
+    match verbs {
+        [] => Ok(None),
+        [verb, others @ ..] => match before_verb(alloc, *verb, method, path)? {
+            Some(before) => Ok(Some((*verb, before))),
+            None => call_of(alloc, others, method, path),
+        },
+    }
+}
+
+/// The path before its verb, where a request is that call.
+fn before_verb<'a>(
+    alloc: Global,
+    verb: Verb,
+    method: &str,
+    path: &'a [u8],
+) -> Result<Option<&'a [u8]>, NoMemory>
+    ensures { IfOk result (λ found. IsBefore verb method.now path.now found) }
+{
+    let line = verb.line();
+    if method != line.method {
+        return Ok(None);
+    }
+    match path.strip_suffix(line.verb.as_bytes()) {
+        Some(before) => {
+            let raws = segments_of(alloc, before)?;
+            let fits = fit_segments(alloc, line.path, &raws)?;
+            if fits { Ok(Some(before)) } else { Ok(None) }
+        }
+        None => Ok(None),
+    }
+}
+
+/// The segments of a path.
+fn segments_of<'a>(alloc: Global, path: &'a [u8]) -> Result<Vec<&'a [u8]>, AllocError>
+    ensures { IfOk result (λ segments. map (λ s. s.now) segments.items ≡ raw_segments path.now) }
+{
+    path.split(|byte| *byte == b'/').collect(alloc)
+}
+
+/// Whether each segment fits.
+fn fit_segments(alloc: Global, path: &[Segment], raws: &[&[u8]]) -> Result<bool, NoMemory>
+    ensures { IfOk result (λ fit. IsTrue fit ↔ FitSegments path.now (map (λ s. s.now) raws.now)) }
+{
+    match path {
+        [] => Ok(raws.is_empty()),
+        [segment, path @ ..] => match raws {
+            [] => Ok(false),
+            [raw, raws @ ..] => Ok(
+                fits_segment(alloc, *segment, raw)? && fit_segments(alloc, path, raws)?,
+            ),
+        },
+    }
+}
+
+/// Whether a raw segment fits.
+fn fits_segment(alloc: Global, segment: Segment, raw: &[u8]) -> Result<bool, NoMemory>
+    ensures { IfOk result (λ fits. IsTrue fits ↔ FitsSegment segment raw.now) }
+{
+    let mut bytes = Vec::new(alloc);
+    percent_decode(raw).append_to(&mut bytes)?;
+    match str::from_utf8(&bytes) {
+        Ok(text) => Ok(segment.fits(text)),
+        Err(_) => Ok(false),
+    }
+}
+
+/// The route of a call, with the path before its verb.
+fn route_call(alloc: Global, verb: Verb, before: &[u8], query: &[u8]) -> Result<Route, RouteFault>
+    requires { FitSegments (line verb).path (raw_segments before.now) }
+    ensures { RoutesCall verb before.now query.now result }
+{
+    let query = members_of(alloc, query)?;
+    if !fits_query(verb, query.as_slice()) {
+        return Err(RouteFault::BadQuery);
+    }
+    let raws = segments_of(alloc, before)?;
+    let book = part(alloc, &raws, 3)?;
+    let last = part(alloc, &raws, 5)?;
+    let none = Text::of(String::new(alloc));
+    let (range, id) = split_last(verb, last, none);
+    Ok(Route {
+        verb,
+        book,
+        range,
+        id,
+        query,
+    })
+}
+
+/// The last part of a path as a range or as the id of an item of metadata, with nothing as the
+/// other.
+fn split_last(verb: Verb, last: Text, none: Text) -> (Text, Text)
+    requires { none ≡ [] }
+    ensures { GivesLast verb last result.0 result.1 }
+{
+    if verb == Verb::Item {
+        (none, last)
+    } else {
+        (last, none)
+    }
+}
+
+/// The part of a path at a place.
+fn part(alloc: Global, raws: &[&[u8]], place: usize) -> Result<Text, NoMemory>
+    requires { IsUtf8 (part place (map (λ s. s.now) raws.now)) }
+    ensures { IfOk result (λ text. text ≡ part place (map (λ s. s.now) raws.now)) }
+{
+    if place < raws.len() {
+        decoded(alloc, raws[place])
+    } else {
+        Ok(Text::of(String::new(alloc)))
+    }
+}
+
+/// A segment, decoded.
+fn decoded(alloc: Global, raw: &[u8]) -> Result<Text, NoMemory>
+    requires { IsUtf8 (percent_decode raw.now) }
+    ensures { IfOk result (λ text. text ≡ percent_decode raw.now) }
+{
+    let mut bytes = Vec::new(alloc);
+    percent_decode(raw).append_to(&mut bytes)?;
+    match String::from_utf8(bytes) {
+        Ok(text) => Ok(Text::of(text)),
+        Err(_) => unreachable!(),
+    }
+}

@@ -1,0 +1,127 @@
+ghost use Rattle.std.specs.Prelude.{◌≡◌, ◌≢◌, ◌+◌, ◌^◌, ◌<◌, ◌≤◌, length, take};
+ghost use Rattle.sheets_http.specs.Heads.{is_break, ends_with_empty_line, line_limit, is_too_long, head_state};
+ghost use Rattle.sheets_http.specs.Scanning.{IsScan, scan_after};
+
+/// How many bytes a head has at most, with the empty lines before it.
+const HEAD_LIMIT: usize = 16_384;
+
+/// How many lines a head has at most.
+pub(crate) const LINE_LIMIT: usize = 66;
+
+/// How a head stands of which the first bytes are known.
+#[derive(Clone, Copy, Debug, PartialEq, Eq)]
+pub(crate) enum HeadState {
+    /// It may go on.
+    Growing,
+    /// It is whole.
+    Whole,
+    /// It is too long.
+    TooLong,
+}
+
+/// How far a head has been looked at: the bytes seen, those of them that are passed over before
+/// it, and the line feeds behind these.
+#[derive(Clone, Copy, Debug)]
+pub(crate) struct HeadScan {
+    pub(crate) seen: usize,
+    pub(crate) skipped: usize,
+    pub(crate) feeds: usize,
+}
+
+impl HeadScan {
+    pub(crate) const START: HeadScan = HeadScan {
+        seen: 0,
+        skipped: 0,
+        feeds: 0,
+    };
+
+    /// The scan with one more byte.
+    fn after(self, byte: u8) -> HeadScan
+        requires seen { self.seen + 1 < 2 ^ 64 }
+        requires ordered { self.skipped ≤ self.seen }
+        requires few { self.feeds ≤ line_limit }
+        ensures { result ≡ scan_after self byte }
+    {
+        if self.skipped == self.seen && is_break(byte) {
+            HeadScan {
+                seen: self.seen + 1,
+                skipped: self.skipped + 1,
+                feeds: self.feeds,
+            }
+        } else {
+            HeadScan {
+                seen: self.seen + 1,
+                skipped: self.skipped,
+                feeds: self.feeds + usize::from(byte == b'\n'),
+            }
+        }
+    }
+
+    /// Looks at one more byte.
+    fn step(&mut self, bytes: &[u8]) -> HeadState
+        requires scan { IsScan self.old bytes.now }
+        requires growing { head_state (take self.old.seen bytes.now) ≡ HeadState.Growing }
+        requires more { self.old.seen < length bytes.now }
+        ensures scan { IsScan self.new bytes.now }
+        ensures seen { self.new.seen ≡ self.old.seen + 1 }
+        ensures result { result ≡ head_state (take self.new.seen bytes.now) }
+    {
+        *self = self.after(bytes[self.seen]);
+        self.assess(bytes)
+    }
+
+    /// How the head stands of which the bytes seen are the first.
+    fn assess(&self, bytes: &[u8]) -> HeadState
+        requires { IsScan self.now bytes.now }
+        ensures { result ≡ head_state (take self.now.seen bytes.now) }
+    {
+        let text = &bytes[self.skipped..self.seen];
+        if ends_with_empty_line(text) {
+            HeadState::Whole
+        } else if is_too_long(self.seen, self.feeds) {
+            HeadState::TooLong
+        } else {
+            HeadState::Growing
+        }
+    }
+
+    /// Looks at the bytes that weren't seen yet, before `end`, until they settle how the head stands.
+    pub(crate) fn find(&mut self, bytes: &[u8], end: usize) -> HeadState
+        requires scan { IsScan self.old bytes.now }
+        requires growing { head_state (take self.old.seen bytes.now) ≡ HeadState.Growing }
+        requires end { end ≤ length bytes.now }
+        ensures scan { IsScan self.new bytes.now }
+        ensures result { result ≡ head_state (take self.new.seen bytes.now) }
+        ensures growing { result ≡ HeadState.Growing → end ≤ self.new.seen }
+        ensures settled { result ≢ HeadState.Growing → self.new.seen ≤ end }
+    {
+        while self.seen < end {
+            let head_state = self.step(bytes);
+            if head_state != HeadState::Growing {
+                return head_state;
+            }
+        }
+        HeadState::Growing
+    }
+}
+
+/// Whether a byte is CR or LF.
+pub(crate) fn is_break(byte: u8) -> bool
+    ensures { result ≡ is_break byte }
+{
+    byte == b'\r' || byte == b'\n'
+}
+
+/// Whether the bytes end with an empty line.
+fn ends_with_empty_line(bytes: &[u8]) -> bool
+    ensures { result ≡ ends_with_empty_line bytes.now }
+{
+    bytes.ends_with(b"\n\n") || bytes.ends_with(b"\n\r\n")
+}
+
+/// Whether a head that isn't whole has too many bytes or lines.
+fn is_too_long(read: usize, feeds: usize) -> bool
+    ensures { result ≡ is_too_long read feeds }
+{
+    read >= HEAD_LIMIT || feeds >= LINE_LIMIT
+}
