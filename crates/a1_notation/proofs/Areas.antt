@@ -9,6 +9,7 @@ use Rattle.std.proofs.lemmas.List.Folds.{list_all-append}
 use Rattle.std.proofs.lemmas.List.Recursion.{and_from_places}
 use Rattle.grid_range.specs.declared.band.Band.{Band}
 use Rattle.grid_range.specs.declared.band.Band.TheVariants.{Whole, From, Span}
+use Rattle.a1_notation.specs.declared.column.TheConstants.{NAMED_COLUMNS}
 use Rattle.a1_notation.specs.declared.corner.Corner.{Corner}
 use Rattle.a1_notation.specs.declared.corner.Corner.TheVariants.{Cell, Column, Row}
 use Rattle.a1_notation.specs.Column.{IsColumn}
@@ -91,10 +92,10 @@ corner_weaker most more text (Column column) le is = column_weaker most more tex
 corner_weaker most more text (Row row) le is = is
 
 -- what is kept of the area between two corners
-lines_capped : (a b : ℕ) → lines_between (min a 18278) (min b 18278) ≡ capped_band (lines_between a b)
+lines_capped : (a b : ℕ) → lines_between (min a NAMED_COLUMNS) (min b NAMED_COLUMNS) ≡ capped_band (lines_between a b)
 lines_capped a b =
-    let low : min (min a 18278) (min b 18278) ≡ min (min a b) 18278 = omega arith in
-    let high : max (min a 18278) (min b 18278) + 1 ≡ min (max a b + 1) 18279 = omega arith in
+    let low : min (min a NAMED_COLUMNS) (min b NAMED_COLUMNS) ≡ min (min a b) NAMED_COLUMNS = omega arith in
+    let high : max (min a NAMED_COLUMNS) (min b NAMED_COLUMNS) + 1 ≡ min (max a b + 1) (NAMED_COLUMNS + 1) = omega arith in
     rw (low, high) refl
 
 abbrev pub capped_area : Option (Band × Band) → Option (Band × Band)
@@ -191,7 +192,7 @@ no_corner_no_cell text none most rows columns cell = none most (Cell cell.row ce
 abbrev pub IsUpToZZZ : Band → Type 0
 IsUpToZZZ columns = ¬ (ArePastZZZ columns)
 
-column_short : (most : ℕ) (text : List ℕ) (column : ℕ) → IsColumn most text column → column < 18278
+column_short : (most : ℕ) (text : List ℕ) (column : ℕ) → IsColumn most text column → column < NAMED_COLUMNS
     → IsColumn 3 text column
 column_short most text column is small =
     elim (letters_value_bounds text is.letters.all is.letters.some).1 [
@@ -207,7 +208,7 @@ column_of (Column column) = Some column
 column_of (Row row) = None
 
 abbrev pub IsSmall : Corner → Type 0
-IsSmall corner = IfSome (column_of corner) (λ column. column < 18278)
+IsSmall corner = IfSome (column_of corner) (λ column. column < NAMED_COLUMNS)
 
 corner_short : (most : ℕ) (text : List ℕ) (corner : Corner) → IsCorner most text corner → IsSmall corner
     → IsCorner 3 text corner
@@ -250,23 +251,23 @@ up_to_zzz : (x y : Corner) (columns : Band) → HasColumns x y columns → IsUpT
     → IsSmall x × IsSmall y × (capped_band columns ≡ columns)
 up_to_zzz x y columns (inl none) up = (rw none.0 tt, rw none.1 tt, rw none.2 refl)
 up_to_zzz x y columns (inr (a, b, one, other, e)) up =
-    let low : min (max a b + 1) 18279 ≤ 18278 =
+    let low : min (max a b + 1) (NAMED_COLUMNS + 1) ≤ NAMED_COLUMNS =
     elim
-    (cases_lt 18278 (min (max a b + 1) 18279)) [
+    (cases_lt NAMED_COLUMNS (min (max a b + 1) (NAMED_COLUMNS + 1))) [
       | inl past ↦ absurd (subst (λ (band : Band). IsUpToZZZ
           (capped_band band)) e up past)
       | inr le ↦ le
     ] in
-    let start : min (min a b) 18278 ≡ min a b = omega arith in
-    let end' : min (max a b + 1) 18279 ≡ max a b + 1 = omega arith in
+    let start : min (min a b) NAMED_COLUMNS ≡ min a b = omega arith in
+    let end' : min (max a b + 1) (NAMED_COLUMNS + 1) ≡ max a b + 1 = omega arith in
     (rw one (omega arith), rw other (omega arith), rw e (rw (start, end') refl))
 
 small_up_to_zzz : (x y : Corner) (columns : Band) → HasColumns x y columns → IsSmall x → IsSmall y → IsUpToZZZ columns
 small_up_to_zzz x y columns (inl none) small small' past = subst ArePastZZZ none.2 past
 small_up_to_zzz x y columns (inr (a, b, one, other, e)) small small' past =
-    let one_small : a < 18278 = rw one at small in
-    let other_small : b < 18278 = rw other at small' in
-    let far : 18278 < max a b + 1 = subst ArePastZZZ e past in
+    let one_small : a < NAMED_COLUMNS = rw one at small in
+    let other_small : b < NAMED_COLUMNS = rw other at small' in
+    let far : NAMED_COLUMNS < max a b + 1 = subst ArePastZZZ e past in
     absurd (omega arith)
 
 -- an area whose columns end at ZZZ or before

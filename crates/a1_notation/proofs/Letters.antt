@@ -9,6 +9,7 @@ use Rattle.std.proofs.lemmas.Int.Digits.{number_push}
 use Rattle.std.proofs.lemmas.List.{map_more}
 use Rattle.std.proofs.lemmas.List.Recursion.{and_at}
 use Rattle.a1_notation.proofs.ColumnLetters.{letter_value_bounds, first_letter, letters_value_bounds, letters_of_one, letters_of_two, letters_of_three}
+use Rattle.a1_notation.specs.declared.column.TheConstants.{NAMED_COLUMNS}
 use Rattle.a1_notation.specs.Column.{letter_value, letters_value, IsColumn, AreLetters, column_letters}
 
 -- each of some letters is one
@@ -60,17 +61,17 @@ upper_case_letters (a ∷ b ∷ c ∷ []) column h =
     ) refl)
 upper_case_letters (a ∷ b ∷ c ∷ d ∷ rest) column h = absurd (omega (arith, h.letters.few))
 
--- what `capped_column` counts of some letters is their column, where it is below 18278
+-- what `capped_column` counts of some letters is their column, where it is below NAMED_COLUMNS
 pub column_from_capped : (text : List ℕ) (capped : ℕ) → list_all is_ascii_alphabetic text ≡ true → 0 < length text
-    → capped + 1 ≡ min (letters_value text) 18279 → capped < 18278 → IsColumn 3 text capped
+    → capped + 1 ≡ min (letters_value text) (NAMED_COLUMNS + 1) → capped < NAMED_COLUMNS → IsColumn 3 text capped
 column_from_capped text capped all some counted small =
     elim (letters_value_bounds text all some).1 [
       | inl few ↦ record { letters = record { all = all; some = some; few = few.0 }; value = omega (arith, few.1) }
       | inr many ↦ absurd (omega (arith, many.1))
     ]
 
-pub capped_from_column : (text : List ℕ) (capped column : ℕ) → capped + 1 ≡ min (letters_value text) 18279
-    → IsColumn 3 text column → (capped < 18278) × (capped ≡ column)
+pub capped_from_column : (text : List ℕ) (capped column : ℕ) → capped + 1 ≡ min (letters_value text) (NAMED_COLUMNS + 1)
+    → IsColumn 3 text column → (capped < NAMED_COLUMNS) × (capped ≡ column)
 capped_from_column text capped column counted is =
     elim (letters_value_bounds text is.letters.all is.letters.some).1 [
       | inl few ↦ (omega (arith, few.1), omega (arith, few.1, is.value))
@@ -79,8 +80,8 @@ capped_from_column text capped column counted is =
 
 -- the counting itself
 pub capped_more : (text : List ℕ) (i number upper : ℕ) → list_all is_ascii_alphabetic text ≡ true → i < length text
-    → number ≡ min (letters_value (take i text)) 18279 → upper ≡ to_ascii_uppercase (get_or text i 0)
-    → min (26 * number + (upper - 65 + 1)) 18279 ≡ min (letters_value (take (i + 1) text)) 18279
+    → number ≡ min (letters_value (take i text)) (NAMED_COLUMNS + 1) → upper ≡ to_ascii_uppercase (get_or text i 0)
+    → min (26 * number + (upper - 65 + 1)) (NAMED_COLUMNS + 1) ≡ min (letters_value (take (i + 1) text)) (NAMED_COLUMNS + 1)
 capped_more text i number upper all h so_far e =
     let more = letters_value-more text i h in
     let bounds = letter_value_bounds (get_or text i 0) (is_letter_at text i all h) in
@@ -104,27 +105,27 @@ pub record AnswersColumn (text : List ℕ) (answer : Option ℕ) : Type 0 where
   pub upper_case : IfSome answer (λ column. column_letters column ≡ map to_ascii_uppercase text)
 
 pub answers_column : (text : List ℕ) (capped : ℕ) (answer : Option ℕ) → list_all is_ascii_alphabetic text ≡ true
-    → 0 < length text → capped + 1 ≡ min (letters_value text) 18279 → answer ≡ then_some (ltb capped 18278) capped
+    → 0 < length text → capped + 1 ≡ min (letters_value text) (NAMED_COLUMNS + 1) → answer ≡ then_some (ltb capped NAMED_COLUMNS) capped
     → AnswersColumn text answer
 answers_column text capped answer all some counted e = record {
   column =
-      IfSome_then_some (ltb capped 18278) capped answer (IsColumn 3 text) e
-      (λ h. column_from_capped text capped all some counted (ltb-true capped 18278 h));
-  letters = let test = some_then_some (ltb capped 18278) capped answer e in (
+      IfSome_then_some (ltb capped NAMED_COLUMNS) capped answer (IsColumn 3 text) e
+      (λ h. column_from_capped text capped all some counted (ltb-true capped NAMED_COLUMNS h));
+  letters = let test = some_then_some (ltb capped NAMED_COLUMNS) capped answer e in (
     λ found. record {
       all = all;
       some = some;
-      few = (column_from_capped text capped all some counted (ltb-true capped 18278 (test.0 found))).letters.few;
+      few = (column_from_capped text capped all some counted (ltb-true capped NAMED_COLUMNS (test.0 found))).letters.few;
     },
     λ are. elim (letters_value_bounds text all some).1 [
-      | inl few ↦ test.1 (lt-ltb capped 18278 (omega (arith, few.1)))
+      | inl few ↦ test.1 (lt-ltb capped NAMED_COLUMNS (omega (arith, few.1)))
       | inr many ↦ absurd (omega (arith, many.0, are.few))
     ],
   );
   only = λ column is. let found = capped_from_column text capped column counted is in
-      rw (e, lt-ltb capped 18278 found.0, found.1) refl;
+      rw (e, lt-ltb capped NAMED_COLUMNS found.0, found.1) refl;
   upper_case =
-      IfSome_then_some (ltb capped 18278) capped answer
+      IfSome_then_some (ltb capped NAMED_COLUMNS) capped answer
       (λ column. column_letters column ≡ map to_ascii_uppercase text) e
-      (λ h. upper_case_letters text capped (column_from_capped text capped all some counted (ltb-true capped 18278 h)));
+      (λ h. upper_case_letters text capped (column_from_capped text capped all some counted (ltb-true capped NAMED_COLUMNS h)));
 }

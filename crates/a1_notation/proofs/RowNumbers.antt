@@ -24,10 +24,6 @@ all_digits [] all = refl
 all_digits (d ∷ ds) all =
     and_from (is_ascii_digit d) (list_all is_ascii_digit ds) (digit_is_digit d all.0) (all_digits ds all.1)
 
--- a row's number has digits alone
-pub row_has_digits : (text : List ℕ) (row : ℕ) → IsRow text row → list_all is_ascii_digit text ≡ true
-row_has_digits text row is = all_digits text is.digits.1
-
 -- a number of at most seven digits is a row up to 9,999,999
 pub row_is_small : (text : List ℕ) (row : ℕ) → IsRow text row → row < NUMBERED_ROWS
 row_is_small text row is = omega (arith, digits_value_short numerals text 7 is.digits.1 is.few, is.value)

@@ -1,19 +1,10 @@
 -- Titles as they are printed and read.
-use Rattle.std.proofs.Common.{◌≡◌, ℕ, ◌<◌, List, [], ◌∷◌, ◌++◌, length, get_or, drop, refl, arith, append_assoc}
-use Rattle.std.specs.Prelude.{◌==◌, ◌&&◌, ◌||◌, ◌≢◌}
-use Rattle.std.specs.List.{list_all, flat_map}
-use Rattle.std.specs.Char.{is_ascii_alphabetic, is_ascii_alphanumeric}
+use Rattle.std.proofs.Common.{◌≡◌, ℕ, ◌<◌, List, [], ◌∷◌, ◌++◌, length, get_or, refl, append_assoc}
+use Rattle.std.specs.Prelude.{◌≢◌}
+use Rattle.std.specs.List.{flat_map}
 use Rattle.std.proofs.lemmas.Grind.{flat_map-append}
 use Rattle.a1_notation.specs.Quoted.{doubled}
-use Rattle.a1_notation.specs.Title.{is_plain}
 use Rattle.a1_notation.proofs.Quotes.{doubled-none}
-
--- a plain title by its first byte and the rest
-pub is_plain-parts : (xs : List ℕ) → 0 < length xs
-    → is_plain xs ≡ ((is_ascii_alphabetic (get_or xs 0 0) || get_or xs 0 0 == 95) && list_all
-    (λ d. is_ascii_alphanumeric d || d == 95) (drop 1 xs))
-is_plain-parts [] some = absurd (omega arith)
-is_plain-parts (x ∷ xs) some = refl
 
 -- up to the first ', and behind it
 pub doubled-split : (bs xs ys : List ℕ) → bs ≡ xs ++ (39 ∷ ys) → ((i : ℕ) → i < length xs → get_or xs i 0 ≢ 39)

@@ -1,120 +1,83 @@
+ghost use Rattle.std.specs.Prelude.{IsTrue};
+ghost use Rattle.a1_notation.specs.Canonical.{IsStretch};
+
 use super::*;
-use grid_range::Band;
+use cell_value::NoMemory;
+use std::alloc::Global;
 use std::test::Fail;
 
-/// What a text was read as, with its texts lent.
-#[derive(Clone, Copy, Debug, PartialEq, Eq)]
-enum Reading<'a> {
-    Cells(Option<&'a str>, Band, Band),
-    Sheet(&'a str),
-    Word(&'a str),
-    Fault(A1Fault),
-    Other,
-}
-
-fn lent(answer: &Result<A1, A1Fault>) -> Reading<'_> {
-    let range = match answer {
-        Ok(range) => range,
-        Err(fault) => return Reading::Fault(*fault),
-    };
-    match (&range.sheet, &range.part) {
-        (None, Part::Cells(rows, columns)) => Reading::Cells(None, *rows, *columns),
-        (Some(title), Part::Cells(rows, columns)) => {
-            Reading::Cells(Some(title.as_str()), *rows, *columns)
-        }
-        (Some(title), Part::WholeSheet) => Reading::Sheet(title.as_str()),
-        (None, Part::Word(word)) => Reading::Word(word.as_str()),
-        _ => Reading::Other,
-    }
-}
-
-#[test]
-fn texts_are_read(rt: HostRuntime) -> Result<(), Fail> {
-    use Band::{From, Span, Whole};
-    use Reading::{Cells, Fault, Sheet, Word};
-    let cell = Span(0, 1);
-    let two = Span(0, 2);
-    let table = [
+/// A range text, and what it is read as: its title, and its rows and its columns, or its word.
+fn read() -> &'static [(&'static str, &'static str)] {
+    &[
         // The five forms of areas.
-        ("B2", Cells(None, Span(1, 2), Span(1, 2))),
-        ("A1:B2", Cells(None, two, two)),
-        ("A:B", Cells(None, Whole, two)),
-        ("1:2", Cells(None, two, Whole)),
-        ("A5:B", Cells(None, From(4), two)),
-        ("A1:B", Cells(None, From(0), two)),
+        ("B2", "Span(1, 2), Span(1, 2)"),
+        ("A1:B2", "Span(0, 2), Span(0, 2)"),
+        ("A:B", "Whole, Span(0, 2)"),
+        ("1:2", "Span(0, 2), Whole"),
+        ("A5:B", "From(4), Span(0, 2)"),
+        ("A1:B", "From(0), Span(0, 2)"),
         // Behind a title.
-        ("Sheet1!A1:B2", Cells(Some("Sheet1"), two, two)),
-        ("Sheet1!A:A", Cells(Some("Sheet1"), Whole, cell)),
-        ("Sheet1!1:2", Cells(Some("Sheet1"), two, Whole)),
-        ("Sheet1!A5:A", Cells(Some("Sheet1"), From(4), cell)),
+        ("Sheet1!A1:B2", "Sheet1: Span(0, 2), Span(0, 2)"),
+        ("Sheet1!A:A", "Sheet1: Whole, Span(0, 1)"),
+        ("Sheet1!1:2", "Sheet1: Span(0, 2), Whole"),
+        ("Sheet1!A5:A", "Sheet1: From(4), Span(0, 1)"),
         (
             "'My Custom Sheet'!A:A",
-            Cells(Some("My Custom Sheet"), Whole, cell),
+            "My Custom Sheet: Whole, Span(0, 1)",
         ),
-        (
-            "Class Data!A2:E",
-            Cells(Some("Class Data"), From(1), Span(0, 5)),
-        ),
-        ("'a''b'!A1", Cells(Some("a'b"), cell, cell)),
-        ("'a!b'!A1", Cells(Some("a!b"), cell, cell)),
-        ("Größe!A1", Cells(Some("Größe"), cell, cell)),
+        ("Class Data!A2:E", "Class Data: From(1), Span(0, 5)"),
+        ("'a''b'!A1", "a'b: Span(0, 1), Span(0, 1)"),
+        ("'a!b'!A1", "a!b: Span(0, 1), Span(0, 1)"),
+        ("Größe!A1", "Größe: Span(0, 1), Span(0, 1)"),
         // Either case, either order, and the last cell.
-        ("a1:b2", Cells(None, two, two)),
-        ("B2:A1", Cells(None, two, two)),
-        ("A2:B1", Cells(None, two, two)),
-        ("2:1", Cells(None, two, Whole)),
-        ("XFD1:A1", Cells(None, cell, Span(0, 16384))),
-        (
-            "ZZZ9999999",
-            Cells(None, Span(9999998, 9999999), Span(18277, 18278)),
-        ),
+        ("a1:b2", "Span(0, 2), Span(0, 2)"),
+        ("B2:A1", "Span(0, 2), Span(0, 2)"),
+        ("A2:B1", "Span(0, 2), Span(0, 2)"),
+        ("2:1", "Span(0, 2), Whole"),
+        ("XFD1:A1", "Span(0, 1), Span(0, 16384)"),
+        ("ZZZ9999999", "Span(9999998, 9999999), Span(18277, 18278)"),
         // Whole sheets and words.
-        ("'Sheet1'", Sheet("Sheet1")),
-        ("'a!b'", Sheet("a!b")),
-        ("''''", Sheet("'")),
-        ("'日本'", Sheet("日本")),
-        ("Sheet1", Word("Sheet1")),
-        ("$A$1", Word("$A$1")),
-        ("A0", Word("A0")),
-        ("A01", Word("A01")),
-        ("A1B", Word("A1B")),
-        ("A12345678", Word("A12345678")),
-        ("AAAA1", Word("AAAA1")),
-        ("1:A", Word("1:A")),
-        ("A:1", Word("A:1")),
-        ("A:B5", Word("A:B5")),
-        ("A1:B2:C3", Word("A1:B2:C3")),
-        ("Größe", Word("Größe")),
+        ("'Sheet1'", "Sheet1: all"),
+        ("'a!b'", "a!b: all"),
+        ("''''", "': all"),
+        ("'日本'", "日本: all"),
+        ("Sheet1", "word Sheet1"),
+        ("$A$1", "word $A$1"),
+        ("A0", "word A0"),
+        ("A01", "word A01"),
+        ("A1B", "word A1B"),
+        ("A12345678", "word A12345678"),
+        ("AAAA1", "word AAAA1"),
+        ("1:A", "word 1:A"),
+        ("A:1", "word A:1"),
+        ("A:B5", "word A:B5"),
+        ("A1:B2:C3", "word A1:B2:C3"),
+        ("Größe", "word Größe"),
         // No range.
-        ("", Fault(A1Fault::NotA1)),
-        ("'", Fault(A1Fault::NotA1)),
-        ("''", Fault(A1Fault::NotA1)),
-        ("'''", Fault(A1Fault::NotA1)),
-        ("''!A1", Fault(A1Fault::NotA1)),
-        ("'a'b", Fault(A1Fault::NotA1)),
-        ("a'b", Fault(A1Fault::NotA1)),
-        ("!A1", Fault(A1Fault::NotA1)),
-        ("A1!", Fault(A1Fault::NotA1)),
-        ("Sheet1!B2!A1", Fault(A1Fault::NotA1)),
-        ("Sheet1!A01", Fault(A1Fault::NotA1)),
-        ("Sheet1!$A$1", Fault(A1Fault::NotA1)),
-        ("Sheet1!A12345678", Fault(A1Fault::NotA1)),
-        ("Sheet1!AAAA:1", Fault(A1Fault::NotA1)),
+        ("", "no range in A1 notation"),
+        ("'", "no range in A1 notation"),
+        ("''", "no range in A1 notation"),
+        ("'''", "no range in A1 notation"),
+        ("''!A1", "no range in A1 notation"),
+        ("'a'b", "no range in A1 notation"),
+        ("a'b", "no range in A1 notation"),
+        ("!A1", "no range in A1 notation"),
+        ("A1!", "no range in A1 notation"),
+        ("Sheet1!B2!A1", "no range in A1 notation"),
+        ("Sheet1!A01", "no range in A1 notation"),
+        ("Sheet1!$A$1", "no range in A1 notation"),
+        ("Sheet1!A12345678", "no range in A1 notation"),
+        ("Sheet1!AAAA:1", "no range in A1 notation"),
         // A column past ZZZ.
-        ("Sheet1!AAAA1", Fault(A1Fault::PastZZZ)),
-        ("Sheet1!A1:AAAA", Fault(A1Fault::PastZZZ)),
-        ("'a b'!AAAAAAAAAAAAAAAAAAAA:B", Fault(A1Fault::PastZZZ)),
-    ];
-    for (text, wanted) in table {
-        let answer = read_a1(rt.alloc(), text);
-        assert_eq!(rt; lent(&answer), wanted, "{text}");
-    }
-    Ok(())
+        ("Sheet1!AAAA1", "a column past ZZZ"),
+        ("Sheet1!A1:AAAA", "a column past ZZZ"),
+        ("'a b'!AAAAAAAAAAAAAAAAAAAA:B", "a column past ZZZ"),
+    ]
 }
 
-#[test]
-fn columns_are_written_and_read(rt: HostRuntime) -> Result<(), Fail> {
-    let table = [
+/// Columns, and their letters.
+fn columns() -> &'static [(u32, &'static str)] {
+    &[
         (0, "A"),
         (25, "Z"),
         (26, "AA"),
@@ -122,41 +85,121 @@ fn columns_are_written_and_read(rt: HostRuntime) -> Result<(), Fail> {
         (52, "BA"),
         (701, "ZZ"),
         (702, "AAA"),
-        (18277, "ZZZ"),
-    ];
-    for (column, letters) in table {
-        assert_eq!(rt; read_column(letters), Some(column));
-        assert!(rt; column < 18278);
-        assert_eq!(rt; column_text(rt.alloc(), column)?.as_str(), letters);
-    }
-    assert_eq!(rt; read_column("aZ"), Some(51));
-    for text in ["", "A1", "AAAA", "Ä", " A"] {
-        assert_eq!(rt; read_column(text), None, "{text}");
-    }
-    Ok(())
+        (18_277, "ZZZ"),
+    ]
 }
 
-#[test]
-fn areas_and_titles_are_written(rt: HostRuntime) -> Result<(), Fail> {
-    let alloc = rt.alloc();
-    let one = write_a1(alloc, "Sheet1", (1, 2), (1, 2))?;
-    assert_eq!(rt; one.as_str(), "Sheet1!B2");
-    let grid = write_a1(alloc, "Sheet1", (0, 1000), (0, 26))?;
-    assert_eq!(rt; grid.as_str(), "Sheet1!A1:Z1000");
-    let column = write_a1(alloc, "Jon's data", (0, 1000), (0, 1))?;
-    assert_eq!(rt; column.as_str(), "'Jon''s data'!A1:A1000");
-    let last = write_a1(alloc, "_1", (9999998, 9999999), (18276, 18278))?;
-    assert_eq!(rt; last.as_str(), "_1!ZZY9999999:ZZZ9999999");
-    let titles = [
+/// Texts, and the columns that they name.
+fn letters() -> &'static [(&'static str, Option<u32>)] {
+    &[
+        ("aZ", Some(51)),
+        ("", None),
+        ("A1", None),
+        ("AAAA", None),
+        ("Ä", None),
+        (" A", None),
+    ]
+}
+
+/// Titles, rows and columns, and the text of each area.
+fn written() -> &'static [(&'static str, (u32, u32), (u32, u32), &'static str)] {
+    &[
+        ("Sheet1", (1, 2), (1, 2), "Sheet1!B2"),
+        ("Sheet1", (0, 1_000), (0, 26), "Sheet1!A1:Z1000"),
+        ("Jon's data", (0, 1_000), (0, 1), "'Jon''s data'!A1:A1000"),
+        (
+            "_1",
+            (9_999_998, 9_999_999),
+            (18_276, 18_278),
+            "_1!ZZY9999999:ZZZ9999999",
+        ),
+    ]
+}
+
+/// Titles, and how each is printed.
+fn titles() -> &'static [(&'static str, &'static str)] {
+    &[
         ("Sheet1", "Sheet1"),
         ("_9", "_9"),
         ("9a", "'9a'"),
         ("Class Data", "'Class Data'"),
         ("Größe", "'Größe'"),
         ("'", "''''"),
-    ];
-    for (title, printed) in titles {
-        assert_eq!(rt; quote_name(alloc, title)?.as_str(), printed);
+    ]
+}
+
+#[test]
+fn texts_are_read_and_written(rt: HostRuntime) -> Result<(), Fail> {
+    for &(text, wanted) in read() {
+        assert!(rt; is_read_as(rt.alloc(), text, wanted)?, "{text}");
+    }
+    for &(column, letters) in columns() {
+        assert!(rt; has_letters(rt.alloc(), column, letters)?, "{letters}");
+    }
+    for &(text, column) in letters() {
+        assert!(rt; read_column(text) == column, "{text}");
+    }
+    for &(title, rows, cols, wanted) in written() {
+        assert!(rt;
+            is_written_as(rt.alloc(), title, rows, cols, wanted)?,
+            "{wanted}"
+        );
+    }
+    for &(title, wanted) in titles() {
+        assert!(rt;
+            quote_name(rt.alloc(), title)?.as_str() == wanted,
+            "{title}"
+        );
     }
     Ok(())
+}
+
+fn is_read_as(alloc: Global, text: &str, wanted: &str) -> Result<bool, NoMemory> {
+    let mut shown = String::new(alloc);
+    match read_a1(alloc, text) {
+        Ok(range) => show(&mut shown, &range)?,
+        Err(fault) => write!(shown, "{fault}")?,
+    }
+    Ok(shown.as_str() == wanted)
+}
+
+fn show(out: &mut String, range: &A1) -> Result<(), NoMemory> {
+    if let Some(title) = &range.sheet {
+        write!(out, "{}: ", title.as_str())?;
+    }
+    match &range.part {
+        Part::Cells(rows, columns) => write!(out, "{rows:?}, {columns:?}")?,
+        Part::WholeSheet => out.push_str("all")?,
+        Part::Word(word) => write!(out, "word {}", word.as_str())?,
+    }
+    Ok(())
+}
+
+/// Whether the column has the letters, and they name it.
+fn has_letters(alloc: Global, column: u32, letters: &str) -> Result<bool, NoMemory> {
+    if column >= NAMED_COLUMNS {
+        return Ok(false);
+    }
+    let text = column_text(alloc, column)?;
+    Ok(text.as_str() == letters && read_column(letters) == Some(column))
+}
+
+/// Whether the area, which A1 notation has, has the text.
+fn is_written_as(
+    alloc: Global,
+    title: &str,
+    rows: (u32, u32),
+    cols: (u32, u32),
+    wanted: &str,
+) -> Result<bool, NoMemory> {
+    if title.is_empty() || !is_stretch(rows, NUMBERED_ROWS) || !is_stretch(cols, NAMED_COLUMNS) {
+        return Ok(false);
+    }
+    Ok(write_a1(alloc, title, rows, cols)?.as_str() == wanted)
+}
+
+fn is_stretch(lines: (u32, u32), count: u32) -> bool
+    ensures { IsTrue result → IsStretch lines count }
+{
+    lines.0 < lines.1 && lines.1 <= count
 }

@@ -54,6 +54,7 @@ fn cell_text(alloc: Global, row: u32, column: u32) -> Result<Text, NoMemory>
     requires column { column < NAMED_COLUMNS }
     ensures { IfOk result (λ text. text ≡ cell_text row column) }
 {
-    let letters = column_text(alloc, column)?;
-    Ok(Text::of(format!(in alloc; "{}{}", letters.as_str(), row + 1)?))
+    let mut text = column_text(alloc, column)?.into_string();
+    write!(text, "{}", row + 1)?;
+    Ok(Text::of(text))
 }

@@ -1,10 +1,10 @@
 -- A sheet is its size and its items.
-use Rattle.std.proofs.Common.{◌≡◌, ℕ, sym, ap, ◌∙◌, cond}
+use Rattle.std.proofs.Common.{ap, ◌∙◌, cond}
 use Rattle.std.specs.Prelude.{None, Some}
-use Rattle.std.specs.Ordering.{eq_by_cmp}
 use Rattle.std.specs.FinMap as map
 use Rattle.std.proofs.lemmas.Cmp.{eq_by_cmp_equiv}
-use Rattle.cell_store.specs.Table.{Table, by_rows, item_at}
+use Rattle.grid_range.specs.Area.{by_rows}
+use Rattle.cell_store.specs.Table.{item_at}
 use Rattle.cell_store.specs.Laws.{TablesByItems}
 use Rattle.cell_store.proofs.Cells.{by_rows_total, get-cells, same_cells, len-cells}
 

@@ -2,12 +2,12 @@
 use Rattle.std.proofs.Common.{◌≡◌, ℕ, refl, ap, ◌∙◌, List, [], ◌∷◌}
 use Rattle.std.specs.Prelude.{Some, None}
 use Rattle.std.specs.Ordering.{eq_by_cmp}
-use Rattle.std.specs.Map.{lookup, update_all, keys_of}
+use Rattle.std.specs.Map.{update_all, keys_of}
 use Rattle.std.proofs.lemmas.Cmp.{eq_by_cmp_equiv}
 use Rattle.std.proofs.lemmas.Map.Keys.{IsDistinct-from_sorted}
 use Rattle.std.proofs.lemmas.Map.Made.{update_all_none}
 use Rattle.std.specs.List.Sorted.{IsStrictlySortedBy}
-use Rattle.cell_store.specs.Table.{by_rows}
+use Rattle.grid_range.specs.Area.{by_rows}
 use Rattle.cell_store.specs.Entries.{entry_at}
 use Rattle.cell_store.proofs.Cells.{SetsPlace, by_rows_total}
 
@@ -17,10 +17,6 @@ module _ {T : Type 0} where
   FillsTo items rest all = (place : ℕ × ℕ)
       → update_all (eq_by_cmp by_rows) (entry_at items) rest place ≡ update_all (eq_by_cmp by_rows) (λ _. None) all
       place
-
-  pub fills_first : (items : List ((ℕ × ℕ) × T)) (all : List ((ℕ × ℕ) × T)) → items ≡ [] → FillsTo items all all
-  fills_first items all empty place =
-      ap (λ es. update_all (eq_by_cmp by_rows) (λ q. lookup (eq_by_cmp by_rows q) es) all place) empty
 
   pub fills_on : (items after : List ((ℕ × ℕ) × T)) (place : ℕ × ℕ) (item : T) (rest all : List ((ℕ × ℕ) × T))
       → SetsPlace items after place (Some item) → FillsTo items ((place, item) ∷ rest) all → FillsTo after rest all

@@ -1,10 +1,8 @@
 pub mod Cells
 pub mod Tables
-pub mod Elements
 pub mod Ordered
 pub mod ByItems
 pub mod Filling
 pub mod Listed
 pub mod Going
 pub mod Moving
-pub mod Scanned

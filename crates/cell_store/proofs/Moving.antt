@@ -1,60 +1,29 @@
 -- The entries of a tree after a change: what a place then holds.
-use Rattle.std.proofs.Common.{◌≡◌, ℕ, suc, length, refl, sym, ap, subst, ◌∙◌, ◌⊎◌, inl, inr, List, [], ◌∷◌, true}
+use Rattle.std.proofs.Common.{◌≡◌, ℕ, suc, length, refl, sym, ap, subst, ◌∙◌, inl, inr, List, [], ◌∷◌, true}
 use Rattle.std.proofs.Common.{false, cond, ◌<◌, ◌≤◌, arith}
-use Rattle.std.specs.Prelude.{Option, Some, None, Contains}
+use Rattle.std.specs.Prelude.{Option, Some, None}
 use Rattle.std.specs.Option.{option_map, unwrap_or, IsSome, is_some}
 use Rattle.std.specs.Ordering.{eq_by_cmp}
 use Rattle.std.specs.List.{filter_map, cons_option, AllByRecursion, IsDistinct}
 use Rattle.std.specs.Map.{lookup, keys_of}
 use Rattle.std.proofs.lemmas.Bool.{false≢true, cases_Bool}
 use Rattle.std.proofs.lemmas.Cmp.{eq_by_cmp_equiv}
-use Rattle.std.proofs.lemmas.List.Elements.{Contains-append_left, Contains-append_right, Contains-append_cases}
-use Rattle.std.proofs.lemmas.List.Elements.{Contains-push, Contains-push_cases}
 use Rattle.std.proofs.lemmas.Map.Keys.{IsDistinct-head, IsDistinct-tail, IsDistinct-cons}
 use Rattle.std.proofs.lemmas.Map.Made.{update_all_none}
 use Rattle.std.proofs.lemmas.Map.Views.{tells_apart, Contains-from_lookup, lookup-from_Contains}
 use Rattle.grid_range.specs.declared.axis.Axis.{Axis}
 use Rattle.grid_range.specs.declared.change.Change.{Change}
 use Rattle.grid_range.specs.Change.{Fits}
-use Rattle.cell_store.specs.Table.{Table, by_rows}
+use Rattle.grid_range.specs.Area.{by_rows}
+use Rattle.cell_store.specs.Table.{Table}
 use Rattle.cell_store.specs.Entries.{entry_at, HasEntriesInside, table_of}
 use Rattle.cell_store.specs.Moved.{place_after, lines_on, size_after, GoesWithLines}
 use Rattle.cell_store.proofs.Cells.{SetsPlace, by_rows_total, by_rows_exact, get-cells}
 use Rattle.cell_store.proofs.Tables.{item-view}
-use Rattle.cell_store.proofs.Elements.{nothing_in, head_cases, head_in, tail_in}
+use Rattle.cell_value.specs.Elements.{Contains-filter_map, Contains-filter_map_from}
 use Rattle.cell_store.proofs.Filling.{FillsTo, fills_on}
 use Rattle.cell_store.proofs.Going.{place_apart, place_within}
 use Rattle.grid_range.specs.TrackingLaws.{PlacesStayApart, PlacesStayBelow}
-
-module _ {X Y : Type 0} (h : X → Option Y) where
-  -- what `filter_map` gives of an element is in its list
-  kept_in : (xs : List X) (x : X) (y : Y) → Contains xs x → h x ≡ Some y → Contains (filter_map h xs) y
-  kept_in [] x y c e = absurd (nothing_in x c)
-  kept_in (z ∷ zs) x y c e = elim (head_cases z zs x c) [
-    | inl same ↦ subst (λ o. Contains (cons_option o (filter_map h zs)) y) (sym (ap h same ∙ e))
-        (head_in y (filter_map h zs))
-    | inr rest ↦ elim (h z) as (λ o. Contains (cons_option o (filter_map h zs)) y) [
-      | None ↦ kept_in zs x y rest e
-      | Some w ↦ tail_in w (filter_map h zs) y (kept_in zs x y rest e)
-    ]
-  ]
-
-  came_later : (z : X) (zs : List X) (y : Y) → ((x : X) × Contains zs x × (h x ≡ Some y))
-      → (x : X) × Contains (z ∷ zs) x × (h x ≡ Some y)
-  came_later z zs y (x, held, is) = (x, tail_in z zs x held, is)
-
-  -- and each of its list came of one
-  came_of : (xs : List X) (y : Y) → Contains (filter_map h xs) y → (x : X) × Contains xs x × (h x ≡ Some y)
-  came_of [] y c = absurd (nothing_in y c)
-  came_of (z ∷ zs) y c =
-      elim (h z) as (λ o. h z ≡ o → Contains (cons_option o (filter_map h zs)) y
-      → (x : X) × Contains (z ∷ zs) x × (h x ≡ Some y)) [
-        | None ↦ λ _ d. came_later z zs y (came_of zs y d)
-        | Some w ↦ λ is d. elim (head_cases w (filter_map h zs) y d) [
-          | inl same ↦ (z, head_in z zs, is ∙ ap Some same)
-          | inr rest ↦ came_later z zs y (came_of zs y rest)
-        ]
-      ] refl c
 
 -- the places of entries are places of the sheet
 pub keys_inside : {T : Type 0} (rows cols : ℕ) (es : List ((ℕ × ℕ) × T)) → HasEntriesInside rows cols es
@@ -93,13 +62,6 @@ module _ {T : Type 0} (axis : Axis) (change : Change) where
       (ap moved steps ∙ ap (λ o. cons_option (option_map (λ p. (p, item)) o) (moved rest)) goes
       ∙ ap (λ x. (now, x) ∷ moved rest) (sym same))
       fills)
-
-  pub fills_dropped : (items : List ((ℕ × ℕ) × T)) (place : ℕ × ℕ) (item : T) (entries rest all : List ((ℕ × ℕ) × T))
-      → entries ≡ (place, item) ∷ rest → place_after axis change place.0 place.1 ≡ None
-      → FillsTo items (moved entries) all → FillsTo items (moved rest) all
-  fills_dropped items place item entries rest all steps goes fills =
-      subst (λ es. FillsTo items es all) (ap moved steps
-      ∙ ap (λ o. cons_option (option_map (λ p. (p, item)) o) (moved rest)) goes) fills
 
   -- the places of the entries stay apart
   apart_moved : PlacesStayApart → (rows cols : ℕ) → Fits change (lines_on axis rows cols) → (place now : ℕ × ℕ)
@@ -163,7 +125,7 @@ module _ {T : Type 0} (axis : Axis) (change : Change) where
     came_from : (q : ℕ × ℕ) (x : T) → entry_at made q ≡ Some x
         → (old : ℕ × ℕ) × (place_after axis change old.0 old.1 ≡ Some q) × (entry_at items old ≡ Some x)
     came_from q x is =
-        let (e, held, went) = came_of moves items (q, x)
+        let (e, held, went) = Contains-filter_map_from moves items (q, x)
         (Contains-from_lookup (tells_apart by_rows_exact) q x (moved items) (sym (get-made q) ∙ is)) in
         let parts = moved_parts (place_after axis change e.0.0 e.0.1) e.1 x q went in
         (e.0, parts.0, lookup-from_Contains (eq_by_cmp_equiv by_rows_total) e.0 e.1 items apart held ∙ ap Some parts.1)
@@ -174,7 +136,7 @@ module _ {T : Type 0} (axis : Axis) (change : Change) where
         get-made q
         ∙ lookup-from_Contains (eq_by_cmp_equiv by_rows_total) q x (moved items)
         (distinct_moved law rows cols fits items (keys_inside rows cols items inside) apart)
-        (kept_in moves items (old, x) (q, x) (Contains-from_lookup (tells_apart by_rows_exact) old x items held)
+        (Contains-filter_map moves items (old, x) (q, x) (Contains-from_lookup (tells_apart by_rows_exact) old x items held)
         (ap (option_map (λ p. (p, x))) goes))
 
     pub inside-moved : PlacesStayBelow → HasEntriesInside (size_after axis change rows cols).0

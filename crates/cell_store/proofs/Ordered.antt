@@ -1,5 +1,5 @@
 -- Places that differ, by rows.
-use Rattle.std.proofs.Common.{◌≡◌, ℕ, ◌+◌, refl, sym, ap, ◌∙◌, List, [], ◌∷◌, Bool, true, false, cond, get_or, arith}
+use Rattle.std.proofs.Common.{◌≡◌, ℕ, ◌+◌, refl, sym, ap, ◌∙◌, List, false, get_or, arith}
 use Rattle.std.specs.Prelude.{Contains, ◌↔◌}
 use Rattle.std.specs.Ordering.{eq_by_cmp, is_lt, is_eq, ordering_reverse}
 use Rattle.std.specs.declared.cmp.Ordering.TheVariants.{Less, Equal, Greater}
@@ -8,35 +8,19 @@ use Rattle.std.specs.List.{filter, IsDistinct}
 use Rattle.std.specs.List.Sorted.{IsStrictlySortedBy, IsSorted, IsPermutation}
 use Rattle.std.proofs.lemmas.Bool.{false≢true}
 use Rattle.std.proofs.lemmas.Cmp.{eq_by_cmp_equiv}
-use Rattle.std.proofs.lemmas.List.Elements.{All-from_recursion, recursion_from_All, All-filter}
 use Rattle.std.proofs.lemmas.List.MinMax.{ranks_by}
 use Rattle.std.proofs.lemmas.List.Sorted.{Contains-permutation, IsPermutation-sym, sorted_far}
-use Rattle.std.proofs.lemmas.Map.Keys.{IsDistinct-head, IsDistinct-tail, IsDistinct-cons, IsDistinct-IsPermutation}
+use Rattle.std.proofs.lemmas.Map.Keys.{IsDistinct-IsPermutation}
 use Rattle.std.proofs.lemmas.Map.Keys.{apart_from_distinct, sorted_from_all_adjacent}
 use Rattle.grid_range.specs.declared.area.Area.{Area}
 use Rattle.grid_range.specs.Area.{Holds}
-use Rattle.cell_store.specs.Table.{by_rows}
+use Rattle.cell_value.specs.Elements.{Contains-filter, Contains-filter_from, IsDistinct-filter}
+use Rattle.grid_range.specs.Area.{by_rows}
 use Rattle.cell_store.proofs.Cells.{by_rows_total}
-use Rattle.cell_store.proofs.Elements.{kept, was_there}
 use Rattle.cell_store.proofs.Listed.{holds_place, holds_true, Holds-from}
 
 laws : IsEquivalence (eq_by_cmp by_rows)
 laws = eq_by_cmp_equiv by_rows_total
-
--- keys that differ still do where some are left out
-IsDistinct-filter : (p : ℕ × ℕ → Bool) (ks : List (ℕ × ℕ)) → IsDistinct (eq_by_cmp by_rows) ks
-    → IsDistinct (eq_by_cmp by_rows) (filter p ks)
-IsDistinct-filter p [] apart = apart
-IsDistinct-filter p (k ∷ ks) apart =
-    let rest = IsDistinct-filter p ks (IsDistinct-tail (eq_by_cmp by_rows) k ks apart) in
-    elim (p k) as (λ b. IsDistinct (eq_by_cmp by_rows) (cond b (k ∷ filter p ks) (filter p ks))) [
-      | true ↦ IsDistinct-cons (eq_by_cmp by_rows) k (filter p ks)
-          (recursion_from_All (λ y. eq_by_cmp by_rows k y ≡ false) (filter p ks)
-          (All-filter p (λ y. eq_by_cmp by_rows k y ≡ false) ks
-          (All-from_recursion (λ y. eq_by_cmp by_rows k y ≡ false) ks
-          (IsDistinct-head (eq_by_cmp by_rows) k ks apart)))) rest
-      | false ↦ rest
-    ]
 
 -- places in order that differ rise
 less_from : (one other : ℕ × ℕ) → is_lt (by_rows other one) ≡ false → eq_by_cmp by_rows one other ≡ false
@@ -64,16 +48,16 @@ module _ (area : Area) (places sorted : List (ℕ × ℕ))
       → IsStrictlySortedBy by_rows sorted
   held_in_order rises apart =
       strictly_sorted (filter (holds_place area) places) sorted moved rises
-      (IsDistinct-filter (holds_place area) places apart)
+      (IsDistinct-filter (holds_place area) (eq_by_cmp by_rows) places apart)
 
   pub held_exactly : (row col : ℕ) → Contains sorted (row, col) ↔ (Holds area row col × Contains places (row, col))
   held_exactly row col = (
     (λ has.
-        let left = was_there (holds_place area) places (row, col)
+        let left = Contains-filter_from (holds_place area) places (row, col)
         (Contains-permutation sorted (filter (holds_place area) places) (row, col)
         (IsPermutation-sym (filter (holds_place area) places) sorted moved) has) in
-        (Holds-from area row col left.0, left.1)),
+        (Holds-from area row col left.1, left.0)),
     (λ held.
         Contains-permutation (filter (holds_place area) places) sorted (row, col) moved
-        (kept (holds_place area) places (row, col) held.1 (holds_true area (row, col) held.0))),
+        (Contains-filter (holds_place area) places (row, col) held.1 (holds_true area (row, col) held.0))),
   )

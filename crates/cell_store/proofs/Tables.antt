@@ -1,5 +1,5 @@
 -- What a tree of items stands for, before and after its calls.
-use Rattle.std.proofs.Common.{List, length, ◌≡◌, ℕ, refl, sym, ap, subst, ◌∙◌, true, false, cond, ◌<◌, ◌≤◌}
+use Rattle.std.proofs.Common.{List, length, ◌≡◌, ℕ, refl, sym, ap, subst, ◌∙◌, true, false, cond, ◌<◌}
 use Rattle.std.specs.Prelude.{Some, None}
 use Rattle.std.specs.Option.{IsSome}
 use Rattle.std.proofs.lemmas.Bool.{false≢true}
@@ -9,10 +9,11 @@ use Rattle.std.proofs.lemmas.Map.Made.{is_some-lookup}
 use Rattle.std.specs.Ordering.{eq_by_cmp}
 use Rattle.std.specs.Map.{lookup, keys_of}
 use Rattle.std.specs.FinMap as map
-use Rattle.cell_store.specs.Table.{Table, by_rows, item_at, filled_places, HasItemsInside, with_item, without_item}
+use Rattle.grid_range.specs.Area.{by_rows}
+use Rattle.cell_store.specs.Table.{Table, item_at, filled_places, HasItemsInside, with_item, without_item}
 use Rattle.cell_store.specs.Entries.{entry_at, HasEntriesInside, table_of}
 use Rattle.cell_store.proofs.Cells.{SetsPlace, by_rows_exact, get-cells, same_cells, cells_put, cells_taken}
-use Rattle.cell_store.proofs.Cells.{len-cells, len-cells-most}
+use Rattle.cell_store.proofs.Cells.{len-cells}
 
 module _ {T : Type 0} (rows cols : ℕ) (items : List ((ℕ × ℕ) × T)) {table : Table T}
     (view : table_of rows cols items ≡ table) where
@@ -25,9 +26,6 @@ module _ {T : Type 0} (rows cols : ℕ) (items : List ((ℕ × ℕ) × T)) {tabl
 
   pub filled-view : IsDistinct (eq_by_cmp by_rows) (keys_of items) → length items ≡ filled_places table
   filled-view apart = sym (len-cells items apart) ∙ ap filled_places view
-
-  pub most-view : filled_places table ≤ length items
-  most-view = subst (λ t. filled_places t ≤ length items) view (len-cells-most items)
 
   pub put-view : (after : List ((ℕ × ℕ) × T)) (row col : ℕ) (item : T) → SetsPlace items after (row, col) (Some item)
       → table_of rows cols after ≡ with_item table row col item

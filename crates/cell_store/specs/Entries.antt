@@ -4,7 +4,8 @@ use Rattle.std.specs.Option.{IsSome}
 use Rattle.std.specs.Ordering.{eq_by_cmp}
 use Rattle.std.specs.Map.{lookup}
 use Rattle.std.specs.FinMap as map
-use Rattle.cell_store.specs.Table.{Table, by_rows}
+use Rattle.grid_range.specs.Area.{by_rows}
+use Rattle.cell_store.specs.Table.{Table}
 
 -- the item of the first entry at a place
 abbrev pub entry_at : {T : Type 0} → List ((ℕ × ℕ) × T) → ℕ × ℕ → Option T

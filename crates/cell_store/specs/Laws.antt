@@ -1,9 +1,10 @@
 -- Laws of sheets.
-use Rattle.std.specs.Prelude.{◌≡◌, ℕ, List, Option, None, Some, length, if◌then◌else◌}
+use Rattle.std.specs.Prelude.{◌≡◌, ℕ, List, None, Some, length, if◌then◌else◌}
 use Rattle.std.specs.List.{IsDistinct}
 use Rattle.std.specs.Map.{keys_of}
 use Rattle.std.specs.Ordering.{eq_by_cmp}
-use Rattle.cell_store.specs.Table.{Table, by_rows, item_at, filled_places, empty_table, with_item, without_item}
+use Rattle.grid_range.specs.Area.{by_rows}
+use Rattle.cell_store.specs.Table.{Table, item_at, filled_places, empty_table, with_item, without_item}
 use Rattle.cell_store.specs.Entries.{entry_at, table_of}
 
 -- a sheet is its size and the items at its places

@@ -4,7 +4,8 @@ use Rattle.std.specs.Option.{IsSome}
 use Rattle.std.specs.List.Sorted.{IsStrictlySortedBy}
 use Rattle.grid_range.specs.declared.area.Area.{Area}
 use Rattle.grid_range.specs.Area.{Holds}
-use Rattle.cell_store.specs.Table.{Table, by_rows, item_at}
+use Rattle.grid_range.specs.Area.{by_rows}
+use Rattle.cell_store.specs.Table.{Table, item_at}
 
 -- these are the places of the area that hold an item, each once, by rows
 pub record AreFilledPlaces {T : Type 0} (area : Area) (table : Table T) (places : List (ℕ × ℕ)) : Type 0 where

@@ -1,15 +1,10 @@
 -- The cells of a sheet: the `GridData` of the Google Sheets API v4 as a finite map from places to
 -- items. A place is a row and a column, each counted from 0.
 use Rattle.std.specs.Prelude.{ℕ, ◌<◌, Option, refl}
-use Rattle.std.specs.declared.cmp.Ordering.{Ordering}
-use Rattle.std.specs.Ordering.{nat_cmp, ordering_then}
 use Rattle.std.specs.Option.{IsSome}
 use Rattle.std.specs.Coded.{Coded, code_by, coded×, coded_ℕ}
 use Rattle.std.specs.FinMap as map
-
--- the order of places by rows: a row's places stand together, from its first column on
-abbrev pub by_rows : ℕ × ℕ → ℕ × ℕ → Ordering
-by_rows one other = ordering_then (nat_cmp one.0 other.0) (nat_cmp one.1 other.1)
+use Rattle.grid_range.specs.Area.{by_rows}
 
 -- a sheet's numbers of rows and columns, and the items at its filled places
 pub record Table (T : Type 0) : Type 0 where

@@ -4,11 +4,13 @@
 mod grid;
 mod laws;
 mod places;
+mod store;
 mod tree;
 
 pub use grid::{Grid, MOST_FILLED, MOST_LINES};
 pub use laws::tables_by_items;
 pub use places::held_by_rows;
+pub use store::CellStore;
 pub use tree::TreeGrid;
 
 #[cfg(test)]

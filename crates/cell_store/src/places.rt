@@ -3,7 +3,7 @@ ghost use Rattle.std.specs.List.{IsDistinct};
 ghost use Rattle.std.specs.List.Sorted.{IsStrictlySortedBy};
 ghost use Rattle.std.specs.Ordering.{eq_by_cmp};
 ghost use Rattle.grid_range.specs.Area.{Holds};
-ghost use Rattle.cell_store.specs.Table.{by_rows};
+ghost use Rattle.grid_range.specs.Area.{by_rows};
 
 use cell_value::Items;
 use grid_range::Area;

@@ -6,5 +6,7 @@ pub mod Shown
 pub mod Texts
 pub mod Ids
 pub mod Entries
+pub mod Elements
 pub mod FaultCount
+pub mod Calls
 pub mod formers

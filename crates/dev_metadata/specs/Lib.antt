@@ -8,3 +8,4 @@ pub mod Kept
 pub mod Following
 pub mod Patch
 pub mod Given
+pub mod Faults

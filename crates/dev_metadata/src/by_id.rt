@@ -6,10 +6,10 @@ ghost use Rattle.dev_metadata.specs.Following.{IsBelow, item_followed, items_els
 ghost use Rattle.dev_metadata.specs.Given.{with_given};
 ghost use Rattle.dev_metadata.specs.Listed.{HaveOwnIds, has_id, with_id, not_found};
 
-use crate::following::{drop_found, drop_sheet, follow_all};
+use crate::following::{SheetChange, drop_found, drop_sheet};
 use crate::types::{Item, Lookup};
 use crate::updating::Given;
-use cell_value::{Duplicate, NoMemory};
+use cell_value::{Duplicate, NoMemory, follow_values};
 use grid_range::{Axis, Change};
 use indexmap::IndexMap;
 use std::alloc::Global;
@@ -125,6 +125,12 @@ impl ById {
         ensures followed { self.new ≡ filter_map (item_followed sheet axis change.now) self.old }
         ensures below { All (IsBelow sheet axis (count_after change.now count)) self.new }
     {
-        follow_all(&mut self.by_id, sheet, axis, count, change);
+        let by = SheetChange {
+            sheet,
+            axis,
+            count,
+            change,
+        };
+        follow_values(&mut self.by_id, &by);
     }
 }

@@ -1,43 +1,14 @@
-ghost use Rattle.std.specs.Prelude.{◌≡◌, All, IfSome, not, filter};
-ghost use Rattle.std.specs.List.{filter_map};
-ghost use Rattle.cell_value.specs.Entries.{entry_followed};
+ghost use Rattle.std.specs.Prelude.{◌≡◌, IfSome, not, filter};
 ghost use Rattle.grid_range.specs.Change.{Fits, count_after};
-ghost use Rattle.dev_metadata.specs.Following.{IsBelow, IsSpotBelow, spot_followed, item_followed};
-ghost use Rattle.dev_metadata.specs.Kept.{items_of};
+ghost use Rattle.dev_metadata.specs.Following.{IsSpotBelow, spot_followed};
 ghost use Rattle.dev_metadata.specs.Lookup.{finds};
 ghost use Rattle.dev_metadata.specs.Spot.{is_on_sheet};
 
 use crate::matching::is_same_axis;
 use crate::types::{Item, Lookup, Spot};
-use cell_value::{Follow, follow_values};
+use cell_value::Follow;
 use grid_range::{Axis, Change, place};
 use indexmap::IndexMap;
-
-/// Has each item follow the change, and takes out those that are lost.
-pub(crate) fn follow_all(
-    by_id: &mut IndexMap<u32, Item>,
-    sheet: u32,
-    axis: Axis,
-    count: u32,
-    change: &Change,
-)
-    requires fits { Fits change.now count }
-    requires below { All (IsBelow sheet axis count) (items_of by_id.old.entries) }
-    ensures followed { by_id.new.entries ≡
-        filter_map (entry_followed (item_followed sheet axis change.now)) by_id.old.entries }
-    ensures below { All (IsBelow sheet axis (count_after change.now count))
-        (items_of by_id.new.entries) }
-{
-    follow_values(
-        by_id,
-        &SheetChange {
-            sheet,
-            axis,
-            count,
-            change,
-        },
-    );
-}
 
 /// Takes out the items that are on the sheet or a line of it.
 pub(crate) fn drop_sheet(by_id: &mut IndexMap<u32, Item>, sheet: u32)
@@ -57,11 +28,11 @@ pub(crate) fn drop_found(by_id: &mut IndexMap<u32, Item>, lookup: &Lookup, proje
 
 /// A change of the lines on an axis of a sheet, of which there were `count`.
 #[derive(Clone, Copy)]
-struct SheetChange<'a> {
-    sheet: u32,
-    axis: Axis,
-    count: u32,
-    change: &'a Change,
+pub(crate) struct SheetChange<'a> {
+    pub(crate) sheet: u32,
+    pub(crate) axis: Axis,
+    pub(crate) count: u32,
+    pub(crate) change: &'a Change,
 }
 
 impl Follow<SheetChange<'_>> for Item {

@@ -6,11 +6,20 @@ use crate::by_id::ById;
 use cell_value::{Duplicate, Items, NoMemory, Text};
 use grid_range::{Axis, Change};
 use std::alloc::Global;
+use std::fmt::Debug;
 use std::process::Abort;
-use std::test::Fail;
+
+// The time in which a test is proved grows faster than its length: a test goes over a table, which is a
+// static so that the test doesn't build it, and what it calls for a row answers without `?`. Where memory
+// runs out an answer is wrong.
+
+/// Stops where it doesn't hold of the row.
+fn check<T: Debug>(rt: &impl Abort, row: &T, holds: bool) {
+    assert!(rt; holds, "{row:?}");
+}
 
 /// Ids that are asked for, and what is answered, one after another.
-const IDS: [(Option<u32>, Result<u32, MetaFault>); 8] = [
+static IDS: [(Option<u32>, Result<u32, MetaFault>); 8] = [
     (Some(3), Ok(3)),
     (None, Ok(1)),
     (None, Ok(2)),
@@ -22,18 +31,17 @@ const IDS: [(Option<u32>, Result<u32, MetaFault>); 8] = [
 ];
 
 #[test]
-fn the_least_unused_id_is_given(rt: HostRuntime) -> Result<(), Fail> {
+fn the_least_unused_id_is_given(rt: HostRuntime) {
     let mut list = Metadata::new(rt.alloc());
-    for (id, answer) in IDS {
-        let made = add(rt.alloc(), &mut list, id, "k", Spot::Spreadsheet, Some("p"))?;
-        assert_eq!(rt; made, answer, "{id:?}");
+    for row in &IDS {
+        let made = add(rt.alloc(), &mut list, row.0, "k", Spot::Spreadsheet, None);
+        check(&rt, row, made == row.1);
     }
-    assert_eq!(rt; list.count(), 7);
-    assert!(rt; has_ids(&list, &[3, 1, 2, 4, 0, 4294967295, 5]));
-    assert_eq!(rt; list.get(3, "p").map(|item| item.id), Ok(3));
-    assert!(rt; matches!(list.get(3, "q"), Err(MetaFault::NoId)));
-    assert!(rt; matches!(list.get(6, "p"), Err(MetaFault::NoId)));
-    Ok(())
+    check(
+        &rt,
+        &"order",
+        has_ids(&list, &[3, 1, 2, 4, 0, 4294967295, 5]),
+    );
 }
 
 const ROW: Spot = Spot::Line(0, Axis::Rows, 4);
@@ -41,7 +49,7 @@ const ROW: Spot = Spot::Line(0, Axis::Rows, 4);
 const COLUMN: Spot = Spot::Line(0, Axis::Columns, 1);
 
 /// Two locations, and whether they intersect and are one.
-const PAIRS: [(Spot, Spot, bool, bool); 13] = [
+static PAIRS: [(Spot, Spot, bool, bool); 13] = [
     (Spot::Spreadsheet, Spot::Spreadsheet, true, true),
     (Spot::Spreadsheet, Spot::Sheet(0), false, false),
     (Spot::Spreadsheet, ROW, false, false),
@@ -58,262 +66,241 @@ const PAIRS: [(Spot, Spot, bool, bool); 13] = [
 ];
 
 #[test]
-fn locations_intersect(rt: HostRuntime) -> Result<(), Fail> {
-    for (one, other, intersect, same) in PAIRS {
-        for (asked, spot) in [(one, other), (other, one)] {
-            let mut list = Metadata::new(rt.alloc());
-            assert_eq!(rt; add(rt.alloc(), &mut list, None, "k", spot, None)?, Ok(1));
-            let wide = lookup(rt.alloc(), (None, Some(asked), None, None, None, None))?;
-            let narrow = lookup(
-                rt.alloc(),
-                (None, Some(asked), Some(false), None, None, None),
-            )?;
-            assert_eq!(rt;
-                count_found(rt.alloc(), &list, wide, "")?,
-                Ok(usize::from(intersect))
-            );
-            assert_eq!(rt;
-                count_found(rt.alloc(), &list, narrow, "")?,
-                Ok(usize::from(same))
-            );
-        }
+fn locations_intersect(rt: HostRuntime) {
+    for row in &PAIRS {
+        let (one, other, intersect, same) = *row;
+        let there = meets(rt.alloc(), one, other);
+        let back = meets(rt.alloc(), other, one);
+        check(&rt, row, there == (intersect, same) && back == there);
     }
-    Ok(())
 }
 
-/// The kind of location, the location, whether the strategy is the intersecting one, the id, the key
-/// and the visibility that are asked for.
-type Asked = (
+/// Whether a look-up of the one location finds an item at the other one, where the strategy is the
+/// intersecting one and where it is the exact one.
+fn meets(alloc: Global, asked: Spot, spot: Spot) -> (bool, bool) {
+    let mut list = Metadata::new(alloc);
+    let _ = add(alloc, &mut list, None, "k", spot, None);
+    let wide = by_spot(None, Some(asked), None);
+    let narrow = by_spot(None, Some(asked), Some(false));
+    (
+        is_answered(alloc, &list, wide, Ok(&[1])),
+        is_answered(alloc, &list, narrow, Ok(&[1])),
+    )
+}
+
+/// Look-ups by kind, location and strategy in a call of the project `p`, and the ids that they find of
+/// the five items.
+static BY_SPOT: [(
     Option<SpotKind>,
     Option<Spot>,
     Option<bool>,
-    Option<u32>,
-    Option<&'static str>,
-    Option<SightKind>,
-);
-
-/// Look-ups in a call of the project `p`, and the ids that they find of: 5 with the key `a` on the
-/// spreadsheet, 4 with `b` on sheet 0, 3 with `a` on a row of it, of the project `p`, 2 with `b` on a
-/// column of it, of the project `q`, and 1 with `a` on sheet 1.
-const LOOKUPS: [(Asked, Result<&[u32], MetaFault>); 24] = [
+    Result<&[u32], MetaFault>,
+); 16] = [
+    (None, None, None, Err(MetaFault::BadLookup)),
     (
-        (None, None, None, None, None, None),
+        Some(SpotKind::Row),
+        Some(ROW),
+        Some(false),
         Err(MetaFault::BadLookup),
     ),
     (
-        (None, None, Some(true), None, Some("a"), None),
+        Some(SpotKind::Spreadsheet),
+        Some(Spot::Spreadsheet),
+        Some(true),
         Err(MetaFault::BadLookup),
     ),
     (
-        (None, None, Some(false), None, Some("a"), None),
+        Some(SpotKind::Spreadsheet),
+        Some(ROW),
+        None,
         Err(MetaFault::BadLookup),
     ),
     (
-        (
-            Some(SpotKind::Row),
-            Some(ROW),
-            Some(false),
-            None,
-            None,
-            None,
-        ),
-        Err(MetaFault::BadLookup),
-    ),
-    (
-        (
-            Some(SpotKind::Spreadsheet),
-            Some(Spot::Spreadsheet),
-            Some(true),
-            None,
-            None,
-            None,
-        ),
-        Err(MetaFault::BadLookup),
-    ),
-    (
-        (
-            Some(SpotKind::Spreadsheet),
-            Some(ROW),
-            None,
-            None,
-            None,
-            None,
-        ),
-        Err(MetaFault::BadLookup),
-    ),
-    (
-        (
-            Some(SpotKind::Spreadsheet),
-            Some(Spot::Spreadsheet),
-            None,
-            None,
-            None,
-            None,
-        ),
+        Some(SpotKind::Spreadsheet),
+        Some(Spot::Spreadsheet),
+        None,
         Ok(&[5]),
     ),
-    (
-        (Some(SpotKind::Spreadsheet), None, None, None, None, None),
-        Ok(&[5]),
-    ),
-    (
-        (Some(SpotKind::Sheet), None, None, None, None, None),
-        Ok(&[1, 4]),
-    ),
-    (
-        (Some(SpotKind::Row), None, None, None, None, None),
-        Ok(&[3]),
-    ),
-    (
-        (Some(SpotKind::Column), None, None, None, None, None),
-        Ok(&[]),
-    ),
-    (
-        (
-            Some(SpotKind::Sheet),
-            Some(ROW),
-            Some(true),
-            None,
-            None,
-            None,
-        ),
-        Ok(&[4]),
-    ),
-    (
-        (Some(SpotKind::Sheet), Some(ROW), None, None, None, None),
-        Ok(&[4]),
-    ),
-    ((None, Some(ROW), None, None, None, None), Ok(&[3, 4])),
-    ((None, Some(ROW), Some(true), None, None, None), Ok(&[3, 4])),
-    ((None, Some(ROW), Some(false), None, None, None), Ok(&[3])),
-    (
-        (None, Some(Spot::Sheet(0)), None, None, None, None),
-        Ok(&[3, 4]),
-    ),
-    (
-        (None, Some(Spot::Sheet(0)), Some(false), None, None, None),
-        Ok(&[4]),
-    ),
-    ((None, Some(COLUMN), None, None, None, None), Ok(&[3, 4])),
-    ((None, None, None, Some(4), None, None), Ok(&[4])),
-    ((None, None, None, Some(2), None, None), Ok(&[])),
-    ((None, None, None, None, Some("a"), None), Ok(&[1, 3, 5])),
-    (
-        (None, None, None, None, Some("a"), Some(SightKind::Document)),
-        Ok(&[1, 5]),
-    ),
-    (
-        (None, None, None, None, None, Some(SightKind::Project)),
-        Ok(&[3]),
-    ),
+    (Some(SpotKind::Spreadsheet), None, None, Ok(&[5])),
+    (Some(SpotKind::Sheet), None, None, Ok(&[1, 4])),
+    (Some(SpotKind::Row), None, None, Ok(&[3])),
+    (Some(SpotKind::Column), None, None, Ok(&[])),
+    (Some(SpotKind::Sheet), Some(ROW), Some(true), Ok(&[4])),
+    (Some(SpotKind::Sheet), Some(ROW), None, Ok(&[4])),
+    (None, Some(ROW), None, Ok(&[3, 4])),
+    (None, Some(ROW), Some(true), Ok(&[3, 4])),
+    (None, Some(ROW), Some(false), Ok(&[3])),
+    (None, Some(Spot::Sheet(0)), None, Ok(&[3, 4])),
+    (None, Some(Spot::Sheet(0)), Some(false), Ok(&[4])),
 ];
 
 #[test]
-fn lookups_find_what_holds(rt: HostRuntime) -> Result<(), Fail> {
-    let list = five(rt.alloc())?;
-    for (asked, answer) in LOOKUPS {
-        let lookup = lookup(rt.alloc(), asked)?;
-        let found = list.search(&one(rt.alloc(), lookup)?, "p");
-        match (found, answer) {
-            (Ok(ids), Ok(expected)) => assert_eq!(rt; ids.as_slice(), expected, "{asked:?}"),
-            (Err(fault), Err(expected)) => assert_eq!(rt; fault, expected, "{asked:?}"),
-            _ => assert!(rt; false, "{asked:?}"),
-        }
+fn lookups_by_location_find_what_holds(rt: HostRuntime) {
+    let list = five(rt.alloc());
+    for row in &BY_SPOT {
+        let lookup = by_spot(row.0, row.1, row.2);
+        check(&rt, row, is_answered(rt.alloc(), &list, lookup, row.3));
     }
-    let none = Items::of(Vec::new(rt.alloc()));
-    assert_eq!(rt;
-        list.search(&none, "p").map(|ids| ids.as_slice().len()),
-        Ok(0)
-    );
-    Ok(())
 }
 
+/// Look-ups by strategy, id, key and visibility, and what they find.
+static BY_MEMBER: [(
+    Option<bool>,
+    Option<u32>,
+    Option<&str>,
+    Option<SightKind>,
+    Result<&[u32], MetaFault>,
+); 7] = [
+    (Some(true), None, Some("a"), None, Err(MetaFault::BadLookup)),
+    (
+        Some(false),
+        None,
+        Some("a"),
+        None,
+        Err(MetaFault::BadLookup),
+    ),
+    (None, Some(4), None, None, Ok(&[4])),
+    (None, Some(2), None, None, Ok(&[])),
+    (None, None, Some("a"), None, Ok(&[1, 3, 5])),
+    (
+        None,
+        None,
+        Some("a"),
+        Some(SightKind::Document),
+        Ok(&[1, 5]),
+    ),
+    (None, None, None, Some(SightKind::Project), Ok(&[3])),
+];
+
 #[test]
-fn an_item_follows_its_row(rt: HostRuntime) -> Result<(), Fail> {
+fn lookups_by_member_find_what_holds(rt: HostRuntime) {
+    let list = five(rt.alloc());
+    for row in &BY_MEMBER {
+        let lookup = by_member(rt.alloc(), row.0, row.1, row.2, row.3);
+        check(&rt, row, is_answered(rt.alloc(), &list, lookup, row.4));
+    }
+}
+
+/// Changes of sheets with 1,000 lines on the axis, one after another, and where the item of a row then
+/// lies.
+static CHANGES: [(u32, Axis, Change, Option<Spot>); 4] = [
+    (0, Axis::Columns, UP, Some(ROW)),
+    (1, Axis::Rows, UP, Some(ROW)),
+    (0, Axis::Rows, UP, Some(Spot::Line(0, Axis::Rows, 0))),
+    (0, Axis::Rows, Change::Delete { start: 0, end: 1 }, None),
+];
+
+const UP: Change = Change::Move {
+    start: 4,
+    end: 5,
+    to: 0,
+};
+
+#[test]
+fn an_item_follows_its_row(rt: HostRuntime) {
     let mut list = Metadata::new(rt.alloc());
-    assert_eq!(rt; add(rt.alloc(), &mut list, None, "k", ROW, None)?, Ok(1));
-    let up = Change::Move {
-        start: 4,
-        end: 5,
-        to: 0,
-    };
-    change(&rt, &mut list, 0, Axis::Columns, 1000, &up);
-    change(&rt, &mut list, 1, Axis::Rows, 1000, &up);
-    assert_eq!(rt; list.get(1, "").map(|item| item.spot), Ok(ROW));
-    change(&rt, &mut list, 0, Axis::Rows, 1000, &up);
-    assert_eq!(rt;
-        list.get(1, "").map(|item| item.spot),
-        Ok(Spot::Line(0, Axis::Rows, 0))
-    );
-    let across = lookup(
-        rt.alloc(),
-        (None, Some(COLUMN), Some(true), None, None, None),
-    )?;
-    assert_eq!(rt; count_found(rt.alloc(), &list, across, "")?, Ok(1));
-    let first = Change::Delete { start: 0, end: 1 };
-    change(&rt, &mut list, 0, Axis::Rows, 1000, &first);
-    assert!(rt; matches!(list.get(1, ""), Err(MetaFault::NoId)));
-    Ok(())
+    let _ = add(rt.alloc(), &mut list, None, "k", ROW, None);
+    for row in &CHANGES {
+        let changed = change(&mut list, row.0, row.1, &row.2);
+        check(&rt, row, changed && spot_of(&list, 1, "") == row.3);
+    }
 }
 
 /// Sheets that are deleted, and which of the five items are left, in order of creation.
-const LOST: [(u32, &[u32]); 3] = [(0, &[5, 1]), (1, &[5, 4, 3, 2]), (2, &[5, 4, 3, 2, 1])];
+static LOST: [(u32, &[u32]); 3] = [(0, &[5, 1]), (1, &[5, 4, 3, 2]), (2, &[5, 4, 3, 2, 1])];
 
 #[test]
-fn items_go_with_their_sheet(rt: HostRuntime) -> Result<(), Fail> {
-    for (sheet, left) in LOST {
-        let list = five(rt.alloc())?;
-        let mut copy = list.duplicate()?;
-        copy.lose_sheet(sheet);
-        assert!(rt; has_ids(&copy, left), "{sheet}");
-        assert_eq!(rt; list.count(), 5);
+fn items_go_with_their_sheet(rt: HostRuntime) {
+    let list = five(rt.alloc());
+    for row in &LOST {
+        check(&rt, row, are_left(&list, row.0, row.1));
     }
-    Ok(())
+    check(&rt, &"copied", list.count() == 5);
 }
 
+/// Whether these are left of a copy of the list where the sheet is deleted.
+fn are_left(list: &Metadata, sheet: u32, left: &[u32]) -> bool {
+    match list.duplicate() {
+        Ok(mut copy) => {
+            copy.lose_sheet(sheet);
+            has_ids(&copy, left)
+        }
+        Err(NoMemory) => false,
+    }
+}
+
+/// Ids and projects, and where the item lies that is seen, after the items with the key `a` were made
+/// ones of a row and of the project `p`.
+static SEEN: [(u32, &str, Option<Spot>); 4] = [
+    (5, "p", Some(ROW)),
+    (5, "q", None),
+    (4, "q", Some(Spot::Sheet(0))),
+    (6, "p", None),
+];
+
 #[test]
-fn items_are_updated_and_dropped(rt: HostRuntime) -> Result<(), Fail> {
-    let mut list = five(rt.alloc())?;
-    let by_key = lookup(rt.alloc(), (None, None, None, None, Some("a"), None))?;
+fn items_are_updated_and_dropped(rt: HostRuntime) {
+    let mut list = five(rt.alloc());
+    check(&rt, &"updated", update(rt.alloc(), &mut list));
+    for row in &SEEN {
+        check(&rt, row, spot_of(&list, row.0, row.1) == row.2);
+    }
+    check(&rt, &"dropped", drop_row(&mut list));
+}
+
+/// Gives the items with the key `a` another value, another location and another visibility, and tells
+/// whether they are those that have it.
+fn update(alloc: Global, list: &mut Metadata) -> bool {
     let patch = ItemPatch {
         key: None,
-        value: Some(text(rt.alloc(), "v")?),
+        value: Some(text(alloc, "v")),
         spot: Some(ROW),
         sight: Some(SightKind::Project),
     };
-    match list.update(&one(rt.alloc(), by_key)?, "p", &patch) {
-        Ok(ids) => assert_eq!(rt; ids.as_slice(), [1, 3, 5].as_slice()),
-        Err(fault) => assert!(rt; false, "{fault}"),
-    }
-    assert!(rt; has_ids(&list, &[5, 4, 3, 2, 1]));
-    assert_eq!(rt; list.get(5, "p").map(|item| item.spot), Ok(ROW));
-    assert_eq!(rt; list.get(5, "p").map(|item| item.value.as_str()), Ok("v"));
-    assert_eq!(rt; list.get(5, "p").map(|item| item.key.as_str()), Ok("a"));
-    assert!(rt; matches!(list.get(5, "q"), Err(MetaFault::NoId)));
-    let bad = lookup(rt.alloc(), (None, None, None, None, None, None))?;
-    assert!(rt; matches!(list.drop(&bad, "p"), Err(MetaFault::BadLookup)));
-    let on_row = lookup(rt.alloc(), (None, Some(ROW), Some(false), None, None, None))?;
-    match list.drop(&on_row, "p") {
-        Ok(items) => {
-            assert_eq!(rt; items.as_slice().len(), 3);
-            assert_eq!(rt; items.as_slice().first().map(|item| item.id), Some(1));
-            assert_eq!(rt; items.as_slice().last().map(|item| item.id), Some(5));
-        }
-        Err(fault) => assert!(rt; false, "{fault}"),
-    }
-    assert!(rt; has_ids(&list, &[4, 2]));
-    Ok(())
+    are_updated(alloc, list, &patch)
+        && has_texts(list, 5, "a", "v")
+        && has_ids(list, &[5, 4, 3, 2, 1])
 }
 
-/// The items that the look-ups go over.
-fn five(alloc: Global) -> Result<Metadata, Fail> {
+fn are_updated(alloc: Global, list: &mut Metadata, patch: &ItemPatch) -> bool {
+    let lookups = one(alloc, by_member(alloc, None, None, Some("a"), None));
+    match list.update(&lookups, "p", patch) {
+        Ok(ids) => ids.as_slice() == [1, 3, 5].as_slice(),
+        Err(_) => false,
+    }
+}
+
+/// Drops the items of the row, and tells whether they are given in order of id.
+fn drop_row(list: &mut Metadata) -> bool {
+    let dropped = match list.drop(&by_spot(None, Some(ROW), Some(false)), "p") {
+        Ok(items) => are_one_three_five(items.as_slice()),
+        Err(_) => false,
+    };
+    dropped && has_ids(list, &[4, 2])
+}
+
+fn are_one_three_five(items: &[Item]) -> bool {
+    match items {
+        [first, second, third] => first.id == 1 && second.id == 3 && third.id == 5,
+        _ => false,
+    }
+}
+
+/// Five items by id, key, location and project.
+static FIVE: [(u32, &str, Spot, Option<&str>); 5] = [
+    (5, "a", Spot::Spreadsheet, None),
+    (4, "b", Spot::Sheet(0), None),
+    (3, "a", ROW, Some("p")),
+    (2, "b", COLUMN, Some("q")),
+    (1, "a", Spot::Sheet(1), None),
+];
+
+fn five(alloc: Global) -> Metadata {
     let mut list = Metadata::new(alloc);
-    let _ = add(alloc, &mut list, Some(5), "a", Spot::Spreadsheet, None)?;
-    let _ = add(alloc, &mut list, Some(4), "b", Spot::Sheet(0), None)?;
-    let _ = add(alloc, &mut list, Some(3), "a", ROW, Some("p"))?;
-    let _ = add(alloc, &mut list, Some(2), "b", COLUMN, Some("q"))?;
-    let _ = add(alloc, &mut list, Some(1), "a", Spot::Sheet(1), None)?;
-    Ok(list)
+    for row in &FIVE {
+        let _ = add(alloc, &mut list, Some(row.0), row.1, row.2, row.3);
+    }
+    list
 }
 
 /// Adds an item with an empty value, of the document or of the project.
@@ -324,59 +311,90 @@ fn add(
     key: &str,
     spot: Spot,
     project: Option<&str>,
-) -> Result<Result<u32, MetaFault>, NoMemory> {
-    let key = text(alloc, key)?;
-    let value = text(alloc, "")?;
+) -> Result<u32, MetaFault> {
     let sight = match project {
-        Some(project) => Sight::Project(text(alloc, project)?),
+        Some(project) => Sight::Project(text(alloc, project)),
         None => Sight::Document,
     };
     if list.count() < 100 {
-        Ok(list.create(id, key, value, spot, sight))
+        list.create(id, text(alloc, key), text(alloc, ""), spot, sight)
     } else {
-        Ok(Err(MetaFault::NoMemory))
+        Err(MetaFault::NoMemory)
     }
 }
 
-fn text(alloc: Global, text: &str) -> Result<Text, NoMemory> {
-    Ok(Text::of(String::from_str(alloc, text)?))
-}
-
-fn lookup(alloc: Global, asked: Asked) -> Result<Lookup, NoMemory> {
-    let key = match asked.4 {
-        Some(key) => Some(text(alloc, key)?),
-        None => None,
-    };
-    Ok(Lookup {
-        kind: asked.0,
-        spot: asked.1,
-        intersecting: asked.2 == Some(true),
-        strategy_given: asked.2.is_some(),
-        id: asked.3,
-        key,
-        value: None,
-        sight: asked.5,
+/// The text, or an empty one where memory runs out.
+fn text(alloc: Global, text: &str) -> Text {
+    Text::of(match String::from_str(alloc, text) {
+        Ok(text) => text,
+        Err(_) => String::new(alloc),
     })
 }
 
-fn one(alloc: Global, lookup: Lookup) -> Result<Items<Lookup>, NoMemory> {
-    let mut lookups = Vec::new(alloc);
-    lookups.push(lookup)?;
-    Ok(Items::of(lookups))
-}
-
-/// How many items the look-up finds.
-fn count_found(
+/// Whether the look-up is answered so in a call of the project `p`.
+fn is_answered(
     alloc: Global,
     list: &Metadata,
     lookup: Lookup,
-    project: &str,
-) -> Result<Result<usize, MetaFault>, NoMemory> {
-    let lookups = one(alloc, lookup)?;
-    Ok(
-        list.search(&lookups, project)
-            .map(|ids| ids.as_slice().len()),
-    )
+    answer: Result<&[u32], MetaFault>,
+) -> bool {
+    match list.search(&one(alloc, lookup), "p") {
+        Ok(ids) => answer == Ok(ids.as_slice()),
+        Err(fault) => answer == Err(fault),
+    }
+}
+
+fn by_spot(kind: Option<SpotKind>, spot: Option<Spot>, intersecting: Option<bool>) -> Lookup {
+    Lookup {
+        kind,
+        spot,
+        intersecting: intersecting == Some(true),
+        strategy_given: intersecting.is_some(),
+        id: None,
+        key: None,
+        value: None,
+        sight: None,
+    }
+}
+
+fn by_member(
+    alloc: Global,
+    intersecting: Option<bool>,
+    id: Option<u32>,
+    key: Option<&str>,
+    sight: Option<SightKind>,
+) -> Lookup {
+    let key = match key {
+        Some(key) => Some(text(alloc, key)),
+        None => None,
+    };
+    Lookup {
+        id,
+        key,
+        sight,
+        ..by_spot(None, None, intersecting)
+    }
+}
+
+/// The look-up alone, or none where memory runs out.
+fn one(alloc: Global, lookup: Lookup) -> Items<Lookup> {
+    let mut lookups = Vec::new(alloc);
+    let _ = lookups.push(lookup);
+    Items::of(lookups)
+}
+
+fn spot_of(list: &Metadata, id: u32, project: &str) -> Option<Spot> {
+    match list.get(id, project) {
+        Ok(item) => Some(item.spot),
+        Err(_) => None,
+    }
+}
+
+fn has_texts(list: &Metadata, id: u32, key: &str, value: &str) -> bool {
+    match list.get(id, "p") {
+        Ok(item) => item.key.as_str() == key && item.value.as_str() == value,
+        Err(_) => false,
+    }
 }
 
 fn has_ids(list: &Metadata, ids: &[u32]) -> bool {
@@ -389,19 +407,13 @@ fn has_ids(list: &Metadata, ids: &[u32]) -> bool {
         .all(|(at, id)| at < items.len() && items.at(at).id == *id)
 }
 
-fn change(
-    rt: &impl Abort,
-    list: &mut Metadata,
-    sheet: u32,
-    axis: Axis,
-    count: u32,
-    change: &Change,
-) {
-    if change.fits(count) && are_below(list.items(), sheet, axis, count) {
-        list.change(sheet, axis, count, change);
-    } else {
-        assert!(rt; false, "{change:?}");
+/// Makes a change of a sheet with 1,000 lines on the axis; false where it can't be made.
+fn change(list: &mut Metadata, sheet: u32, axis: Axis, change: &Change) -> bool {
+    let can_be_made = change.fits(1000) && are_below(list.items(), sheet, axis, 1000);
+    if can_be_made {
+        list.change(sheet, axis, 1000, change);
     }
+    can_be_made
 }
 
 /// Whether every line of that axis of that sheet where an item lies is below `count`.

@@ -97,6 +97,11 @@ pub enum MetaFault {
 }
 
 impl fmt::Display for MetaFault {
+    ghost use Rattle.std.specs.Prelude.{Some};
+    ghost use Rattle.dev_metadata.specs.Faults.{fault_text};
+
+    ghost output = { λ fault. Some (fault_text fault) };
+
     fn fmt<W: fmt::Write>(&self, f: &mut fmt::Formatter<W>) -> fmt::Result {
         f.write_str(match self {
             MetaFault::NoId => "no metadata with the id",

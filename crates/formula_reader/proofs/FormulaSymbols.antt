@@ -1,14 +1,11 @@
 -- The symbols of pieces, one behind another.
 use Rattle.std.proofs.Common.{◌≡◌, ◌≢◌, ℕ, List, [], ◌∷◌, ◌++◌, refl, sym, ap, ◌∙◌, subst, append_assoc, append-nil}
 use Rattle.std.specs.Prelude.{Option, Some, None, option_map, Result, Ok, Err, IfOk}
-use Rattle.ref_rewrite.specs.declared.pieces.Formula.{Formula}
 use Rattle.ref_rewrite.specs.declared.pieces.Piece.{Piece}
 use Rattle.ref_rewrite.specs.declared.pieces.Piece.TheVariants.{Text}
 use Rattle.formula_reader.specs.declared.symbols.Symbol.{Symbol}
-use Rattle.formula_reader.specs.Tree.{Expression}
-use Rattle.formula_reader.specs.Grammar.{HasTree}
 use Rattle.formula_reader.specs.Only.{IsOnly}
-use Rattle.formula_reader.specs.Symbols.{AreOfPiece, AreOfPieces, AreSymbolsOf, IsTreeOf}
+use Rattle.formula_reader.specs.Symbols.{AreOfPiece, AreOfPieces, AreSymbolsOf}
 
 -- one symbol more
 pub pushed : (front : List Symbol) (a : Symbol) (o : Option (List Symbol))
@@ -107,28 +104,3 @@ no_sign pieces later first text whole is_text unsigned = λ all are.
     let all_of : pieces ≡ Text text ∷ later = whole ∙ ap (λ (p : Piece). p ∷ later) is_text in
     let found = subst (λ (ps : List Piece). AreSymbolsOf ps all) all_of are in
     unsigned found.0 found.1
-
--- the only tree of the only symbols is the formula's
-pub only_tree : (formula : Formula) (symbols : List Symbol) (tree : Option Expression)
-    → IsOnly (AreSymbolsOf formula.pieces) (Some symbols) → IsOnly (HasTree symbols) tree → IsOnly
-    (IsTreeOf formula) tree
-only_tree formula symbols None are nothing = λ t found.
-    nothing t (subst (λ (s : List Symbol). HasTree s t) (are.1 found.0 found.1) found.2)
-only_tree formula symbols (Some tree) are is = (
-  (symbols, are.0, is.0),
-  λ t found. is.1 t (subst (λ (s : List Symbol). HasTree s t)
-      (are.1 found.0 found.1) found.2),
-)
-
-pub only_tree_ok : {B E : Type 0} (formula : Formula) (pieces : List Piece) (symbols read : List Symbol)
-    (view : B → Option Expression) (result : Result B E) → pieces ≡ formula.pieces → read ≡ symbols
-    → IsOnly (AreSymbolsOf pieces) (Some symbols)
-    → IfOk result (λ b. IsOnly (HasTree read) (view b)) → IfOk result (λ b. IsOnly (IsTreeOf formula) (view b))
-only_tree_ok formula pieces symbols read view (Ok b) lent same are is =
-    only_tree formula symbols (view b) (subst (λ (ps : List Piece). IsOnly (AreSymbolsOf ps) (Some symbols)) lent are)
-    (subst (λ (s : List Symbol). IsOnly (HasTree s) (view b)) same is)
-only_tree_ok formula pieces symbols read view (Err e) lent same are is = is
-
--- without symbols there is no tree
-pub no_tree : (formula : Formula) → IsOnly (AreSymbolsOf formula.pieces) None → IsOnly (IsTreeOf formula) None
-no_tree formula nothing = λ t found. nothing found.0 found.1

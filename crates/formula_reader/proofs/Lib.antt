@@ -62,3 +62,4 @@ pub mod SymbolSources
 pub mod OneReference
 pub mod OneToken
 pub mod OneTree
+pub mod KnownSheets

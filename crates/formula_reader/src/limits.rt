@@ -16,7 +16,7 @@ pub const REFERENCES: usize = 64;
 pub const DEPTH: usize = 32;
 
 /// What the limits count of a token.
-#[derive(Clone, Copy, Debug, PartialEq, Eq)]
+#[derive(Clone, Copy)]
 pub(crate) enum Counted {
     /// A reference or a word.
     Cells,

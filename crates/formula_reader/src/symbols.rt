@@ -12,7 +12,7 @@ use grid_range::Area;
 pub(crate) use pieces::symbols_of_formula;
 
 /// A token of a formula, where a reference is the cells that it names.
-#[derive(Debug, Drop)]
+#[derive(Drop)]
 pub(crate) enum Symbol {
     /// A whole number within 2^53.
     Number(i64),

@@ -4,9 +4,9 @@
 //! Beside them formulas of 50 bytes and of 500 that add up ones, where each byte is a token.
 //!
 //! It writes how many pieces each has, and whether it is printed as it was read. With the argument `time`
-//! it also writes how many nanoseconds the reading of a byte takes at both sizes, and how many times as
-//! much at the larger one; the same of printing, of those with references: the others are one piece, and
-//! printing that is a copy of its bytes; and the same of the tree, of those that add up ones.
+//! it also writes how many picoseconds the reading of a byte takes at both sizes, and those of the larger
+//! one as percent of those of the smaller; the same of printing, of those with references: the others are
+//! one piece, and printing that is a copy of its bytes; and the same of the tree, of those that add up ones.
 #![tactic(auto)]
 
 ghost use Rattle.std.specs.Prelude.{◌<◌, length};
@@ -20,7 +20,7 @@ mod texts;
 
 use cell_value::Text;
 use formula_reader::print_formula;
-use rounds::Times;
+use rounds::{Call, Times, time};
 use sample::{Sample, dense_sample, sample_of};
 use sheet::OneSheet;
 use std::alloc::Global;
@@ -56,11 +56,11 @@ fn main(rt: HostRuntime) -> anyhow::Result<()> {
         show(&rt, rt.alloc(), &sheet, name, &small)?;
         show(&rt, rt.alloc(), &sheet, name, &large)?;
         if timed {
-            let times = rounds::time_reading(&rt, rt.alloc(), &sheet, &small, &large)?;
+            let times = time(&rt, rt.alloc(), &sheet, Call::Read, &small, &large)?;
             print_times(&rt, name, "read", (FEW, MANY), times)?;
         }
         if timed && kind == Kind::References {
-            let times = rounds::time_printing(&rt, rt.alloc(), &sheet, &small, &large)?;
+            let times = time(&rt, rt.alloc(), &sheet, Call::Print, &small, &large)?;
             print_times(&rt, name, "print", (FEW, MANY), times)?;
         }
     }
@@ -83,9 +83,9 @@ fn show_terms<R: Print + Clock>(
     show(rt, alloc, sheet, name, &small)?;
     show(rt, alloc, sheet, name, &large)?;
     if timed {
-        let times = rounds::time_reading(rt, alloc, sheet, &small, &large)?;
+        let times = time(rt, alloc, sheet, Call::Read, &small, &large)?;
         print_times(rt, name, "read", sizes, times)?;
-        let times = rounds::time_trees(rt, alloc, &small, &large)?;
+        let times = time(rt, alloc, sheet, Call::Tree, &small, &large)?;
         print_times(rt, name, "tell the tree of", sizes, times)?;
     }
     Ok(())
@@ -112,7 +112,7 @@ fn show<R: Print>(
     Ok(())
 }
 
-/// Writes what a byte takes at both sizes, and how many times as much at the larger one.
+/// Writes what a byte takes at both sizes, and the larger one as percent of the smaller.
 fn print_times<R: Print>(
     rt: &R,
     name: &str,
@@ -120,18 +120,12 @@ fn print_times<R: Print>(
     sizes: (usize, usize),
     times: Times,
 ) -> io::Result<()> {
-    let small = times.small.saturating_mul(1_000) / rounds::BYTES as u128;
-    let large = times.large.saturating_mul(1_000) / rounds::BYTES as u128;
-    let hundredths = times.large.saturating_mul(100) / times.small.max(1);
+    let bytes = rounds::BYTES as u128;
+    let small = times.small.saturating_mul(1_000) / bytes;
+    let large = times.large.saturating_mul(1_000) / bytes;
+    let percent = times.large.saturating_mul(100) / times.small.max(1);
     println!(rt;
-        "{name}: {}.{:03} nanoseconds to {call} a byte of {}, {}.{:03} of {}: {}.{:02} times",
-        small / 1_000,
-        small % 1_000,
-        sizes.0,
-        large / 1_000,
-        large % 1_000,
-        sizes.1,
-        hundredths / 100,
-        hundredths % 100
+        "{name}: {small} picoseconds to {call} a byte of {}, {large} of {}: {percent} percent",
+        sizes.0, sizes.1
     )
 }

@@ -1,4 +1,3 @@
-ghost use Rattle.std.specs.Prelude.{◌≡◌, min};
 ghost use Rattle.formula_reader.specs.Printed.{ArePrintable};
 ghost use Rattle.formula_speed.specs.OneSheet.{sheets_of};
 
@@ -13,6 +12,14 @@ pub const BYTES: usize = 20_000_000;
 
 const ROUNDS: u32 = 5;
 
+/// What is timed of a sample.
+#[derive(Clone, Copy)]
+pub enum Call {
+    Read,
+    Print,
+    Tree,
+}
+
 /// Nanoseconds of a round of the small sample, and of one of the large sample.
 #[derive(Clone, Copy)]
 pub struct Times {
@@ -20,119 +27,60 @@ pub struct Times {
     pub large: u128,
 }
 
-/// No round is longer.
-const LONGEST: Times = Times {
-    small: u128::MAX,
-    large: u128::MAX,
-};
-
-/// The least times of some rounds of reading, of both samples in turn.
-pub fn time_reading<R: Clock>(
+/// The least times of some rounds, of both samples in turn.
+pub fn time<R: Clock>(
     rt: &R,
     alloc: Global,
     sheet: &OneSheet,
-    small: &Sample,
-    large: &Sample,
-) -> anyhow::Result<Times> {
-    let mut times = LONGEST;
-    for _ in 0..ROUNDS {
-        let round = Times {
-            small: read_round(rt, alloc, sheet, small)?,
-            large: read_round(rt, alloc, sheet, large)?,
-        };
-        times = least(times, round);
-    }
-    Ok(times)
-}
-
-/// The same of printing.
-pub fn time_printing<R: Clock>(
-    rt: &R,
-    alloc: Global,
-    sheet: &OneSheet,
+    call: Call,
     small: &Sample,
     large: &Sample,
 ) -> anyhow::Result<Times>
     requires small { ArePrintable (sheets_of sheet.now.title) small.now.formula.pieces }
     requires large { ArePrintable (sheets_of sheet.now.title) large.now.formula.pieces }
 {
-    let mut times = LONGEST;
+    let mut times = Times {
+        small: u128::MAX,
+        large: u128::MAX,
+    };
     for _ in 0..ROUNDS {
-        let round = Times {
-            small: print_round(rt, alloc, sheet, small)?,
-            large: print_round(rt, alloc, sheet, large)?,
-        };
-        times = least(times, round);
+        times.small = times.small.min(round(rt, alloc, sheet, call, small)?);
+        times.large = times.large.min(round(rt, alloc, sheet, call, large)?);
     }
     Ok(times)
 }
 
-/// The same of trees.
-pub fn time_trees<R: Clock>(
-    rt: &R,
-    alloc: Global,
-    small: &Sample,
-    large: &Sample,
-) -> anyhow::Result<Times> {
-    let mut times = LONGEST;
-    for _ in 0..ROUNDS {
-        let round = Times {
-            small: tree_round(rt, alloc, small)?,
-            large: tree_round(rt, alloc, large)?,
-        };
-        times = least(times, round);
-    }
-    Ok(times)
-}
-
-/// The smaller of two times at each size.
-fn least(first: Times, second: Times) -> Times
-    ensures small { result.small ≡ min first.small second.small }
-    ensures large { result.large ≡ min first.large second.large }
-{
-    Times {
-        small: first.small.min(second.small),
-        large: first.large.min(second.large),
-    }
-}
-
-fn read_round<R: Clock>(
+/// The nanoseconds of as many calls on a sample as have the bytes of a round.
+fn round<R: Clock>(
     rt: &R,
     alloc: Global,
     sheet: &OneSheet,
-    sample: &Sample,
-) -> anyhow::Result<u128> {
-    let start = Instant::now(rt)?;
-    for _ in 0..calls(sample) {
-        read(alloc, sheet, sample.text.as_str())?;
-    }
-    Ok(start.elapsed(rt)?.as_nanos())
-}
-
-fn print_round<R: Clock>(
-    rt: &R,
-    alloc: Global,
-    sheet: &OneSheet,
+    call: Call,
     sample: &Sample,
 ) -> anyhow::Result<u128>
     requires { ArePrintable (sheets_of sheet.now.title) sample.now.formula.pieces }
 {
     let start = Instant::now(rt)?;
-    for _ in 0..calls(sample) {
-        print_formula(alloc, &sample.formula, sheet)?;
+    for _ in 0..BYTES / sample.text.len().max(1) {
+        make(alloc, sheet, call, sample)?;
     }
     Ok(start.elapsed(rt)?.as_nanos())
 }
 
-fn tree_round<R: Clock>(rt: &R, alloc: Global, sample: &Sample) -> anyhow::Result<u128> {
-    let start = Instant::now(rt)?;
-    for _ in 0..calls(sample) {
-        tree_of(alloc, &sample.formula)?;
+/// Makes a call on a sample, whose answer is let go.
+fn make(alloc: Global, sheet: &OneSheet, call: Call, sample: &Sample) -> anyhow::Result<()>
+    requires { ArePrintable (sheets_of sheet.now.title) sample.now.formula.pieces }
+{
+    match call {
+        Call::Read => {
+            read(alloc, sheet, sample.text.as_str())?;
+        }
+        Call::Print => {
+            print_formula(alloc, &sample.formula, sheet)?;
+        }
+        Call::Tree => {
+            tree_of(alloc, &sample.formula)?;
+        }
     }
-    Ok(start.elapsed(rt)?.as_nanos())
-}
-
-/// How often a sample has the bytes of a round.
-fn calls(sample: &Sample) -> usize {
-    BYTES / sample.text.len().max(1)
+    Ok(())
 }

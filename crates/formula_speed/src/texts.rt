@@ -1,4 +1,4 @@
-ghost use Rattle.std.specs.Prelude.{◌≡◌, ◌+◌, ◌*◌, ◌%◌, ◌<◌, IfOk, length, string_bytes};
+ghost use Rattle.std.specs.Prelude.{◌≡◌, ◌+◌, ◌*◌, ◌%◌, ◌<◌, IfOk, OnOk, length, string_bytes};
 
 use cell_value::NoMemory;
 use std::alloc::Global;
@@ -32,9 +32,7 @@ pub fn terms(alloc: Global, count: usize) -> Result<String, NoMemory>
 {
     let mut text = String::new(alloc);
     for number in 0..count {
-        let sign = if number == 0 { "=" } else { "+" };
-        text.push_str(sign)?;
-        text.push_str("1")?;
+        text.push_str(if number == 0 { "=1" } else { "+1" })?;
     }
     Ok(text)
 }
@@ -46,12 +44,18 @@ fn joined(alloc: Global, letters: usize, behind: &str, times: usize) -> Result<S
     let letters = "a".repeat(alloc, letters)?;
     let mut text = String::new(alloc);
     for number in 0..times {
-        let sign = if number == 0 { "=" } else { "&" };
-        text.push_str(sign)?;
-        text.push_str("\"")?;
-        text.push_str(letters.as_str())?;
-        text.push_str("\"")?;
-        text.push_str(behind)?;
+        push_operand(&mut text, number == 0, letters.as_str(), behind)?;
     }
     Ok(text)
+}
+
+/// Puts a text of these letters and what stands behind it behind the formula, with the sign before it.
+fn push_operand(text: &mut String, first: bool, letters: &str, behind: &str) -> Result<(), NoMemory>
+    ensures { OnOk result (length (string_bytes text.new)
+        ≡ length (string_bytes text.old) + (length letters.now + 3 + length behind.now)) }
+{
+    text.push_str(if first { "=\"" } else { "&\"" })?;
+    text.push_str(letters)?;
+    text.push_str("\"")?;
+    Ok(text.push_str(behind)?)
 }

@@ -64,7 +64,7 @@ impl<T: Told, A: Allocator> Lock<T, A> {
         ensures number { IfOk result (λ made. number_of made.1 ≡ 0) }
         ensures drawn { IfOk result (λ made. (count_of made.1 ≡ 1) × (given_by made.1 ≡ None)) }
 
-        // No lock is born spent: what holds of a new lock leaves each number but the first to be drawn.
+        // In the words with which a lock is made one number is drawn, that of the first pass.
         ensures one_drawn { OneNumberDrawn T.list T.pair T.caller value callers }
         ensures err { IfErr result (λ failed. failed.0 ≡ value) }
     {

@@ -1,7 +1,8 @@
 -- What a disk in memory tells of its calls.
 use Rattle.std.specs.Prelude.{ℕ, ◌+◌, ◌-◌, Bool, ◌||◌, nat_lt, List, length}
+use Rattle.cell_value.specs.Calls.{CallCount}
 use Rattle.journal_disk.specs.Disk.{most_bytes}
-use Rattle.journal_disk.specs.Failing.{CallCount, Bounds, call_fails}
+use Rattle.journal_disk.specs.Failing.{Bounds, call_fails}
 use Rattle.journal_disk.specs.Recorded.{MayLeave, LeftSince}
 use Rattle.journal_disk.specs.declared.memory.MemoryDisk.{MemoryDisk}
 

@@ -2,7 +2,7 @@ ghost use Rattle.std.specs.Prelude.{◌≡◌, ◌⊎◌, ◌<◌, ◌≤◌, �
 ghost use Rattle.std.specs.Prelude.{false};
 ghost use Rattle.std.specs.Vec.{vec_len, vec_capacity};
 ghost use Rattle.journal_disk.specs.Disk.{Holds, most_bytes};
-ghost use Rattle.journal_disk.specs.Failing.{no_calls};
+ghost use Rattle.cell_value.specs.Calls.{no_calls};
 ghost use Rattle.journal_disk.specs.declared.calls.Call.TheVariants.{Write};
 ghost use Rattle.journal_disk.specs.Recorded.{AllSound, state_after, empty};
 
@@ -163,7 +163,7 @@ fn write_unless(failed: bool, bytes: &mut Vec<u8>, at: usize, with: &[u8])
 impl Disk for MemoryDisk {
     ghost use Rattle.std.specs.Prelude.{◌-◌, take, drop, OnErr, IsErr, is_err};
     ghost use Rattle.journal_disk.specs.Disk.{Only, Follows, Torn, Elapses, RisesAtErr};
-    ghost use Rattle.journal_disk.specs.Failing.{after_call};
+    ghost use Rattle.cell_value.specs.Calls.{after_call};
     ghost use Rattle.journal_disk.specs.Memory.{calls_of, bounds_of, written_to, fails, write_fails, MayBeLeft};
     ghost use Rattle.journal_disk.specs.Memory.{WasLeftSince};
     ghost use Rattle.journal_disk.specs.Laws.{seen_left, now_left, left_now};

@@ -1,6 +1,7 @@
 ghost use Rattle.std.specs.Prelude.{◌≡◌, is_err, OnOk, OnErr, true, false};
 ghost use Rattle.journal_disk.specs.Disk.{RisesAtErr};
-ghost use Rattle.journal_disk.specs.Failing.{no_calls, after_call, is_full, call_fails};
+ghost use Rattle.cell_value.specs.Calls.{no_calls, after_call};
+ghost use Rattle.journal_disk.specs.Failing.{is_full, call_fails};
 
 use cell_value::{Failed, Items};
 use std::marker::Model;

@@ -30,29 +30,29 @@ fn kept_in(alloc: Global, image: &[u8]) -> Result<Option<Bytes>, NoMemory> {
     }
 }
 
-#[test]
-fn a_piece_stands_behind_its_gate_and_length(rt: HostRuntime) -> Result<(), Fail> {
-    let Ok(log) = DiskLog::open(disk(rt.alloc(), [0; 2])?) else {
-        assert!(rt; false, "opens");
-        return Ok(());
+// Whether an empty disk is opened with a byte 0, and a piece stands there behind its gate and its length.
+fn is_laid_out(alloc: Global) -> Result<bool, NoMemory> {
+    let Ok(log) = DiskLog::open(disk(alloc, [0; 2])?) else {
+        return Ok(false);
     };
     let disk = log.close();
-    assert_eq!(rt; disk.bytes(), [0].as_slice());
+    let was_empty = disk.bytes() == [0].as_slice();
     let Ok(mut log) = DiskLog::open(disk) else {
-        assert!(rt; false, "opens again");
-        return Ok(());
+        return Ok(false);
     };
-    assert_eq!(rt; log.length(), 0);
-    let put = log.put(0, &PIECE);
-    assert!(rt; put.is_ok());
-    assert_eq!(rt; log.length(), 144);
+    let at = log.length();
+    let put = log.put(at, &PIECE);
+    let length = log.length();
     let disk = log.close();
-    let bytes = disk.bytes();
-    assert_eq!(rt; bytes.len(), 154);
-    assert_eq!(rt; &bytes[..9], [1, 0, 0, 0, 0, 0, 0, 0, 0x90].as_slice());
-    assert_eq!(rt; &bytes[9..153], PIECE.as_slice());
-    assert_eq!(rt; bytes[153], 0);
-    Ok(())
+    Ok(was_empty && at == 0 && put.is_ok() && length == 144 && is_record(disk.bytes()))
+}
+
+// Whether the bytes are the record of the piece and a closed gate.
+fn is_record(bytes: &[u8]) -> bool {
+    bytes.len() == 154
+        && bytes.starts_with(&[1, 0, 0, 0, 0, 0, 0, 0, 0x90])
+        && bytes.get(9..153) == Some(PIECE.as_slice())
+        && bytes.ends_with(&[0])
 }
 
 // The place and the length of a write, or none of a sync.
@@ -65,26 +65,26 @@ const CALLS_OF_A_PUT: [Option<(u64, u64)>; 6] = [
     None,
 ];
 
-#[test]
-fn a_put_makes_six_calls(rt: HostRuntime) -> Result<(), Fail> {
-    let Ok(mut log) = DiskLog::open(disk(rt.alloc(), [0; 2])?) else {
-        assert!(rt; false, "opens");
-        return Ok(());
+// Whether a put makes these calls behind the four that open an empty disk.
+fn makes_six_calls(alloc: Global) -> Result<bool, NoMemory> {
+    let Ok(mut log) = DiskLog::open(disk(alloc, [0; 2])?) else {
+        return Ok(false);
     };
     let at = log.length();
     let put = log.put(at, &PIECE);
-    assert!(rt; put.is_ok());
     let disk = log.close();
-    assert_eq!(rt; disk.calls().len(), 10);
-    for (made, wanted) in disk.calls()[4..].iter().zip(CALLS_OF_A_PUT) {
-        let place = match *made {
-            Call::Write { at, count, .. } => Some((at, count)),
-            _ => None,
-        };
-        assert_eq!(rt; place, wanted);
-        assert_eq!(rt; *made == Call::Sync { failed: false }, wanted.is_none());
+    let calls = disk.calls();
+    let made = calls.get(4..).unwrap_or(&[]);
+    Ok(put.is_ok() && calls.len() == 10 && made.iter().zip(CALLS_OF_A_PUT).all(is_call))
+}
+
+// Whether a call that didn't fail is that write, or a sync.
+fn is_call((made, wanted): (&Call, Option<(u64, u64)>)) -> bool {
+    match *made {
+        Call::Write { at, count, .. } => wanted == Some((at, count)),
+        Call::Sync { failed } => wanted.is_none() && !failed,
+        _ => false,
     }
-    Ok(())
 }
 
 // The images of a disk with the settled bytes 7, 7 and 7, where 8, 8 and 8 were written from place 1
@@ -108,19 +108,30 @@ const IMAGES: [(u64, &[u8]); 16] = [
     (63, &[7, 7, 7]),
 ];
 
-#[test]
-fn images_are_torn_in_each_way(rt: HostRuntime) -> Result<(), Fail> {
-    let mut disk = disk(rt.alloc(), [0; 2])?;
-    let first = disk.write(0, &[7, 7, 7]);
-    let settled = disk.sync();
-    assert!(rt; first.is_ok() && settled.is_ok());
+// The disk of which these are the images.
+fn torn_disk(alloc: Global) -> Result<MemoryDisk, NoMemory> {
+    let mut disk = disk(alloc, [0; 2])?;
+    let _ = disk.write(0, &[7, 7, 7]);
+    let _ = disk.sync();
     for (at, bytes) in [(1, [8u8, 8, 8].as_slice()), (4, &[9])] {
         let size = disk.bytes().len() as u64;
-        let written = disk.write(size.min(at), bytes);
-        assert!(rt; written.is_ok());
+        let _ = disk.write(size.min(at), bytes);
     }
+    Ok(disk)
+}
+
+// Whether the disk has that image.
+fn is_image(disk: &MemoryDisk, pick: u64, image: &[u8]) -> Result<bool, NoMemory> {
+    Ok(disk.image(pick)?.as_slice() == image)
+}
+
+#[test]
+fn puts_make_records_and_images_are_torn(rt: HostRuntime) -> Result<(), Fail> {
+    assert!(rt; is_laid_out(rt.alloc())?);
+    assert!(rt; makes_six_calls(rt.alloc())?);
+    let disk = torn_disk(rt.alloc())?;
     for (pick, image) in IMAGES {
-        assert_eq!(rt; disk.image(pick)?.as_slice(), image, "{pick}");
+        assert!(rt; is_image(&disk, pick, image)?, "{pick}");
     }
     Ok(())
 }
@@ -163,15 +174,6 @@ const FAILED_PUTS: [(&str, [u64; 2], usize, Option<u64>); 6] = [
     ("and the sync of the gate's 0", [10, 12], 3, Some(20)),
     ("the last sync alone", [10, 0], 1, Some(144)),
 ];
-
-#[test]
-fn failed_puts_leave_no_piece_behind_later_ones(rt: HostRuntime) -> Result<(), Fail> {
-    let alloc = rt.alloc();
-    for (name, failing, puts, kept) in FAILED_PUTS {
-        assert_eq!(rt; kept_after(alloc, failing, puts)?, kept, "{name}");
-    }
-    Ok(())
-}
 
 // How many bytes are kept when the log is opened again, or none where it couldn't be opened.
 fn kept_after(alloc: Global, failing: [u64; 2], puts: usize) -> Result<Option<u64>, NoMemory> {
@@ -221,22 +223,6 @@ const STOPS: [(u64, u64, &[u8], &[u8]); 9] = [
     ),
 ];
 
-#[test]
-fn a_crash_at_each_call_of_a_script_keeps_what_was_acknowledged(
-    rt: HostRuntime,
-) -> Result<(), Fail> {
-    let alloc = rt.alloc();
-    for (first, last, kept, piece) in STOPS {
-        for stop in first..=last {
-            let disk = after_script(stopped_disk(alloc, [16, 22], stop)?);
-            let found = found_in(alloc, &disk, kept, piece)?;
-            let may_be_longer = !piece.is_empty();
-            assert_eq!(rt; found, (true, may_be_longer, false), "stopped at {stop}");
-        }
-    }
-    Ok(())
-}
-
 // The disk after the script's puts.
 fn after_script(disk: MemoryDisk) -> MemoryDisk {
     match DiskLog::open(disk) {
@@ -249,6 +235,29 @@ fn after_script(disk: MemoryDisk) -> MemoryDisk {
         }
         Err((_, disk)) => disk,
     }
+}
+
+// Whether the images of a disk that stopped there have these kept bytes or these with the piece, and no
+// others.
+fn is_kept(alloc: Global, stop: u64, kept: &[u8], piece: &[u8]) -> Result<bool, NoMemory> {
+    let disk = after_script(stopped_disk(alloc, [16, 22], stop)?);
+    Ok(found_in(alloc, &disk, kept, piece)? == (true, !piece.is_empty(), false))
+}
+
+#[test]
+fn failed_puts_and_crashes_keep_what_was_acknowledged(rt: HostRuntime) -> Result<(), Fail> {
+    for (name, failing, puts, kept) in FAILED_PUTS {
+        assert!(rt; kept_after(rt.alloc(), failing, puts)? == kept, "{name}");
+    }
+    for (first, last, kept, piece) in STOPS {
+        for stop in first..=last {
+            assert!(rt;
+                is_kept(rt.alloc(), stop, kept, piece)?,
+                "stopped at {stop}"
+            );
+        }
+    }
+    Ok(())
 }
 
 const LONG: [u8; 5000] = [9; 5000];
@@ -265,50 +274,49 @@ const LOADS: [(u64, usize); 8] = [
     (u64::MAX, 5144),
 ];
 
-#[test]
-fn a_load_gives_the_pieces_joined_or_their_first_bytes(rt: HostRuntime) -> Result<(), Fail> {
-    let alloc = rt.alloc();
+// Whether a load gives the pieces joined, or so many of their first bytes.
+fn is_loaded(alloc: Global, most: u64, count: usize) -> Result<bool, Fail> {
     let Ok(mut log) = DiskLog::open(disk(alloc, [0; 2])?) else {
-        assert!(rt; false, "opens");
-        return Ok(());
+        return Ok(false);
     };
     for piece in [PIECE.as_slice(), &[], &LONG] {
         let at = log.length();
-        let put = log.put(at, piece);
-        assert!(rt; put.is_ok());
+        if log.put(at, piece).is_err() {
+            return Ok(false);
+        }
     }
-    let mut whole = Bytes::of(Vec::from_slice(alloc, &PIECE)?);
-    whole.extend_from_slice(&LONG)?;
     let mut kept = Bytes::of(Vec::from_slice(alloc, &[3])?);
-    for (most, count) in LOADS {
-        log.load(most, &mut kept)?;
-        assert_eq!(rt;
-            kept.as_slice(),
-            &whole.as_slice()[..count.min(whole.as_slice().len())]
-        );
-    }
-    Ok(())
+    log.load(most, &mut kept)?;
+    let whole = [PIECE.as_slice(), &LONG].concat(alloc)?;
+    Ok(Some(kept.as_slice()) == whole.as_slice().get(..count))
 }
 
-// The second load fails: each load reads the size, then the gate, the length and the piece. An empty
-// disk is opened by calls 1 to 4, and a put makes six.
-#[test]
-fn a_load_tells_that_the_disk_failed(rt: HostRuntime) -> Result<(), Fail> {
-    let alloc = rt.alloc();
+// Whether the second load of a piece tells that the disk failed, and the others give the piece: each reads
+// the size, then the gate, the length and the piece. An empty disk is opened by calls 1 to 4, and a put
+// makes six.
+fn fails_to_load(alloc: Global) -> Result<bool, Fail> {
     let Ok(mut log) = DiskLog::open(disk(alloc, [15, 0])?) else {
-        assert!(rt; false, "opens");
-        return Ok(());
+        return Ok(false);
     };
     let at = log.length();
-    let put = log.put(at, &PIECE);
-    assert!(rt; put.is_ok());
+    if log.put(at, &PIECE).is_err() {
+        return Ok(false);
+    }
     let mut kept = Bytes::of(Vec::new(alloc));
     log.load(u64::MAX, &mut kept)?;
-    assert_eq!(rt; kept.as_slice(), PIECE.as_slice());
-    assert_eq!(rt; log.load(u64::MAX, &mut kept), Err(LogFault::Failed));
-    let text = format!(in alloc; "{}", LogFault::Failed)?;
-    assert_eq!(rt; text.as_str(), "the disk failed");
+    let first = kept.as_slice() == PIECE.as_slice();
+    let second = log.load(u64::MAX, &mut kept) == Err(LogFault::Failed);
     log.load(u64::MAX, &mut kept)?;
-    assert_eq!(rt; kept.as_slice(), PIECE.as_slice());
+    Ok(first && second && kept.as_slice() == PIECE.as_slice())
+}
+
+#[test]
+fn loads_give_the_pieces_or_tell_that_the_disk_failed(rt: HostRuntime) -> Result<(), Fail> {
+    for (most, count) in LOADS {
+        assert!(rt; is_loaded(rt.alloc(), most, count)?, "{most}");
+    }
+    assert!(rt; fails_to_load(rt.alloc())?);
+    let text = format!(in rt.alloc(); "{}", LogFault::Failed)?;
+    assert!(rt; text.as_str() == "the disk failed");
     Ok(())
 }

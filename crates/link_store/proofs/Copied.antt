@@ -9,8 +9,8 @@ use Rattle.std.proofs.lemmas.Cmp.{eq_by_cmp_equiv}
 use Rattle.std.proofs.lemmas.List.{append-nil}
 use Rattle.std.proofs.lemmas.List.Elements.{Contains-append_right}
 use Rattle.std.proofs.lemmas.Map.Keys.{IsDistinct-head, IsDistinct-tail}
-use Rattle.link_store.proofs.Elements.{Contains-cons}
-use Rattle.cell_store.specs.Table.{by_rows}
+use Rattle.cell_value.specs.Elements.{Contains-cons}
+use Rattle.grid_range.specs.Area.{by_rows}
 use Rattle.cell_store.specs.Entries.{entry_at}
 use Rattle.link_store.proofs.ByRows.{by_rows_total, entry_added}
 use Rattle.link_store.specs.declared.cells.Cell.{Cell}

@@ -3,7 +3,7 @@ use Rattle.std.proofs.Common.{◌≡◌, ◌≢◌, inl, inr, ℕ, List, [], ◌
 use Rattle.std.specs.Prelude.{Option, Some, None, Contains, nat_eq}
 use Rattle.std.specs.List.{AllByRecursion, IsDistinct}
 use Rattle.std.proofs.lemmas.Bool.{cases_eq, eq-eqb, ne_eqb, false≢true}
-use Rattle.link_store.proofs.Elements.{Contains-cons_cases}
+use Rattle.cell_value.specs.Elements.{Contains-cons_cases}
 use Rattle.link_store.specs.Lists.{entries_of, first_node, node_after}
 use Rattle.link_store.specs.Nodes.{Lacks}
 use Rattle.link_store.specs.Entries.{entries_from, IsCursor}

@@ -1,5 +1,5 @@
 -- What lists that are made of others have.
-use Rattle.std.proofs.Common.{◌≡◌, ◌⊎◌, length, get_or, inl, inr, ℕ, zero, suc, ◌+◌, ◌-◌, ◌<◌, ◌≤◌, List, [], ◌∷◌}
+use Rattle.std.proofs.Common.{◌≡◌, inl, inr, ℕ, zero, suc, ◌+◌, ◌-◌, ◌<◌, ◌≤◌, List, [], ◌∷◌}
 use Rattle.std.proofs.Common.{◌++◌, Bool, false, refl, sym, ap, subst, ◌∙◌, arith, map}
 use Rattle.std.specs.Prelude.{Option, Some, None, Contains, nat_eq, slice_get}
 use Rattle.std.specs.Option.{unwrap_or}
@@ -9,20 +9,7 @@ use Rattle.std.proofs.lemmas.List.Elements.{Contains-append_left, Contains-appen
 use Rattle.std.proofs.lemmas.List.Elements.{Contains-get_or, All-contains}
 use Rattle.std.proofs.lemmas.List.FromFn.{length-range_with_len, get_or-range_with_len}
 use Rattle.std.proofs.lemmas.Map.Keys.{IsDistinct-head, IsDistinct-tail, IsDistinct-cons}
-
-pub Contains-cons : {X : Type 0} (head x : X) (rest : List X) → Contains rest x → Contains (head ∷ rest) x
-Contains-cons head x rest has = (suc has.0, omega (arith, has.1), has.2)
-
-pub Contains-cons_cases : {X : Type 0} (head x : X) (rest : List X) → Contains (head ∷ rest) x
-    → (head ≡ x) ⊎ Contains rest x
-Contains-cons_cases {X} head x rest has = by_index has.0 has.1 has.2
-  where
-    by_index : (k : ℕ) → k < suc (length rest) → get_or (head ∷ rest) k x ≡ x → (head ≡ x) ⊎ Contains rest x
-    by_index zero within found = inl found
-    by_index (suc k) within found = inr (k, omega arith, found)
-
-pub nothing_in : {X : Type 0} (x : X) → Contains [] x → ⊥
-nothing_in x has = omega (arith, has.1)
+use Rattle.cell_value.specs.Elements.{Contains-cons, Contains-cons_cases, nothing_in, IsDistinct-none}
 
 module _ {X Y : Type 0} where
   pub Contains-map : (f : X → Y) (xs : List X) (x : X) → Contains xs x → Contains (map f xs) (f x)
@@ -115,10 +102,6 @@ module _ {X : Type 0} where
         | inr second ↦ apart x y (0, omega arith, refl) second
       ]))
       (IsDistinct-append eq xs ys (IsDistinct-tail eq x xs one) two (λ a b has. apart a b (Contains-cons x a xs has)))
-
-pub IsDistinct-none : {X : Type 0} (eq : X → X → Bool) → IsDistinct eq []
-unfolding IsDistinct
-IsDistinct-none eq = tt
 
 -- keys made of elements that differ, by a function that tells these apart
 pub IsDistinct-map : {X K L : Type 0} (eq : K → K → Bool) (other : L → L → Bool) (f : X → K) (g : X → L)

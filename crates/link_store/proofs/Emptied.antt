@@ -14,7 +14,7 @@ use Rattle.link_store.specs.Lists.{entries_of}
 use Rattle.link_store.specs.Lines.{line_entries, list_of}
 use Rattle.link_store.specs.Crossings.{IsGrid, HasSameLines, LosesFirst, LosesItems, IsEmptyList, HasDeletedEmpty}
 use Rattle.link_store.specs.Crossings.{lists_on, line_on, sheet_items}
-use Rattle.link_store.proofs.Elements.{nothing_in}
+use Rattle.cell_value.specs.Elements.{nothing_in}
 use Rattle.link_store.proofs.LineLists.{line_of, same_line}
 use Rattle.link_store.proofs.Sheets.{item_from, cell_from, has_column}
 use Rattle.link_store.proofs.Holding.{empty_from}

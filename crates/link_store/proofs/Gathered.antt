@@ -16,7 +16,7 @@ use Rattle.grid_range.specs.declared.band.Band.{Band}
 use Rattle.grid_range.specs.declared.axis.Axis.{Axis}
 use Rattle.grid_range.specs.declared.axis.Axis.TheVariants.{Rows, Columns}
 use Rattle.grid_range.specs.Band.{HasLine}
-use Rattle.cell_store.specs.Table.{by_rows}
+use Rattle.grid_range.specs.Area.{by_rows}
 use Rattle.cell_store.specs.Entries.{entry_at}
 use Rattle.cell_store.specs.Moved.{lines_on}
 use Rattle.link_store.specs.declared.cells.Cell.{Cell}
@@ -27,8 +27,10 @@ use Rattle.link_store.specs.Lists.{entries_of, HasNodesOnce}
 use Rattle.link_store.specs.Lines.{AreLines, ArePositions, line_entries, list_of}
 use Rattle.link_store.specs.Crossings.{IsGrid, IsCellAt, ArePlacesOn, HasPlacesOf, column_of, first_rows, place_in}
 use Rattle.link_store.specs.Crossings.{row_items, sheet_items}
-use Rattle.link_store.proofs.Elements.{Contains-cons, Contains-map, Contains-map_from, Contains-flat_map}
-use Rattle.link_store.proofs.Elements.{Contains-flat_map_from, IsDistinct-append, IsDistinct-map, IsDistinct-none}
+use Rattle.cell_value.specs.Elements.{Contains-cons}
+use Rattle.link_store.proofs.Elements.{Contains-map, Contains-map_from, Contains-flat_map}
+use Rattle.cell_value.specs.Elements.{IsDistinct-none}
+use Rattle.link_store.proofs.Elements.{Contains-flat_map_from, IsDistinct-append, IsDistinct-map}
 use Rattle.link_store.proofs.Elements.{IsDistinct-range, from_each, range_has, range_high}
 use Rattle.link_store.proofs.Holding.{one_cell}
 use Rattle.link_store.proofs.LineLists.{range_more, line_of, list_within, links_as_lists, place_is}

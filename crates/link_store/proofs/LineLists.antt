@@ -10,7 +10,8 @@ use Rattle.std.proofs.lemmas.Bool.Decides.{nat_tests}
 use Rattle.std.proofs.lemmas.List.Elements.{All-contains, Contains-get_or}
 use Rattle.std.proofs.lemmas.Map.Keys.{IsDistinct-IsPermutation, apart_from_distinct}
 use Rattle.cell_store.specs.Table.{most_lines}
-use Rattle.link_store.proofs.Elements.{nothing_in, Contains-range, IsDistinct-range}
+use Rattle.cell_value.specs.Elements.{nothing_in}
+use Rattle.link_store.proofs.Elements.{Contains-range, IsDistinct-range}
 use Rattle.std.proofs.lemmas.List.{length-append, get_or_append_left, get_or-append_right, get_or_past}
 use Rattle.std.proofs.lemmas.List.FromFn.{length-range_with_len, get_or-range_with_len}
 use Rattle.std.proofs.lemmas.List.Sorted.{IsPermutation-append_left, length_permutation, All-permutation}

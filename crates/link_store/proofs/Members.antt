@@ -6,7 +6,7 @@ use Rattle.std.specs.List.{AllByRecursion, IsDistinct}
 use Rattle.std.specs.Option.{option_or}
 use Rattle.std.proofs.lemmas.Bool.{cases_eq, eq-eqb, ne_eqb}
 use Rattle.std.proofs.lemmas.List.Sums.{sum_by-cons}
-use Rattle.link_store.proofs.Elements.{Contains-cons, Contains-cons_cases}
+use Rattle.cell_value.specs.Elements.{Contains-cons, Contains-cons_cases}
 use Rattle.link_store.specs.Lists.{entries_of, first_node, node_after, without, without_node, live_nodes}
 use Rattle.link_store.specs.Nodes.{Lacks, last_from, pass}
 

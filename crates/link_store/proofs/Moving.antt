@@ -1,5 +1,5 @@
 -- Lines after a change, where two parts of their lists changed places.
-use Rattle.std.proofs.Common.{◌≡◌, ◌⊎◌, inl, inr, ℕ, ◌+◌, ◌-◌, ◌<◌, ◌≤◌, [], length, refl, sym, ap, subst, ◌∙◌, arith}
+use Rattle.std.proofs.Common.{◌≡◌, ◌⊎◌, inl, inr, ℕ, ◌+◌, ◌-◌, ◌<◌, ◌≤◌, [], length, sym, ap, subst, ◌∙◌, arith}
 use Rattle.std.proofs.Common.{nat_lt, cond}
 use Rattle.std.specs.Prelude.{Some, None, IfSome, slice_index}
 use Rattle.std.specs.Option.{option_map}
@@ -7,7 +7,6 @@ use Rattle.std.specs.List.{range_with_len}
 use Rattle.std.specs.List.Sorted.{IsPermutation}
 use Rattle.std.proofs.lemmas.Bool.Decides.{nat_tests}
 use Rattle.std.proofs.lemmas.List.Sorted.{IsPermutation-trans}
-use Rattle.grid_range.specs.declared.axis.Axis.TheVariants.{Rows}
 use Rattle.grid_range.specs.declared.change.Change.{Change}
 use Rattle.grid_range.specs.declared.change.Change.TheVariants.{Delete, Move}
 use Rattle.grid_range.specs.Change.{Fits, count_after}

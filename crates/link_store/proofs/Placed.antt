@@ -3,7 +3,7 @@ use Rattle.std.proofs.Common.{◌≡◌, ℕ, true, false, refl, sym, ap, ◌∙
 use Rattle.std.specs.Prelude.{None}
 use Rattle.std.specs.Ordering.{eq_by_cmp}
 use Rattle.std.proofs.lemmas.Map.Views.{tells_apart}
-use Rattle.cell_store.specs.Table.{by_rows}
+use Rattle.grid_range.specs.Area.{by_rows}
 use Rattle.cell_store.specs.Entries.{entry_at}
 use Rattle.link_store.proofs.ByRows.{by_rows_exact}
 use Rattle.link_store.specs.declared.cells.Cell.{Cell}

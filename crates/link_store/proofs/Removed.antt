@@ -15,7 +15,8 @@ use Rattle.link_store.specs.Lists.{entries_of, live_nodes, without, without_node
 use Rattle.link_store.specs.Lines.{list_of}
 use Rattle.link_store.specs.Crossings.{IsGrid, IsCellAt, AreCrossed, ChangesAt, sheet_items}
 use Rattle.link_store.proofs.Members.{without_same, without_other}
-use Rattle.link_store.proofs.Elements.{nothing_in, each_from, from_each, Contains-map, Contains-map_from}
+use Rattle.cell_value.specs.Elements.{nothing_in}
+use Rattle.link_store.proofs.Elements.{each_from, from_each, Contains-map, Contains-map_from}
 use Rattle.link_store.proofs.Uses.{one_place, entries_without, stayed_from, stayed_in, left_from}
 use Rattle.link_store.proofs.Holding.{lines_kept, one_cell, one_cell_place, changes_at, same_option, holds_iff}
 

@@ -5,14 +5,14 @@ use Rattle.std.specs.Option.{unwrap_or}
 use Rattle.std.specs.List.{IsDistinct}
 use Rattle.std.proofs.lemmas.Bool.{cases_eq}
 use Rattle.std.proofs.lemmas.List.{length-map}
-use Rattle.link_store.proofs.Elements.{Contains-cons}
+use Rattle.cell_value.specs.Elements.{Contains-cons}
 use Rattle.link_store.specs.declared.cells.Cell.{Cell}
 use Rattle.link_store.specs.declared.cells.Cells.{Cells}
 use Rattle.link_store.specs.Lists.{entries_of, live_nodes, with_item_at, HasNodesOnce}
 use Rattle.link_store.specs.Lines.{list_of}
 use Rattle.link_store.specs.Crossings.{IsGrid, IsCellAt, AreCrossed, ChangesAt, sheet_items}
 use Rattle.link_store.proofs.Replaced.{put, put_here, put_other}
-use Rattle.link_store.proofs.Elements.{nothing_in}
+use Rattle.cell_value.specs.Elements.{nothing_in}
 use Rattle.link_store.proofs.Uses.{one_place, entries_put, put_from, put_old, put_new}
 use Rattle.link_store.proofs.Holding.{lines_kept, one_cell, one_cell_place, changes_at}
 

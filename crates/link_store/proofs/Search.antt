@@ -5,7 +5,7 @@ use Rattle.link_store.specs.declared.cells.Cells.{Cells}
 use Rattle.link_store.specs.Lists.{entries_of}
 use Rattle.link_store.specs.Lines.{list_of}
 use Rattle.link_store.specs.Crossings.{IsCellAt}
-use Rattle.link_store.proofs.Elements.{Contains-cons, Contains-cons_cases}
+use Rattle.cell_value.specs.Elements.{Contains-cons, Contains-cons_cases}
 use Rattle.link_store.specs.declared.cells.Cell.{Cell}
 
 module _ {T : Type 0} where

@@ -1,16 +1,16 @@
 -- The sheet that lists of rows and of columns stand for: what it has at a place.
-use Rattle.std.proofs.Common.{◌≡◌, ◌≢◌, ℕ, ◌<◌, List, [], ◌∷◌, false, map, refl, sym, ap, subst, ◌∙◌, arith, eqb}
+use Rattle.std.proofs.Common.{◌≡◌, ◌≢◌, ℕ, ◌<◌, List, [], ◌∷◌, false, map, refl, sym, ap, subst, ◌∙◌, arith}
 use Rattle.std.specs.Prelude.{Some, Contains, nat_eq}
 use Rattle.std.specs.Ordering.{eq_by_cmp}
 use Rattle.std.specs.List.{IsDistinct, flat_map, range_with_len}
 use Rattle.std.specs.Map.{keys_of}
-use Rattle.std.proofs.lemmas.Bool.{eq-eqb, ne_eqb, false≢true}
+use Rattle.std.proofs.lemmas.Bool.{eq-eqb, false≢true}
 use Rattle.std.proofs.lemmas.Bool.Decides.{nat_tests}
 use Rattle.std.proofs.lemmas.Cmp.{eq_by_cmp_equiv}
 use Rattle.std.proofs.lemmas.List.{map-append}
 use Rattle.std.proofs.lemmas.Map.Keys.{IsDistinct-head, IsDistinct-tail}
 use Rattle.std.proofs.lemmas.Map.Views.{tells_apart, Contains-from_lookup, lookup-from_Contains}
-use Rattle.cell_store.specs.Table.{by_rows}
+use Rattle.grid_range.specs.Area.{by_rows}
 use Rattle.cell_store.specs.Entries.{entry_at}
 use Rattle.link_store.proofs.ByRows.{by_rows_total, by_rows_exact}
 use Rattle.link_store.specs.declared.cells.Cell.{Cell}
@@ -20,7 +20,8 @@ use Rattle.link_store.specs.Lines.{line_entries, list_of}
 use Rattle.link_store.specs.Crossings.{IsGrid, IsCellAt, column_of, row_items, sheet_items}
 use Rattle.link_store.proofs.Elements.{Contains-map, Contains-map_from, Contains-flat_map, Contains-flat_map_from}
 use Rattle.link_store.proofs.Elements.{Contains-range, Contains-range_from, from_each, IsDistinct-append}
-use Rattle.link_store.proofs.Elements.{IsDistinct-map, IsDistinct-range, IsDistinct-none}
+use Rattle.cell_value.specs.Elements.{IsDistinct-none}
+use Rattle.link_store.proofs.Elements.{IsDistinct-map, IsDistinct-range}
 use Rattle.link_store.proofs.LineLists.{line_of, place_is}
 
 -- two places that differ in a column, and in a row

@@ -3,7 +3,7 @@ use Rattle.std.proofs.Common.{◌≡◌, ◌≢◌, ◌⊎◌, inl, inr, ℕ, Li
 use Rattle.std.specs.Prelude.{Option, Some, None, Contains}
 use Rattle.std.specs.Option.{option_map}
 use Rattle.std.proofs.lemmas.Bool.{cases_eq}
-use Rattle.link_store.proofs.Elements.{Contains-cons, Contains-cons_cases}
+use Rattle.cell_value.specs.Elements.{Contains-cons, Contains-cons_cases}
 use Rattle.link_store.specs.declared.nodes.Node.{Node}
 use Rattle.link_store.specs.declared.nodes.Ends.{Ends}
 use Rattle.link_store.specs.Lists.{first_node, node_after, without}

@@ -9,7 +9,7 @@ use Rattle.link_store.specs.declared.cells.Cells.{Cells}
 use Rattle.link_store.specs.Lists.{entries_of, live_nodes}
 use Rattle.link_store.specs.Lines.{AreLines, list_of}
 use Rattle.link_store.specs.Crossings.{IsGrid, sheet_items}
-use Rattle.link_store.proofs.Elements.{nothing_in, IsDistinct-none}
+use Rattle.cell_value.specs.Elements.{nothing_in, IsDistinct-none}
 use Rattle.link_store.proofs.Sheets.{cell_from}
 use Rattle.link_store.proofs.Emptied.{nothing}
 

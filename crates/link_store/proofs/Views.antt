@@ -13,7 +13,8 @@ use Rattle.std.proofs.lemmas.List.Sorted.{sum_by-IsPermutation}
 use Rattle.std.proofs.lemmas.List.Sums.{sum_by-cons, sum_by-take-drop}
 use Rattle.grid_range.specs.declared.axis.Axis.{Axis}
 use Rattle.grid_range.specs.declared.change.Change.{Change}
-use Rattle.cell_store.specs.Table.{Table, by_rows, item_at, filled_places, HasItemsInside, empty_table, with_item}
+use Rattle.grid_range.specs.Area.{by_rows}
+use Rattle.cell_store.specs.Table.{Table, item_at, filled_places, HasItemsInside, empty_table, with_item}
 use Rattle.cell_store.specs.Table.{without_item}
 use Rattle.cell_store.specs.Entries.{entry_at, HasEntriesInside}
 use Rattle.cell_store.specs.Moved.{GoesWithLines}

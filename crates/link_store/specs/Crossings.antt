@@ -5,7 +5,8 @@ use Rattle.std.specs.Prelude.{Option, Some, None, map, Contains, nat_eq, length,
 use Rattle.std.specs.Ordering.{eq_by_cmp}
 use Rattle.std.specs.Option.{IsSome}
 use Rattle.std.specs.List.{IsDistinct, flat_map, position_or_len, range_with_len}
-use Rattle.cell_store.specs.Table.{Table, by_rows, most_lines}
+use Rattle.grid_range.specs.Area.{by_rows}
+use Rattle.cell_store.specs.Table.{most_lines}
 use Rattle.cell_store.specs.Entries.{entry_at, table_of}
 use Rattle.cell_store.specs.Moved.{place_after, size_after}
 use Rattle.grid_range.specs.declared.axis.Axis.{Axis}

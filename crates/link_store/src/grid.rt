@@ -108,6 +108,8 @@ impl<T: Drop> LinkGrid<T> {
 }
 
 impl<T: Duplicate + Drop> Grid<T> for LinkGrid<T> {
+    ghost use Rattle.link_store.specs.Grid.{ReusesLists};
+
     ghost table = { λ g. g.table };
 
     fn rows(&self) -> u32 {
@@ -147,7 +149,14 @@ impl<T: Duplicate + Drop> Grid<T> for LinkGrid<T> {
         self.cells.take(row, column)
     }
 
-    fn change(&mut self, axis: Axis, change: &Change) -> Result<(), NoMemory> {
+    fn change(&mut self, axis: Axis, change: &Change) -> Result<(), NoMemory>
+        requires fits { Fits change.now (lines_on axis self.old.table.rows self.old.table.cols) }
+        requires room { IsRoomAfter axis change.now self.old.table }
+        ensures moved { OnOk result (GoesWithLines axis change.now self.old.table self.new.table) }
+        ensures filled { filled_places self.new.table ≤ filled_places self.old.table }
+        ensures unchanged { OnErr result (self.new.table ≡ self.old.table) }
+        ensures lists { ReusesLists axis change.now self.old self.new }
+    {
         self.change_alone::<Brand>(axis, change, Blank::new(1))
     }
 

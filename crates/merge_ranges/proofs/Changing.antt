@@ -26,7 +26,8 @@ use Rattle.merge_ranges.specs.Calls.{ListsJust}
 use Rattle.merge_ranges.specs.Following.{AreWithin, CameFrom, KeepsAll}
 use Rattle.merge_ranges.specs.Tests.{has_many_cells, tears_merge, merge_after}
 use Rattle.merge_ranges.proofs.Rectangles.{cells_are, are_cells, meets, meeting, from_meeting}
-use Rattle.merge_ranges.proofs.Lists.{kept_in, came_of, distinct-filter_map}
+use Rattle.cell_value.specs.Elements.{Contains-filter_map, Contains-filter_map_from}
+use Rattle.merge_ranges.proofs.Lists.{distinct-filter_map}
 use Rattle.merge_ranges.proofs.Merging.{distinct_merges, permuted_merges}
 
 ends_on : (axis : Axis) (merge : Area) → IsRectangle merge → HasEnds (band_on axis merge)
@@ -172,7 +173,7 @@ module _ (axis : Axis) (count : ℕ) (change : Change) (fits : Fits change count
         of_made : (P : Area → Type 0) → ((merge area : Area) → Good merge
             → merge_after axis count change merge ≡ Some area → P area) → All P made
         of_made P h = All-weaker (Contains made) P (λ area c.
-            let (merge, held, is) = came_of (merge_after axis count change) merges area c in
+            let (merge, held, is) = Contains-filter_map_from (merge_after axis count change) merges area c in
             h merge area (All-contains Good merges merge all_good held) is) made (All-contains_itself made)
 
         made_distinct : IsDistinct meets made
@@ -189,12 +190,12 @@ module _ (axis : Axis) (count : ℕ) (change : Change) (fits : Fits change count
             in_order = changed_are_merges.in_order;
             exactly = λ area. (
               (λ c.
-                  let (merge, held, is) = came_of (merge_after axis count change) merges area
+                  let (merge, held, is) = Contains-filter_map_from (merge_after axis count change) merges area
                   (Contains-permutation after made area (IsPermutation-sym made after moved) c) in
                   let kept = kept_area (area_followed merge.sheet axis count change merge) area is in
                   record { merge = merge; listed = held; followed = kept.0; cells = cells_are area kept.1 }),
               (λ came. Contains-permutation made after area moved
-                  (kept_in (merge_after axis count change) merges came.merge area came.listed
+                  (Contains-filter_map (merge_after axis count change) merges came.merge area came.listed
                   (area_kept (area_followed came.merge.sheet axis count change came.merge) area came.followed
                   (are_cells area came.cells)))),
             );

@@ -23,7 +23,8 @@ use Rattle.merge_ranges.specs.Calls.{Cuts, ListsJust, IsLeft, IsLeftOrNew}
 use Rattle.merge_ranges.specs.Tests.{holds_all, cuts}
 use Rattle.grid_range.specs.Area.{first_cell, by_rows}
 use Rattle.merge_ranges.proofs.Rectangles.{holds_all_cells, all_cells_hold, cuts_cells, from_cuts, meets, meets_turned, meeting, apart, not_overlapping, same_first_meets}
-use Rattle.merge_ranges.proofs.Lists.{filter_in, in_filter, distinct-filter, distinct-push}
+use Rattle.cell_value.specs.Elements.{Contains-filter, Contains-filter_from, IsDistinct-filter}
+use Rattle.merge_ranges.proofs.Lists.{distinct-push}
 
 by_first_total : IsTotalOrder by_first_cell
 by_first_total = then_total (on_total (λ (a : Area). first_line a.rows) nat_cmp_total)
@@ -122,11 +123,11 @@ module _ (area : Area) (merges : List Area) (are : AreMerges merges) where
 
   is_left : (merge : Area) → Contains left merge → IsLeft area merges merge
   is_left merge c =
-      let both = in_filter (λ m. not (holds_all area m)) merges merge c in
+      let both = Contains-filter_from (λ m. not (holds_all area m)) merges merge c in
       (both.0, left_out merge (All-contains IsMerge merges merge are.each both.0).0 both.1)
 
   in_left : (merge : Area) → IsLeft area merges merge → Contains left merge
-  in_left merge (c, out) = filter_in (λ m. not (holds_all area m)) merges merge c
+  in_left merge (c, out) = Contains-filter (λ m. not (holds_all area m)) merges merge c
       (out_left merge (All-contains IsMerge merges merge are.each c).0 out)
 
   pub lists_left : ListsJust (IsLeft area merges) left
@@ -137,7 +138,7 @@ module _ (area : Area) (merges : List Area) (are : AreMerges merges) where
 
   pub left_are_merges : AreMerges left
   left_are_merges = merges_are left (All-filter (λ m. not (holds_all area m)) IsMerge merges are.each)
-      (distinct-filter meets (λ m. not (holds_all area m)) merges (distinct_merges merges are)) lists_left.in_order
+      (IsDistinct-filter (λ m. not (holds_all area m)) meets merges (distinct_merges merges are)) lists_left.in_order
 
   module _ (is : IsMerge area) (whole : list_any (cuts area) merges ≡ false) (after : List Area)
       (moved : IsPermutation (left ++ area ∷ []) after) (sorted : IsSortedByKey first_cell by_rows after) where

@@ -2,3 +2,4 @@ pub mod Merges
 pub mod Calls
 pub mod Following
 pub mod Tests
+pub mod Faults

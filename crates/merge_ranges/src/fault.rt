@@ -7,6 +7,11 @@ use std::fmt;
 pub struct Cut;
 
 impl fmt::Display for Cut {
+    ghost use Rattle.std.specs.Prelude.{Some};
+    ghost use Rattle.merge_ranges.specs.Faults.{cut_text};
+
+    ghost output = { λ _. Some cut_text };
+
     fn fmt<W: fmt::Write>(&self, f: &mut fmt::Formatter<W>) -> fmt::Result {
         f.write_str("a merge would be cut")
     }
@@ -24,6 +29,11 @@ pub enum MergeFault {
 }
 
 impl fmt::Display for MergeFault {
+    ghost use Rattle.std.specs.Prelude.{Some};
+    ghost use Rattle.merge_ranges.specs.Faults.{fault_text};
+
+    ghost output = { λ fault. Some (fault_text fault) };
+
     fn fmt<W: fmt::Write>(&self, f: &mut fmt::Formatter<W>) -> fmt::Result {
         match self {
             MergeFault::Cut => f.write_str("a merge would be cut"),

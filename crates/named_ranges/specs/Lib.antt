@@ -4,3 +4,4 @@ pub mod Given
 pub mod Listed
 pub mod Following
 pub mod Kept
+pub mod Faults

@@ -1,40 +1,9 @@
-ghost use Rattle.std.specs.Prelude.{◌≡◌, ◌==◌, All, not, filter};
-ghost use Rattle.std.specs.List.{filter_map};
-ghost use Rattle.cell_value.specs.Entries.{entry_followed};
-ghost use Rattle.grid_range.specs.Change.{Fits, count_after};
-ghost use Rattle.named_ranges.specs.Following.{IsRangeWithinOn, range_followed};
-ghost use Rattle.named_ranges.specs.Kept.{ranges_of};
+ghost use Rattle.std.specs.Prelude.{◌≡◌, ◌==◌, not, filter};
 
 use crate::range::NamedRange;
-use cell_value::{Follow, follow_values};
+use cell_value::Follow;
 use grid_range::{Axis, Change};
 use indexmap::IndexMap;
-
-/// Has each range follow the change, and takes out those that are lost.
-pub(crate) fn follow_all(
-    by_id: &mut IndexMap<String, NamedRange>,
-    sheet: u32,
-    axis: Axis,
-    count: u32,
-    change: &Change,
-)
-    requires fits { Fits change.now count }
-    requires within { All (IsRangeWithinOn sheet axis count) (ranges_of by_id.old.entries) }
-    ensures followed { by_id.new.entries ≡
-        filter_map (entry_followed (range_followed sheet axis count change.now)) by_id.old.entries }
-    ensures within { All (IsRangeWithinOn sheet axis (count_after change.now count))
-        (ranges_of by_id.new.entries) }
-{
-    follow_values(
-        by_id,
-        &SheetChange {
-            sheet,
-            axis,
-            count,
-            change,
-        },
-    );
-}
 
 /// Takes out the ranges that are on the sheet.
 pub(crate) fn keep_elsewhere(by_id: &mut IndexMap<String, NamedRange>, sheet: u32)
@@ -46,11 +15,11 @@ pub(crate) fn keep_elsewhere(by_id: &mut IndexMap<String, NamedRange>, sheet: u3
 
 /// A change of the lines on an axis of a sheet, of which there were `count`.
 #[derive(Clone, Copy)]
-struct SheetChange<'a> {
-    sheet: u32,
-    axis: Axis,
-    count: u32,
-    change: &'a Change,
+pub(crate) struct SheetChange<'a> {
+    pub(crate) sheet: u32,
+    pub(crate) axis: Axis,
+    pub(crate) count: u32,
+    pub(crate) change: &'a Change,
 }
 
 impl Follow<SheetChange<'_>> for NamedRange {

@@ -9,10 +9,10 @@ ghost use Rattle.named_ranges.specs.Following.{IsRangeWithinOn, range_followed, 
 ghost use Rattle.named_ranges.specs.NameRule.{IsName};
 ghost use Rattle.named_ranges.specs.declared.range.NameFault.TheVariants.{NoId, IdTaken, BadName, NameTaken};
 
-use crate::following::{follow_all, keep_elsewhere};
+use crate::following::{SheetChange, keep_elsewhere};
 use crate::name::is_name;
 use crate::range::{NameFault, NamedRange};
-use cell_value::{Duplicate, NoMemory, Text};
+use cell_value::{Duplicate, NoMemory, Text, follow_values};
 use grid_range::{Area, Axis, Change};
 use indexmap::IndexMap;
 use std::alloc::Global;
@@ -291,7 +291,13 @@ impl Names {
             filter_map (range_followed sheet axis count change.now) self.old }
         ensures within { All (IsRangeWithinOn sheet axis (count_after change.now count)) self.new }
     {
-        follow_all(&mut self.by_id, sheet, axis, count, change);
+        let by = SheetChange {
+            sheet,
+            axis,
+            count,
+            change,
+        };
+        follow_values(&mut self.by_id, &by);
     }
 
     /// Takes out the ranges of a sheet that is deleted. It takes no memory.

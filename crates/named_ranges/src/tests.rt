@@ -6,11 +6,20 @@ use crate::name::is_name;
 use cell_value::{Duplicate, NoMemory, Text};
 use grid_range::{Area, Axis, Band, Change};
 use std::alloc::Global;
+use std::fmt::Debug;
 use std::process::Abort;
-use std::test::Fail;
+
+// The time in which a test is proved grows faster than its length: a test goes over a table, which is a
+// static so that the test doesn't build it, and what it calls for a row answers without `?`. Where memory
+// runs out an answer is wrong.
+
+/// Stops where it doesn't hold of the row.
+fn check<T: Debug>(rt: &impl Abort, row: &T, holds: bool) {
+    assert!(rt; holds, "{row:?}");
+}
 
 /// Texts, and whether each may be a name.
-const NAMES: [(&str, bool); 24] = [
+static NAMES: [(&str, bool); 24] = [
     ("Sheet1", true),
     ("rate", true),
     ("_x", true),
@@ -38,22 +47,28 @@ const NAMES: [(&str, bool); 24] = [
 ];
 
 #[test]
-fn texts_may_be_names(rt: HostRuntime) -> Result<(), Fail> {
-    for (text, may) in NAMES {
-        assert_eq!(rt; is_name(text), may, "{text}");
+fn texts_may_be_names(rt: HostRuntime) {
+    for row in &NAMES {
+        check(&rt, row, is_name(row.0) == row.1);
     }
-    for (length, may) in [(250, true), (251, false)] {
-        let mut text = String::new(rt.alloc());
-        for _ in 0..length {
-            text.push('x')?;
-        }
-        assert_eq!(rt; is_name(text.as_str()), may, "{length}");
+    check(
+        &rt,
+        &"long",
+        is_long_name(rt.alloc(), 250) && !is_long_name(rt.alloc(), 251),
+    );
+}
+
+/// Whether so many letters may be a name.
+fn is_long_name(alloc: Global, length: u32) -> bool {
+    let mut text = String::new(alloc);
+    for _ in 0..length {
+        let _ = text.push('x');
     }
-    Ok(())
+    is_name(text.as_str())
 }
 
 /// Ids and names of ranges that are added, one after another, and what is answered.
-const ADDED: [(Option<&str>, &str, Result<&str, NameFault>); 9] = [
+static ADDED: [(Option<&str>, &str, Result<&str, NameFault>); 9] = [
     (None, "Sheet1", Ok("nr1")),
     (None, "AB12", Err(NameFault::BadName)),
     (None, "sheet1", Err(NameFault::NameTaken)),
@@ -66,25 +81,30 @@ const ADDED: [(Option<&str>, &str, Result<&str, NameFault>); 9] = [
 ];
 
 #[test]
-fn ranges_are_added(rt: HostRuntime) -> Result<(), Fail> {
+fn ranges_are_added(rt: HostRuntime) {
     let mut names = Names::new(rt.alloc());
-    for (id, name, answer) in ADDED {
-        match (add(&mut names, rt.alloc(), id, name)?, answer) {
-            (Ok(id), Ok(expected)) => assert_eq!(rt; id.as_str(), expected, "{name}"),
-            (Err(fault), Err(expected)) => assert_eq!(rt; fault, expected, "{name}"),
-            _ => assert!(rt; false, "{name}"),
-        }
+    for row in &ADDED {
+        check(
+            &rt,
+            row,
+            is_answered(&mut names, rt.alloc(), row.0, row.1, row.2),
+        );
     }
-    assert_eq!(rt; names.count(), 4);
-    assert!(rt; has_order(&names, &["nr1", "nr3", "nr2", "nr4"]));
-    assert!(rt; is_found(&names, "SHEET1", "nr1") && is_found(&names, "rAtE", "nr3"));
-    assert!(rt; names.find("AB12").is_none());
-    Ok(())
+    check(
+        &rt,
+        &"order",
+        has_order(&names, &["nr1", "nr3", "nr2", "nr4"]),
+    );
+    check(
+        &rt,
+        &"case",
+        is_found(&names, "SHEET1", "nr1") && is_found(&names, "rAtE", "nr3"),
+    );
 }
 
 /// The id, the name that is given, and what is answered, each for the same ranges: nr1 is rate, nr2
 /// is tax.
-const RENAMED: [(&str, &str, Result<(), NameFault>); 6] = [
+static RENAMED: [(&str, &str, Result<(), NameFault>); 6] = [
     ("nr1", "Levy", Ok(())),
     ("nr1", "RATE", Ok(())),
     ("nr3", "AB12", Err(NameFault::NoId)),
@@ -94,95 +114,150 @@ const RENAMED: [(&str, &str, Result<(), NameFault>); 6] = [
 ];
 
 #[test]
-fn ranges_are_renamed(rt: HostRuntime) -> Result<(), Fail> {
-    for (id, name, answer) in RENAMED {
-        let mut names = two(rt.alloc())?;
-        let given = Text::of(String::from_str(rt.alloc(), name)?);
-        assert_eq!(rt; names.update(id, Some(given), None), answer, "{id} {name}");
-        assert!(rt; has_order(&names, &["nr1", "nr2"]));
-        assert_eq!(rt;
-            is_found(&names, name, "nr1"),
-            answer.is_ok(),
-            "{id} {name}"
-        );
+fn ranges_are_renamed(rt: HostRuntime) {
+    for row in &RENAMED {
+        check(&rt, row, is_renamed(rt.alloc(), row.0, row.1, row.2));
     }
-    Ok(())
+}
+
+/// Renames one of the two ranges, and tells whether that is answered and done.
+fn is_renamed(alloc: Global, id: &str, name: &str, answer: Result<(), NameFault>) -> bool {
+    let mut names = two(alloc);
+    names.update(id, Some(text(alloc, name)), None) == answer
+        && has_order(&names, &["nr1", "nr2"])
+        && is_found(&names, name, "nr1") == answer.is_ok()
 }
 
 #[test]
-fn ranges_are_dropped(rt: HostRuntime) -> Result<(), Fail> {
-    let mut names = two(rt.alloc())?;
-    let copy = names.duplicate()?;
-    match names.drop("nr1") {
-        Ok(range) => assert_eq!(rt; range.name.as_str(), "rate"),
-        Err(_) => assert!(rt; false),
-    }
-    assert!(rt; names.drop("nr1").is_err());
-    assert!(rt; names.find("rate").is_none());
-    assert!(rt; add(&mut names, rt.alloc(), None, "levy")?.is_ok());
-    assert!(rt; has_order(&names, &["nr2", "nr1"]) && has_order(&copy, &["nr1", "nr2"]));
-    assert!(rt; is_found(&copy, "Rate", "nr1") && is_found(&names, "Levy", "nr1"));
-    Ok(())
+fn ranges_are_dropped(rt: HostRuntime) {
+    let mut names = two(rt.alloc());
+    check(
+        &rt,
+        &"once",
+        is_dropped(&mut names, "nr1", "rate") && !is_dropped(&mut names, "nr1", "rate"),
+    );
+    check(
+        &rt,
+        &"again",
+        is_answered(&mut names, rt.alloc(), None, "levy", Ok("nr1")),
+    );
+    check(&rt, &"order", has_order(&names, &["nr2", "nr1"]));
+    check(
+        &rt,
+        &"found",
+        is_found(&names, "Levy", "nr1") && !is_found(&names, "rate", "nr1"),
+    );
 }
 
 #[test]
-fn ranges_follow_their_sheets(rt: HostRuntime) -> Result<(), Fail> {
-    let mut names = two(rt.alloc())?;
+fn a_copy_has_the_same_ranges(rt: HostRuntime) {
+    let names = two(rt.alloc());
+    check(&rt, &"copy", is_copied(&names));
+}
+
+/// Whether a copy has the two ranges, and keeps them apart from those of the list.
+fn is_copied(names: &Names) -> bool {
+    match names.duplicate() {
+        Ok(mut copy) => {
+            is_dropped(&mut copy, "nr2", "tax")
+                && has_order(&copy, &["nr1"])
+                && has_order(names, &["nr1", "nr2"])
+        }
+        Err(NoMemory) => false,
+    }
+}
+
+/// Changes of the columns of sheets of 26, one after another, and what the columns of the ranges then
+/// are, the first on sheet 0 and the second on sheet 1.
+static CHANGES: [(u32, Change, Option<Band>, Option<Band>); 2] = [
+    (
+        1,
+        Change::Insert { at: 3, count: 1 },
+        Some(Band::Span(0, 1)),
+        Some(Band::Span(2, 5)),
+    ),
+    (
+        0,
+        Change::Delete { start: 0, end: 1 },
+        Some(Band::Span(2, 5)),
+        None,
+    ),
+];
+
+#[test]
+fn ranges_follow_their_sheets(rt: HostRuntime) {
+    let mut names = two(rt.alloc());
     let area = Area {
         sheet: 1,
         rows: Band::From(3),
         cols: Band::Span(2, 4),
     };
-    assert_eq!(rt; names.update("nr2", None, Some(area)), Ok(()));
-    change(
-        &rt,
-        &mut names,
-        1,
-        Axis::Columns,
-        &Change::Insert { at: 3, count: 1 },
-    );
-    assert_eq!(rt; cols_of(&names, 0), Some(Band::Span(0, 1)));
-    assert_eq!(rt; cols_of(&names, 1), Some(Band::Span(2, 5)));
-    change(
-        &rt,
-        &mut names,
-        0,
-        Axis::Columns,
-        &Change::Delete { start: 0, end: 1 },
-    );
-    assert!(rt; has_order(&names, &["nr2"]));
+    check(&rt, &area, names.update("nr2", None, Some(area)) == Ok(()));
+    for row in &CHANGES {
+        let changed = change(&mut names, row.0, &row.1);
+        let cols = (cols_of(&names, 0), cols_of(&names, 1));
+        check(&rt, row, changed && cols == (row.2, row.3));
+    }
+    check(&rt, &"sheets", are_lost_with_sheets(&mut names));
+}
+
+/// Whether the last range goes with its sheet, and not with another one.
+fn are_lost_with_sheets(names: &mut Names) -> bool {
     names.lose_sheet(0);
-    assert_eq!(rt; names.count(), 1);
+    let left = names.count();
     names.lose_sheet(1);
-    assert_eq!(rt; names.count(), 0);
-    Ok(())
+    (left, names.count()) == (1, 0)
 }
 
 /// A1 of the first sheet under the names rate and tax.
-fn two(alloc: Global) -> Result<Names, Fail> {
+fn two(alloc: Global) -> Names {
     let mut names = Names::new(alloc);
-    let _ = add(&mut names, alloc, None, "rate")?;
-    let _ = add(&mut names, alloc, None, "tax")?;
-    Ok(names)
+    let _ = add(&mut names, alloc, None, "rate");
+    let _ = add(&mut names, alloc, None, "tax");
+    names
 }
 
-fn add(
-    names: &mut Names,
-    alloc: Global,
-    id: Option<&str>,
-    name: &str,
-) -> Result<Result<Text, NameFault>, NoMemory> {
+/// The text, or an empty one where memory runs out.
+fn text(alloc: Global, text: &str) -> Text {
+    Text::of(match String::from_str(alloc, text) {
+        Ok(text) => text,
+        Err(_) => String::new(alloc),
+    })
+}
+
+fn add(names: &mut Names, alloc: Global, id: Option<&str>, name: &str) -> Result<Text, NameFault> {
     let area = Area {
         sheet: 0,
         rows: Band::Span(0, 1),
         cols: Band::Span(0, 1),
     };
     let id = match id {
-        Some(id) => Some(Text::of(String::from_str(alloc, id)?)),
+        Some(id) => Some(text(alloc, id)),
         None => None,
     };
-    let name = Text::of(String::from_str(alloc, name)?);
-    Ok(names.add(id, name, area))
+    names.add(id, text(alloc, name), area)
+}
+
+/// Adds a range, and tells whether that is answered.
+fn is_answered(
+    names: &mut Names,
+    alloc: Global,
+    id: Option<&str>,
+    name: &str,
+    answer: Result<&str, NameFault>,
+) -> bool {
+    match add(names, alloc, id, name) {
+        Ok(id) => answer == Ok(id.as_str()),
+        Err(fault) => answer == Err(fault),
+    }
+}
+
+/// Drops the range with the id, and tells whether it was there and had that name.
+fn is_dropped(names: &mut Names, id: &str, name: &str) -> bool {
+    match names.drop(id) {
+        Ok(range) => range.name.as_str() == name,
+        Err(_) => false,
+    }
 }
 
 /// Whether the ids of the ranges are these.
@@ -213,13 +288,13 @@ fn cols_of(names: &Names, at: u32) -> Option<Band> {
     }
 }
 
-/// Makes a change of a sheet with 26 lines on the axis.
-fn change(rt: &impl Abort, names: &mut Names, sheet: u32, axis: Axis, change: &Change) {
-    if change.fits(26) && are_within(names, sheet, axis, 26) {
-        names.change(sheet, axis, 26, change);
-    } else {
-        assert!(rt; false, "{change:?}");
+/// Makes a change of the columns of a sheet that has 26; false where it can't be made.
+fn change(names: &mut Names, sheet: u32, change: &Change) -> bool {
+    let can_be_made = change.fits(26) && are_within(names, sheet, Axis::Columns, 26);
+    if can_be_made {
+        names.change(sheet, Axis::Columns, 26, change);
     }
+    can_be_made
 }
 
 /// Whether every band on that axis of that sheet is within `count` lines.

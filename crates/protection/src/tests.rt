@@ -6,8 +6,17 @@ use super::*;
 use cell_value::{Duplicate, Items, NoMemory, Text};
 use grid_range::{Area, Axis, Band, Change};
 use std::alloc::Global;
+use std::fmt::Debug;
 use std::process::Abort;
-use std::test::Fail;
+
+// The time in which a test is proved grows faster than its length: a test goes over a table, which is a
+// static so that the test doesn't build it, and what it calls for a row answers without `?`. Where memory
+// runs out an answer is wrong.
+
+/// Stops where it doesn't hold of the row.
+fn check<T: Debug>(rt: &impl Abort, row: &T, holds: bool) {
+    assert!(rt; holds, "{row:?}");
+}
 
 /// A sheet, rows and columns.
 type Place = (u32, Band, Band);
@@ -15,7 +24,7 @@ type Place = (u32, Band, Band);
 const WHOLE: Place = (0, Band::Whole, Band::Whole);
 
 /// What is denied of B2:C3, of which `ann` is an editor: an area, a user and the id.
-const DENIALS: [(Place, &str, Option<u32>); 7] = [
+static DENIALS: [(Place, &str, Option<u32>); 7] = [
     ((0, Band::Span(0, 2), Band::Span(0, 2)), "bob", Some(1)),
     ((0, Band::Whole, Band::From(2)), "bob", Some(1)),
     ((0, Band::Span(0, 1), Band::Span(0, 9)), "bob", None),
@@ -26,34 +35,41 @@ const DENIALS: [(Place, &str, Option<u32>); 7] = [
 ];
 
 #[test]
-fn an_area_is_denied_but_to_editors(rt: HostRuntime) -> Result<(), Fail> {
-    let mut list = Protections::new(rt.alloc());
-    let b2_to_c3 = cells((1, 3), (1, 3));
-    let given = patch(rt.alloc(), b2_to_c3, None, Some(&["ann"]))?;
-    assert_eq!(rt; add(&mut list, None, given), Ok(1));
-    for (place, user, denied) in DENIALS {
-        let asked = area(place);
-        let id = list.first_denial(user, "owner", &asked, 1000, 26);
-        assert_eq!(rt; id, denied, "{asked:?} {user}");
+fn an_area_is_denied_but_to_editors(rt: HostRuntime) {
+    let list = b2_to_c3(rt.alloc());
+    for row in &DENIALS {
+        check(
+            &rt,
+            row,
+            list.first_denial(row.1, "owner", &area(row.0), 1000, 26) == row.2,
+        );
     }
-    let copy = list.duplicate()?;
-    assert_eq!(rt;
-        list.drop("bob", "owner", 1),
-        Err(ProtectionFault::NotEditor)
-    );
-    assert_eq!(rt; list.drop("ann", "owner", 1), Ok(()));
-    assert_eq!(rt; list.drop("ann", "owner", 1), Err(ProtectionFault::NoId));
-    assert_eq!(rt; (list.count(), copy.count()), (0, 1));
-    assert_eq!(rt;
-        copy.first_denial("bob", "owner", &b2_to_c3, 1000, 26),
-        Some(1)
-    );
-    Ok(())
+    check(&rt, &"copy", is_copied(&list));
+}
+
+/// A protection of B2:C3, of which `ann` is an editor.
+fn b2_to_c3(alloc: Global) -> Protections {
+    let mut list = Protections::new(alloc);
+    let given = patch(alloc, cells((1, 3), (1, 3)), None, Some(&["ann"]));
+    let _ = add(&mut list, None, given);
+    list
+}
+
+/// Whether a copy has the protection, and loses it just to an editor.
+fn is_copied(list: &Protections) -> bool {
+    match list.duplicate() {
+        Ok(mut copy) => {
+            copy.drop("bob", "owner", 1) == Err(ProtectionFault::NotEditor)
+                && copy.drop("ann", "owner", 1) == Ok(())
+                && (copy.count(), list.count()) == (0, 1)
+        }
+        Err(NoMemory) => false,
+    }
 }
 
 /// Unprotected ranges of a whole sheet, by the ends of their rows and columns, the rows and columns of
 /// an area, and whether it is denied.
-const RANGES: [(&[Ends], Ends, bool); 9] = [
+static RANGES: [(&[Ends], Ends, bool); 9] = [
     (&[((0, 2), (0, 1))], ((1, 2), (0, 1)), false),
     (&[((0, 2), (0, 1))], ((0, 3), (0, 1)), true),
     // Ranges that cover the area together, and that leave its last cell.
@@ -117,54 +133,115 @@ const RANGES: [(&[Ends], Ends, bool); 9] = [
 type Ends = ((u32, u32), (u32, u32));
 
 #[test]
-fn unprotected_ranges_let_pass_what_they_cover(rt: HostRuntime) -> Result<(), Fail> {
-    for (ranges, (rows, cols), denied) in RANGES {
-        let mut list = Protections::new(rt.alloc());
-        let mut given = patch(rt.alloc(), area(WHOLE), None, None)?;
-        given.unprotected = Some(areas(rt.alloc(), ranges)?);
-        assert_eq!(rt; add(&mut list, None, given), Ok(1));
-        let id = list.first_denial("bob", "owner", &cells(rows, cols), 1000, 26);
-        assert_eq!(rt; id.is_some(), denied, "{ranges:?} {rows:?} {cols:?}");
+fn unprotected_ranges_let_pass_what_they_cover(rt: HostRuntime) {
+    for row in &RANGES {
+        check(&rt, row, is_denied(rt.alloc(), row.0, row.1) == row.2);
     }
-    Ok(())
 }
 
+/// Whether the area is denied by a protection of the whole sheet with these unprotected ranges.
+fn is_denied(alloc: Global, ranges: &[Ends], asked: Ends) -> bool {
+    let mut list = Protections::new(alloc);
+    let given = ProtectionPatch {
+        unprotected: Some(areas(alloc, ranges)),
+        ..patch(alloc, area(WHOLE), None, None)
+    };
+    let _ = add(&mut list, None, given);
+    list.first_denial("bob", "owner", &cells(asked.0, asked.1), 1000, 26)
+        .is_some()
+}
+
+/// Changes of sheets by the sheet, the axis and its lines, one after another; what is then left
+/// unprotected, and how many protections there are.
+static CHANGES: [(u32, Axis, u32, Change, &[Area], u64); 3] = [
+    (
+        1,
+        Axis::Columns,
+        26,
+        Change::Insert { at: 0, count: 1 },
+        &[A1_A2, OTHER_MOVED],
+        2,
+    ),
+    (
+        0,
+        Axis::Rows,
+        1000,
+        Change::Delete { start: 0, end: 2 },
+        &[OTHER_MOVED],
+        2,
+    ),
+    (
+        1,
+        Axis::Columns,
+        27,
+        Change::Delete { start: 3, end: 5 },
+        &[],
+        1,
+    ),
+];
+
+const A1_A2: Area = Area {
+    sheet: 0,
+    rows: Band::Span(0, 2),
+    cols: Band::Span(0, 1),
+};
+
+const OTHER: Area = Area {
+    sheet: 1,
+    rows: Band::From(3),
+    cols: Band::Span(2, 4),
+};
+
+const OTHER_MOVED: Area = Area {
+    sheet: 1,
+    rows: Band::From(3),
+    cols: Band::Span(3, 5),
+};
+
 #[test]
-fn the_ranges_follow_their_sheets(rt: HostRuntime) -> Result<(), Fail> {
-    let mut list = Protections::new(rt.alloc());
-    let other = area((1, Band::From(3), Band::Span(2, 4)));
-    let ranges = Vec::from_slice(rt.alloc(), &[cells((0, 2), (0, 1)), other])?;
-    let mut given = patch(rt.alloc(), area(WHOLE), None, None)?;
-    given.unprotected = Some(Items::of(ranges));
-    assert_eq!(rt; add(&mut list, None, given), Ok(1));
-    let given = patch(
-        rt.alloc(),
-        area((1, Band::Whole, Band::Span(2, 4))),
-        None,
-        None,
-    )?;
-    assert_eq!(rt; add(&mut list, None, given), Ok(2));
-    let inserted = Change::Insert { at: 0, count: 1 };
-    change(&rt, &mut list, 1, Axis::Columns, 26, &inserted);
-    let moved = area((1, Band::From(3), Band::Span(3, 5)));
-    assert_eq!(rt; ranges_of(&list), [cells((0, 2), (0, 1)), moved].as_slice());
-    let deleted = Change::Delete { start: 0, end: 2 };
-    change(&rt, &mut list, 0, Axis::Rows, 1000, &deleted);
-    assert_eq!(rt; ranges_of(&list), [moved].as_slice());
-    let first = cells((0, 1), (0, 1));
-    assert_eq!(rt; list.first_denial("bob", "owner", &first, 998, 26), Some(1));
-    let deleted = Change::Delete { start: 3, end: 5 };
-    change(&rt, &mut list, 1, Axis::Columns, 27, &deleted);
-    assert_eq!(rt; (list.count(), ranges_of(&list).len()), (1, 0));
+fn the_ranges_follow_their_sheets(rt: HostRuntime) {
+    let mut list = one_and_another(rt.alloc());
+    for row in &CHANGES {
+        let changed = change(&mut list, row.0, row.1, row.2, &row.3);
+        check(&rt, row, changed && has_left(&list, row.4, row.5));
+    }
+    let first = list.first_denial("bob", "owner", &cells((0, 1), (0, 1)), 998, 26);
+    check(&rt, &first, first == Some(1));
+    check(&rt, &"sheets", are_lost_with_sheets(&mut list));
+}
+
+/// A protection of the whole of one sheet with ranges on it and on another one, and a protection of
+/// columns of that one.
+fn one_and_another(alloc: Global) -> Protections {
+    let mut list = Protections::new(alloc);
+    let mut ranges = Vec::new(alloc);
+    let _ = ranges.push(A1_A2);
+    let _ = ranges.push(OTHER);
+    let given = ProtectionPatch {
+        unprotected: Some(Items::of(ranges)),
+        ..patch(alloc, area(WHOLE), None, None)
+    };
+    let _ = add(&mut list, None, given);
+    let columns = area((1, Band::Whole, Band::Span(2, 4)));
+    let _ = add(&mut list, None, patch(alloc, columns, None, None));
+    list
+}
+
+/// Whether the first protection leaves these ranges, and there are so many.
+fn has_left(list: &Protections, ranges: &[Area], count: u64) -> bool {
+    ranges_of(list) == ranges && list.count() == count
+}
+
+/// Whether the last protection goes with its sheet, and not with another one.
+fn are_lost_with_sheets(list: &mut Protections) -> bool {
     list.lose_sheet(1);
-    assert_eq!(rt; list.count(), 1);
+    let left = list.count();
     list.lose_sheet(0);
-    assert_eq!(rt; list.count(), 0);
-    Ok(())
+    (left, list.count()) == (1, 0)
 }
 
 /// Ids that are asked for, and what the list answers, one after another.
-const IDS: [(Option<u32>, Result<u32, ProtectionFault>); 5] = [
+static IDS: [(Option<u32>, Result<u32, ProtectionFault>); 5] = [
     (Some(2), Ok(2)),
     (None, Ok(1)),
     (None, Ok(3)),
@@ -173,22 +250,28 @@ const IDS: [(Option<u32>, Result<u32, ProtectionFault>); 5] = [
 ];
 
 #[test]
-fn the_least_unused_id_is_given(rt: HostRuntime) -> Result<(), Fail> {
+fn the_least_unused_id_is_given(rt: HostRuntime) {
     let mut list = Protections::new(rt.alloc());
-    for (id, answer) in IDS {
-        let given = patch(rt.alloc(), cells((0, 1), (0, 1)), None, None)?;
-        assert_eq!(rt; add(&mut list, id, given), answer, "{id:?}");
+    for row in &IDS {
+        let given = patch(rt.alloc(), area(CELL), None, None);
+        check(&rt, row, add(&mut list, row.0, given) == row.1);
     }
     for at in 0..4u32 {
-        assert_eq!(rt; list.list(at).map(|one| one.id), Some(at));
+        check(&rt, &at, id_at(&list, at) == Some(at));
     }
-    Ok(())
+}
+
+fn id_at(list: &Protections, at: u32) -> Option<u32> {
+    match list.list(at) {
+        Some(one) => Some(one.id),
+        None => None,
+    }
 }
 
 /// The area, the mark, whether a range is unprotected and the editors that an update gives, who makes
 /// it of which protection, and what is answered or kept: the editors and the number of ranges.
 /// Protection 1 is of the whole sheet with a range and the editor `ann`, 2 is a warning, 3 a cell.
-const UPDATES: [(
+static UPDATES: [(
     Given,
     (&str, u32),
     Result<(&[&str], usize), ProtectionFault>,
@@ -252,39 +335,53 @@ type Given<'a> = (Option<Place>, Option<bool>, bool, Option<&'a [&'a str]>);
 const CELL: Place = (0, Band::Span(0, 1), Band::Span(0, 1));
 
 #[test]
-fn updates_keep_who_asked(rt: HostRuntime) -> Result<(), Fail> {
-    for ((place, warning_only, opens, editors), (user, id), answer) in UPDATES {
-        let mut list = three(rt.alloc())?;
-        let mut given = patch(rt.alloc(), area(WHOLE), warning_only, editors)?;
-        given.area = place.map(area);
-        if opens {
-            given.unprotected = Some(areas(rt.alloc(), &[((0, 2), (0, 1))])?);
-        }
-        match (list.update(user, "owner", id, given), answer) {
-            (Ok(()), Ok(kept)) => {
-                let one = list.list(id.saturating_sub(1));
-                assert!(rt; one.is_some_and(|one| has(one, kept)), "{user} {id}");
-            }
-            (Err(fault), Err(expected)) => assert_eq!(rt; fault, expected),
-            _ => assert!(rt; false, "{user} {id}"),
-        }
+fn updates_keep_who_asked(rt: HostRuntime) {
+    for row in &UPDATES {
+        check(&rt, row, is_answered(rt.alloc(), row.0, row.1, row.2));
     }
-    Ok(())
+}
+
+/// Whether the update of one of the three protections is answered so, and keeps that.
+fn is_answered(
+    alloc: Global,
+    (place, warning_only, opens, editors): Given,
+    (user, id): (&str, u32),
+    answer: Result<(&[&str], usize), ProtectionFault>,
+) -> bool {
+    let mut list = three(alloc);
+    let given = ProtectionPatch {
+        area: place.map(area),
+        unprotected: first_cells(alloc, opens),
+        ..patch(alloc, area(WHOLE), warning_only, editors)
+    };
+    match (list.update(user, "owner", id, given), answer) {
+        (Ok(()), Ok(kept)) => has(&list, id.saturating_sub(1), kept),
+        (Err(fault), Err(expected)) => fault == expected,
+        _ => false,
+    }
+}
+
+/// A1:A2 as unprotected ranges, if they are given.
+fn first_cells(alloc: Global, given: bool) -> Option<Items<Area>> {
+    if given {
+        Some(areas(alloc, &[((0, 2), (0, 1))]))
+    } else {
+        None
+    }
 }
 
 /// A protection of the whole sheet with a range and an editor, a warning, and a protected cell.
-fn three(alloc: Global) -> Result<Protections, NoMemory> {
+fn three(alloc: Global) -> Protections {
     let mut list = Protections::new(alloc);
-    let mut whole = patch(alloc, area(WHOLE), None, Some(&["ann"]))?;
-    whole.unprotected = Some(areas(alloc, &[((0, 2), (0, 1))])?);
+    let whole = ProtectionPatch {
+        unprotected: first_cells(alloc, true),
+        ..patch(alloc, area(WHOLE), None, Some(&["ann"]))
+    };
     let _ = add(&mut list, None, whole);
-    let _ = add(
-        &mut list,
-        None,
-        patch(alloc, area(CELL), Some(true), Some(&["bob"]))?,
-    );
-    let _ = add(&mut list, None, patch(alloc, area(CELL), None, None)?);
-    Ok(list)
+    let warning = patch(alloc, area(CELL), Some(true), Some(&["bob"]));
+    let _ = add(&mut list, None, warning);
+    let _ = add(&mut list, None, patch(alloc, area(CELL), None, None));
+    list
 }
 
 /// The cells in some rows and columns of the first sheet.
@@ -300,12 +397,12 @@ fn area(place: Place) -> Area {
     }
 }
 
-fn areas(alloc: Global, ends: &[Ends]) -> Result<Items<Area>, NoMemory> {
+fn areas(alloc: Global, ends: &[Ends]) -> Items<Area> {
     let mut areas = Vec::new(alloc);
     for (rows, cols) in ends {
-        areas.push(cells(*rows, *cols))?;
+        let _ = areas.push(cells(*rows, *cols));
     }
-    Ok(Items::of(areas))
+    Items::of(areas)
 }
 
 /// Adds a protection for the owner.
@@ -326,26 +423,33 @@ fn patch(
     area: Area,
     warning_only: Option<bool>,
     editors: Option<&[&str]>,
-) -> Result<ProtectionPatch, NoMemory> {
-    let editors = match editors {
-        Some(names) => Some(texts(alloc, names)?),
-        None => None,
-    };
-    Ok(ProtectionPatch {
+) -> ProtectionPatch {
+    ProtectionPatch {
         area: Some(area),
         description: None,
         warning_only,
         unprotected: None,
-        editors,
-    })
+        editors: match editors {
+            Some(names) => Some(texts(alloc, names)),
+            None => None,
+        },
+    }
 }
 
-fn texts(alloc: Global, names: &[&str]) -> Result<Items<Text>, NoMemory> {
+fn texts(alloc: Global, names: &[&str]) -> Items<Text> {
     let mut texts = Vec::new(alloc);
     for name in names {
-        texts.push(Text::of(String::from_str(alloc, name)?))?;
+        let _ = texts.push(text(alloc, name));
     }
-    Ok(Items::of(texts))
+    Items::of(texts)
+}
+
+/// The text, or an empty one where memory runs out.
+fn text(alloc: Global, text: &str) -> Text {
+    Text::of(match String::from_str(alloc, text) {
+        Ok(text) => text,
+        Err(_) => String::new(alloc),
+    })
 }
 
 fn ranges_of(list: &Protections) -> &[Area] {
@@ -355,29 +459,31 @@ fn ranges_of(list: &Protections) -> &[Area] {
     }
 }
 
-/// Whether a protection has these editors and so many unprotected ranges.
-fn has(one: &Protection, kept: (&[&str], usize)) -> bool {
-    let editors = one.editors.as_slice();
-    let mut same = editors.len() == kept.0.len() && one.unprotected.as_slice().len() == kept.1;
-    for (editor, name) in editors.iter().zip(kept.0) {
-        same = same && editor.as_str() == *name;
+/// Whether the protection at the place has these editors and so many unprotected ranges.
+fn has(list: &Protections, at: u32, (editors, ranges): (&[&str], usize)) -> bool {
+    match list.list(at) {
+        Some(one) => {
+            are(one.editors.as_slice(), editors) && one.unprotected.as_slice().len() == ranges
+        }
+        None => false,
     }
-    same
 }
 
-fn change(
-    rt: &impl Abort,
-    list: &mut Protections,
-    sheet: u32,
-    axis: Axis,
-    count: u32,
-    change: &Change,
-) {
-    if change.fits(count) && are_within(list, sheet, axis, count) {
+fn are(texts: &[Text], expected: &[&str]) -> bool {
+    texts.len() == expected.len()
+        && texts
+            .iter()
+            .zip(expected)
+            .all(|(text, expected)| text.as_str() == *expected)
+}
+
+/// Makes a change of a sheet with so many lines on the axis; false where it can't be made.
+fn change(list: &mut Protections, sheet: u32, axis: Axis, count: u32, change: &Change) -> bool {
+    let can_be_made = change.fits(count) && are_within(list, sheet, axis, count);
+    if can_be_made {
         list.change(sheet, axis, count, change);
-    } else {
-        assert!(rt; false, "{change:?}");
     }
+    can_be_made
 }
 
 /// Whether every band on that axis of that sheet is within `count` lines.

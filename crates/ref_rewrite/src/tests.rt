@@ -1,315 +1,189 @@
-ghost use Rattle.std.specs.Prelude.{◌≡◌, IsTrue, All};
-ghost use Rattle.grid_range.specs.Area.{band_on};
-ghost use Rattle.grid_range.specs.Band.{Within};
-ghost use Rattle.ref_rewrite.specs.Following.{IsPieceWithinOn};
+ghost use Rattle.std.specs.Prelude.{◌≡◌};
 
 use super::*;
 use cell_value::{Duplicate, Items, NoMemory, Text};
+use grid_range::Axis::{Columns, Rows};
+use grid_range::Band::Span;
+use grid_range::Change::{Delete, Insert, Move};
 use grid_range::{Area, Axis, Band, Change};
 use std::alloc::Global;
-use std::process::Abort;
 use std::test::Fail;
 
-/// A piece, as tables have it.
-#[derive(Clone, Copy, Debug)]
-enum Shape {
-    Text(&'static str),
-    Word(&'static str),
-    Ref(Ref),
-    Lost,
-}
-
-/// The marks of `A$1:$B5`.
-const MARKED: Marks = Marks {
-    row1: true,
-    col1: false,
-    row2: false,
-    col2: true,
+/// `A$1:$B5` of the sheet 7: rows 1 to 5 of 1,000, and the columns B and C of 26.
+const REFERENCE: Ref = Ref {
+    named: true,
+    area: Area {
+        sheet: 7,
+        rows: Span(0, 5),
+        cols: Span(1, 3),
+    },
+    marks: Marks {
+        row1: true,
+        col1: false,
+        row2: false,
+        col2: true,
+    },
 };
 
-/// Rows 1 to 5.
-const FIRST: Option<Band> = Some(Band::Span(0, 5));
-
-/// Columns B and C.
-const SECOND: Option<Band> = Some(Band::Span(1, 3));
-
-/// `=SUM( A$1:$B5 )+Rate*Other!B4:C+#REF!`, where these are the rows of the first reference and the
-/// columns of the second one, or they are lost.
-fn formula_with(first: Option<Band>, second: Option<Band>) -> [Shape; 8] {
-    [
-        Shape::Text("=SUM( "),
-        reference(0, first, Some(Band::Span(0, 2))),
-        Shape::Text(" )+"),
-        Shape::Word("Rate"),
-        Shape::Text("*"),
-        reference(7, Some(Band::From(3)), second),
-        Shape::Text("+"),
-        Shape::Lost,
+/// What a change makes of its rows or of its columns.
+fn followed() -> &'static [(Axis, Change, Option<Band>)] {
+    &[
+        (Rows, Insert { at: 2, count: 1 }, Some(Span(0, 6))),
+        (Rows, Insert { at: 0, count: 1 }, Some(Span(1, 6))),
+        (Rows, Insert { at: 5, count: 1 }, Some(Span(0, 5))),
+        (Rows, Delete { start: 0, end: 2 }, Some(Span(0, 3))),
+        (Rows, Delete { start: 0, end: 5 }, None),
+        (
+            Rows,
+            Delete {
+                start: 5,
+                end: 1_000,
+            },
+            Some(Span(0, 5)),
+        ),
+        (
+            Rows,
+            Move {
+                start: 0,
+                end: 1,
+                to: 10,
+            },
+            Some(Span(0, 4)),
+        ),
+        (
+            Rows,
+            Move {
+                start: 2,
+                end: 3,
+                to: 0,
+            },
+            Some(Span(0, 5)),
+        ),
+        (
+            Rows,
+            Move {
+                start: 7,
+                end: 8,
+                to: 2,
+            },
+            Some(Span(0, 6)),
+        ),
+        (
+            Rows,
+            Move {
+                start: 0,
+                end: 5,
+                to: 12,
+            },
+            Some(Span(7, 12)),
+        ),
+        (
+            Rows,
+            Move {
+                start: 1,
+                end: 3,
+                to: 2,
+            },
+            Some(Span(0, 5)),
+        ),
+        (Columns, Insert { at: 2, count: 3 }, Some(Span(1, 6))),
+        (Columns, Delete { start: 2, end: 26 }, Some(Span(1, 2))),
+        (Columns, Delete { start: 1, end: 3 }, None),
+        (
+            Columns,
+            Move {
+                start: 1,
+                end: 2,
+                to: 26,
+            },
+            Some(Span(1, 2)),
+        ),
     ]
 }
 
-/// A reference to the sheet, or a lost one; the title of sheet 0 isn't written.
-fn reference(sheet: u32, rows: Option<Band>, cols: Option<Band>) -> Shape {
-    match (rows, cols) {
-        (Some(rows), Some(cols)) => Shape::Ref(Ref {
-            named: sheet != 0,
-            area: Area { sheet, rows, cols },
-            marks: MARKED,
-        }),
-        _ => Shape::Lost,
-    }
+/// A word, the old name and the new one, and the word then. Letters past ASCII have no other case.
+fn renamed() -> &'static [(&'static str, &'static str, &'static str, &'static str)] {
+    &[
+        ("Rate", "rATE", "Tax_1", "Tax_1"),
+        ("Rate", "Rate", "", ""),
+        ("Rate", "rate", "rate", "rate"),
+        ("Rate2", "Rate", "Tax", "Rate2"),
+        ("Rat", "Rate", "Tax", "Rat"),
+        ("Prämie", "PRÄMIE", "Tax", "Prämie"),
+        ("Prämie", "PRäMIE", "Tax", "Tax"),
+    ]
 }
 
-/// What rows 1 to 5 of 1000 become.
-const ROWS: [(Change, Option<Band>); 11] = [
-    (Change::Insert { at: 2, count: 1 }, Some(Band::Span(0, 6))),
-    (Change::Insert { at: 0, count: 1 }, Some(Band::Span(1, 6))),
-    (Change::Insert { at: 5, count: 1 }, Some(Band::Span(0, 5))),
-    (Change::Delete { start: 0, end: 2 }, Some(Band::Span(0, 3))),
-    (Change::Delete { start: 0, end: 5 }, None),
-    (
-        Change::Delete {
-            start: 5,
-            end: 1000,
-        },
-        Some(Band::Span(0, 5)),
-    ),
-    (
-        Change::Move {
-            start: 0,
-            end: 1,
-            to: 10,
-        },
-        Some(Band::Span(0, 4)),
-    ),
-    (
-        Change::Move {
-            start: 2,
-            end: 3,
-            to: 0,
-        },
-        Some(Band::Span(0, 5)),
-    ),
-    (
-        Change::Move {
-            start: 7,
-            end: 8,
-            to: 2,
-        },
-        Some(Band::Span(0, 6)),
-    ),
-    (
-        Change::Move {
-            start: 0,
-            end: 5,
-            to: 12,
-        },
-        Some(Band::Span(7, 12)),
-    ),
-    (
-        Change::Move {
-            start: 1,
-            end: 3,
-            to: 2,
-        },
-        Some(Band::Span(0, 5)),
-    ),
-];
-
-/// What the columns B and C of 26 become.
-const COLUMNS: [(Change, Option<Band>); 4] = [
-    (Change::Insert { at: 2, count: 3 }, Some(Band::Span(1, 6))),
-    (Change::Delete { start: 2, end: 26 }, Some(Band::Span(1, 2))),
-    (Change::Delete { start: 1, end: 3 }, None),
-    (
-        Change::Move {
-            start: 1,
-            end: 2,
-            to: 26,
-        },
-        Some(Band::Span(1, 2)),
-    ),
-];
-
 #[test]
-fn references_follow_the_lines_of_their_sheet(rt: HostRuntime) -> Result<(), Fail> {
-    let alloc = rt.alloc();
-    for (change, band) in ROWS {
-        let mut formula = made(alloc, &formula_with(FIRST, SECOND))?;
-        follow_checked(&rt, alloc, &mut formula, 0, Axis::Rows, 1000, &change);
+fn references_follow_and_words_are_renamed(rt: HostRuntime) -> Result<(), Fail> {
+    for (axis, change, lines) in followed() {
+        assert_eq!(rt; lines_after(rt.alloc(), *axis, change)?, *lines);
+    }
+    for &(word, old, new, wanted) in renamed() {
         assert!(rt;
-            is_same(&formula, &formula_with(band, SECOND)),
-            "{change:?}"
+            is_renamed(rt.alloc(), word, old, new, wanted)?,
+            "{word} {old}"
         );
     }
-    for (change, band) in COLUMNS {
-        let mut formula = made(alloc, &formula_with(FIRST, SECOND))?;
-        follow_checked(&rt, alloc, &mut formula, 7, Axis::Columns, 26, &change);
-        assert!(rt; is_same(&formula, &formula_with(FIRST, band)), "{change:?}");
-    }
+    assert!(rt; is_lost_with_its_sheet(rt.alloc())?);
+    assert!(rt; is_copied(rt.alloc())?);
     Ok(())
 }
 
-#[test]
-fn lost_references_are_lost_for_good(rt: HostRuntime) -> Result<(), Fail> {
-    let alloc = rt.alloc();
-    let mut formula = made(alloc, &formula_with(FIRST, SECOND))?;
-    let delete = Change::Delete { start: 0, end: 5 };
-    follow_checked(&rt, alloc, &mut formula, 0, Axis::Rows, 1000, &delete);
-    let insert = Change::Insert { at: 0, count: 5 };
-    follow_checked(&rt, alloc, &mut formula, 0, Axis::Rows, 995, &insert);
-    assert!(rt; is_same(&formula, &formula_with(None, SECOND)));
-    lose_sheet(&mut formula, 1);
-    assert!(rt; is_same(&formula, &formula_with(None, SECOND)));
-    lose_sheet(&mut formula, 7);
-    assert!(rt; is_same(&formula, &formula_with(None, None)));
-    Ok(())
-}
-
-/// A piece, the old word and the new one, and the piece then.
-const WORDS: [(Shape, &str, &str, Shape); 9] = [
-    (Shape::Word("Rate"), "rATE", "Tax_1", Shape::Word("Tax_1")),
-    (Shape::Word("Rate"), "Rate", "", Shape::Word("")),
-    (Shape::Word("Rate"), "rate", "rate", Shape::Word("rate")),
-    (Shape::Word("Rate2"), "Rate", "Tax", Shape::Word("Rate2")),
-    (Shape::Word("Rat"), "Rate", "Tax", Shape::Word("Rat")),
-    // Letters past ASCII have no other case.
-    (
-        Shape::Word("Prämie"),
-        "PRÄMIE",
-        "Tax",
-        Shape::Word("Prämie"),
-    ),
-    (Shape::Word("Prämie"), "PRäMIE", "Tax", Shape::Word("Tax")),
-    // A text, and the name of a function.
-    (
-        Shape::Text("\"Rate\""),
-        "Rate",
-        "Tax",
-        Shape::Text("\"Rate\""),
-    ),
-    (Shape::Text("Rate"), "Rate", "Tax", Shape::Text("Rate")),
-];
-
-#[test]
-fn words_get_another_name(rt: HostRuntime) -> Result<(), Fail> {
-    let whole = reference(0, Some(Band::Whole), Some(Band::Whole));
-    for (before, old, new, after) in WORDS {
-        let mut formula = made(rt.alloc(), &[before, whole, before, Shape::Lost])?;
-        rename_word(rt.alloc(), &mut formula, old, new)?;
-        assert!(rt;
-            is_same(&formula, &[after, whole, after, Shape::Lost]),
-            "{before:?} {old}"
-        );
+/// What a change makes of the reference's lines; None where it is lost, as the one behind it stays.
+fn lines_after(alloc: Global, axis: Axis, change: &Change) -> Result<Option<Band>, NoMemory> {
+    let mut formula = formula_of(vec![in alloc; Piece::Ref(REFERENCE), Piece::Lost]?);
+    match axis {
+        Rows if change.fits(1_000) => follow(&mut formula, 7, Rows, 1_000, change),
+        Columns if change.fits(26) => follow(&mut formula, 7, Columns, 26, change),
+        _ => {}
     }
-    Ok(())
-}
-
-#[test]
-fn copies_equal_their_sources(rt: HostRuntime) -> Result<(), Fail> {
-    let shapes = formula_with(FIRST, SECOND);
-    let formula = made(rt.alloc(), &shapes)?;
-    assert!(rt; is_same(&formula.duplicate()?, &shapes));
-    for shape in shapes {
-        if let Shape::Ref(reference) = shape {
-            assert_eq!(rt; reference.duplicate()?, reference);
-            assert_eq!(rt; reference.marks.duplicate()?, MARKED);
-        }
-    }
-    let text = Text::of(String::from_str(rt.alloc(), "x")?);
-    assert_eq!(rt; word_for(&Content::Number(-7).duplicate()?), "number");
-    assert_eq!(rt; word_for(&Content::Text(text).duplicate()?), "text");
-    assert_eq!(rt; word_for(&Content::Truth(true).duplicate()?), "truth");
-    assert_eq!(rt;
-        word_for(&Content::Formula(formula).duplicate()?),
-        "formula"
-    );
-    Ok(())
-}
-
-/// Which of the contents above it is.
-fn word_for(content: &Content) -> &'static str {
-    match content {
-        Content::Number(-7) => "number",
-        Content::Text(text) if text.as_str() == "x" => "text",
-        Content::Truth(true) => "truth",
-        Content::Formula(formula) if is_same(formula, &formula_with(FIRST, SECOND)) => "formula",
-        _ => "another",
-    }
-}
-
-fn made(alloc: Global, shapes: &[Shape]) -> Result<Formula, NoMemory> {
-    let mut pieces = Vec::new(alloc);
-    for shape in shapes {
-        pieces.push(match shape {
-            Shape::Text(text) => Piece::Text(Text::of(String::from_str(alloc, text)?)),
-            Shape::Word(word) => Piece::Word(Text::of(String::from_str(alloc, word)?)),
-            Shape::Ref(reference) => Piece::Ref(*reference),
-            Shape::Lost => Piece::Lost,
-        })?;
-    }
-    Ok(Formula {
-        pieces: Items::of(pieces),
+    Ok(match (formula.pieces.as_slice(), axis) {
+        ([Piece::Ref(reference), Piece::Lost], Rows) => Some(reference.area.rows),
+        ([Piece::Ref(reference), Piece::Lost], Columns) => Some(reference.area.cols),
+        ([Piece::Lost, Piece::Lost], _) => None,
+        _ => Some(Band::Whole),
     })
 }
 
-fn is_same(formula: &Formula, shapes: &[Shape]) -> bool {
-    let pieces = formula.pieces.as_slice();
-    pieces.len() == shapes.len()
-        && pieces
-            .iter()
-            .zip(shapes.iter())
-            .all(|(piece, shape)| is_like(piece, shape))
-}
-
-fn is_like(piece: &Piece, shape: &Shape) -> bool {
-    match (piece, shape) {
-        (Piece::Text(text), Shape::Text(other)) => text.as_str() == *other,
-        (Piece::Word(word), Shape::Word(other)) => word.as_str() == *other,
-        (Piece::Ref(reference), Shape::Ref(other)) => *reference == *other,
-        (Piece::Lost, Shape::Lost) => true,
-        _ => false,
-    }
-}
-
-/// Follows a change that can be made.
-fn follow_checked(
-    rt: &impl Abort,
+/// Whether the word is the wanted one once it is renamed, and a text of it stays.
+fn is_renamed(
     alloc: Global,
-    formula: &mut Formula,
-    sheet: u32,
-    axis: Axis,
-    count: u32,
-    change: &Change,
-) {
-    if change.fits(count) && are_within(formula.pieces.as_slice(), sheet, axis, count) {
-        follow(formula, sheet, axis, count, change);
-    } else {
-        assert!(rt; false, "{change:?}");
-    }
+    word: &str,
+    old: &str,
+    new: &str,
+    wanted: &str,
+) -> Result<bool, NoMemory> {
+    let own = Text::of(String::from_str(alloc, word)?);
+    let text = Text::of(String::from_str(alloc, word)?);
+    let mut formula = formula_of(vec![in alloc; Piece::Word(own), Piece::Text(text)]?);
+    rename_word(alloc, &mut formula, old, new)?;
+    Ok(match formula.pieces.as_slice() {
+        [Piece::Word(own), Piece::Text(text)] => own.as_str() == wanted && text.as_str() == word,
+        _ => false,
+    })
 }
 
-/// Whether each reference to the sheet is within `count` lines.
-fn are_within(pieces: &[Piece], sheet: u32, axis: Axis, count: u32) -> bool
-    ensures { IsTrue result → All (IsPieceWithinOn sheet axis count) pieces.now }
-{
-    for piece in pieces {
-        if !is_within(piece, sheet, axis, count) {
-            return false;
-        }
-    }
-    true
+/// Whether the reference is lost where its sheet is.
+fn is_lost_with_its_sheet(alloc: Global) -> Result<bool, NoMemory> {
+    let mut formula = formula_of(vec![in alloc; Piece::Ref(REFERENCE)]?);
+    lose_sheet(&mut formula, 7);
+    Ok(matches!(formula.pieces.as_slice(), [Piece::Lost]))
 }
 
-fn is_within(piece: &Piece, sheet: u32, axis: Axis, count: u32) -> bool
-    ensures { IsTrue result → IsPieceWithinOn sheet axis count piece.now }
+/// Whether a formula in a cell has a copy.
+fn is_copied(alloc: Global) -> Result<bool, NoMemory> {
+    let content = Content::Formula(formula_of(vec![in alloc; Piece::Ref(REFERENCE)]?));
+    Ok(match content.duplicate()? {
+        Content::Formula(copy) => matches!(copy.pieces.as_slice(), [Piece::Ref(_)]),
+        _ => false,
+    })
+}
+
+fn formula_of(pieces: Vec<Piece>) -> Formula
+    ensures { result.pieces ≡ pieces.items }
 {
-    let Piece::Ref(reference) = piece else {
-        return true;
-    };
-    let band = match axis {
-        Axis::Rows => reference.area.rows,
-        Axis::Columns => reference.area.cols,
-    };
-    reference.area.sheet != sheet || band.within(count)
+    Formula {
+        pieces: Items::of(pieces),
+    }
 }

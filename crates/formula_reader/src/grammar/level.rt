@@ -8,7 +8,7 @@ use crate::tokens::Operator;
 
 /// A level of the grammar of formulas, the loosest first: an operand of a level's operators is of
 /// the next level.
-#[derive(Clone, Copy, Debug, PartialEq, Eq)]
+#[derive(Clone, Copy, PartialEq, Eq)]
 pub(super) enum Level {
     /// Operands of `=`, `<>`, `<`, `<=`, `>` and `>=`.
     Comparison,

@@ -1,13 +1,41 @@
-ghost use Rattle.std.specs.Prelude.{◌≡◌};
+ghost use Rattle.std.specs.Prelude.{◌≡◌, IsTrue};
+ghost use Rattle.formula_reader.specs.ReadBack.{AreKnown};
+ghost use Rattle.formula_reader.specs.Workbook.{sheets_of};
 
 use crate::SheetNames;
-use cell_value::Text;
+use cell_value::{NoMemory, Text};
+use std::alloc::Global;
 
 /// A spreadsheet of two sheets of 1,000 rows and 26 columns, with the ids 0 and 7.
 #[derive(Drop)]
-pub(super) struct Workbook {
-    pub(super) first: Text,
-    pub(super) second: Text,
+pub(crate) struct Workbook {
+    first: Text,
+    second: Text,
+}
+
+impl Workbook {
+    /// The sheets `Sheet1` and `Jon's data`.
+    pub(crate) fn of_two(alloc: Global) -> Result<Workbook, NoMemory> {
+        Ok(Workbook {
+            first: Text::of(String::from_str(alloc, "Sheet1")?),
+            second: Text::of(String::from_str(alloc, "Jon's data")?),
+        })
+    }
+
+    /// Whether both sheets have titles, which name them.
+    pub(crate) fn is_known(&self) -> bool
+        ensures { IsTrue result → AreKnown (sheets_of self.now.first self.now.second) 0 }
+    {
+        let first = self.first.as_str();
+        if first.is_empty() {
+            return false;
+        }
+        let second = self.second.as_str();
+        if second.is_empty() {
+            return false;
+        }
+        !first.eq_ignore_ascii_case(second)
+    }
 }
 
 impl SheetNames for Workbook {

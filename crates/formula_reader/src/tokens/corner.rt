@@ -8,7 +8,7 @@ ghost use Rattle.formula_reader.specs.Reading.{Reads, seen};
 use a1_notation::{Class, read_column, read_row};
 
 /// A column or a row as it is written, behind a `$` or without one.
-#[derive(Clone, Copy, Debug, PartialEq, Eq)]
+#[derive(Clone, Copy)]
 pub(crate) struct Coordinate {
     /// The column or the row, counted from 0.
     pub(crate) line: u32,
@@ -17,7 +17,7 @@ pub(crate) struct Coordinate {
 }
 
 /// What stands before or behind the colon of a reference, or alone.
-#[derive(Clone, Copy, Debug, PartialEq, Eq)]
+#[derive(Clone, Copy)]
 pub(crate) enum MarkedCorner {
     /// A row and a column.
     Cell(Coordinate, Coordinate),

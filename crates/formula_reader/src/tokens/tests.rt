@@ -1,379 +1,209 @@
 use super::*;
-use grid_range::Band;
-use grid_range::Band::{From, Span, Whole};
-use ref_rewrite::Marks;
 use std::alloc::Global;
-use std::process::Abort;
 use std::test::Fail;
 
-/// A token with its texts lent.
-#[derive(Clone, Copy, Debug, PartialEq, Eq)]
-enum Lent<'a> {
-    Reference(MarkedArea),
-    Elsewhere(&'a str, MarkedArea),
-    Function(&'a str),
-    Word(&'a str),
-    Truth(bool),
-    Number(i64),
-    Text(&'a str),
-    Lost,
-    Operator(Operator),
-    Open,
-    Close,
-    Comma,
+/// A text, its first token, where that ends, and how many tokens there are. A `$` stands before the rows
+/// or the columns of a reference if the first line is marked, and behind them if the last one is.
+fn tokens() -> &'static [(&'static str, &'static str, usize, usize)] {
+    &[
+        // Areas, and their marks.
+        ("A1", "Span(0, 1), Span(0, 1)", 2, 1),
+        (
+            "zzz9999999",
+            "Span(9999998, 9999999), Span(18277, 18278)",
+            10,
+            1,
+        ),
+        ("A1:B2", "Span(0, 2), Span(0, 2)", 5, 1),
+        ("B2:A1", "Span(0, 2), Span(0, 2)", 5, 1),
+        ("A:B", "Whole, Span(0, 2)", 3, 1),
+        ("5:7", "Span(4, 7), Whole", 3, 1),
+        ("A5:B", "From(4), Span(0, 2)", 4, 1),
+        ("A1:B ", "From(0), Span(0, 2)", 4, 1),
+        ("A1+B2", "Span(0, 1), Span(0, 1)", 2, 3),
+        ("A1é", "Span(0, 1), Span(0, 1)", 2, 2),
+        ("$A$1", "$Span(0, 1), $Span(0, 1)", 4, 1),
+        ("A$1", "$Span(0, 1), Span(0, 1)", 3, 1),
+        ("$A$1:B2", "$Span(0, 2), $Span(0, 2)", 7, 1),
+        ("B2:$A$1", "$Span(0, 2), $Span(0, 2)", 7, 1),
+        ("A1:B$2", "Span(0, 2)$, Span(0, 2)", 6, 1),
+        ("B$2:A1", "Span(0, 2)$, Span(0, 2)", 6, 1),
+        ("$B1:A2", "Span(0, 2), Span(0, 2)$", 6, 1),
+        ("A1:$A$1", "Span(0, 1)$, Span(0, 1)$", 7, 1),
+        ("$A$1:A1", "$Span(0, 1), $Span(0, 1)", 7, 1),
+        ("$5:$7", "$Span(4, 7)$, Whole", 5, 1),
+        ("7:$5", "$Span(4, 7), Whole", 4, 1),
+        ("B:$A", "Whole, $Span(0, 2)", 4, 1),
+        ("A$5:$B", "$From(4), Span(0, 2)$", 6, 1),
+        // Words.
+        ("A01", "word A01", 3, 1),
+        ("A1.x", "word A1.x", 4, 1),
+        ("A1_", "word A1_", 3, 1),
+        ("AAAA1", "word AAAA1", 5, 1),
+        ("A12345678", "word A12345678", 9, 1),
+        ("A", "word A", 1, 1),
+        ("_a", "word _a", 2, 1),
+        ("é1", "word é1", 3, 1),
+        ("SUM1(", "function SUM1", 4, 2),
+        ("A1(", "function A1", 2, 2),
+        ("TRUE(", "function TRUE", 4, 2),
+        ("SUM (", "word SUM", 3, 2),
+        ("TRUE", "true", 4, 1),
+        ("fAlSe", "false", 5, 1),
+        ("TRUEA", "word TRUEA", 5, 1),
+        // Titles before references.
+        ("x!A1", "x! Span(0, 1), Span(0, 1)", 4, 1),
+        ("A1!A1", "A1! Span(0, 1), Span(0, 1)", 5, 1),
+        ("TRUE!A1", "TRUE! Span(0, 1), Span(0, 1)", 7, 1),
+        ("é.1!A:A", "é.1! Whole, Span(0, 1)", 8, 1),
+        ("'x'!A1", "x! Span(0, 1), Span(0, 1)", 6, 1),
+        ("'Jon''s'!A:A", "Jon's! Whole, Span(0, 1)", 12, 1),
+        ("'a!b'!A1+1", "a!b! Span(0, 1), Span(0, 1)", 8, 3),
+        // Numbers and texts.
+        ("0", "number 0", 1, 1),
+        ("007", "number 7", 3, 1),
+        ("5A", "number 5", 1, 2),
+        ("9007199254740992", "number 9007199254740992", 16, 1),
+        ("\"a\"\"b\"", "text a\"b", 6, 1),
+        ("\"\"", "text ", 2, 1),
+        ("\"A1'!\"", "text A1'!", 6, 1),
+        // Signs.
+        ("#REF!", "lost", 5, 1),
+        ("#REF!A1", "lost", 5, 2),
+        ("<>", "NotEqual", 2, 1),
+        ("< >", "Less", 1, 2),
+        ("<=", "AtMost", 2, 1),
+        (">=", "AtLeast", 2, 1),
+        ("=<", "Equal", 1, 2),
+        (">", "Greater", 1, 1),
+        ("><", "Greater", 1, 2),
+        ("<<=", "Less", 1, 2),
+        ("+", "Add", 1, 1),
+        ("-1", "Subtract", 1, 2),
+        ("**", "Multiply", 1, 2),
+        ("/", "Divide", 1, 1),
+        ("&", "Join", 1, 1),
+        ("(", "open", 1, 1),
+        (")", "close", 1, 1),
+        (",", "comma", 1, 1),
+        // Blanks alone.
+        ("", "no token", 0, 0),
+        (" ", "no token", 0, 0),
+        ("\t\n ", "no token", 0, 0),
+        // Nothing fits at some place.
+        ("\r", "nothing fits", 0, 0),
+        ("1 \r", "nothing fits", 0, 0),
+        ("A:5", "nothing fits", 0, 0),
+        ("05:7", "nothing fits", 0, 0),
+        ("5:7A", "nothing fits", 0, 0),
+        ("B:A5", "nothing fits", 0, 0),
+        ("A1:B2x", "nothing fits", 0, 0),
+        ("A1:B$", "nothing fits", 0, 0),
+        ("A$", "nothing fits", 0, 0),
+        ("$A", "nothing fits", 0, 0),
+        ("$A$1!", "nothing fits", 0, 0),
+        ("1.5", "nothing fits", 0, 0),
+        ("9007199254740993", "nothing fits", 0, 0),
+        ("99999999999999999999", "nothing fits", 0, 0),
+        ("\"a", "nothing fits", 0, 0),
+        ("\"a\"\"", "nothing fits", 0, 0),
+        ("'x'", "nothing fits", 0, 0),
+        ("'x", "nothing fits", 0, 0),
+        ("''!A1", "nothing fits", 0, 0),
+        ("'x'!A01", "nothing fits", 0, 0),
+        ("x!A01", "nothing fits", 0, 0),
+        ("x!", "nothing fits", 0, 0),
+        ("#REF", "nothing fits", 0, 0),
+        ("{", "nothing fits", 0, 0),
+    ]
 }
 
-fn lend(token: &Token) -> Lent<'_> {
-    match token {
-        Token::Reference(written) => Lent::Reference(*written),
-        Token::Elsewhere(title, written) => Lent::Elsewhere(title.as_str(), *written),
-        Token::Function(name) => Lent::Function(name.as_str()),
-        Token::Word(word) => Lent::Word(word.as_str()),
-        Token::Truth(truth) => Lent::Truth(*truth),
-        Token::Number(number) => Lent::Number(*number),
-        Token::Text(text) => Lent::Text(text.as_str()),
-        Token::Lost => Lent::Lost,
-        Token::Operator(operator) => Lent::Operator(*operator),
-        Token::Open => Lent::Open,
-        Token::Close => Lent::Close,
-        Token::Comma => Lent::Comma,
+/// A text, and where its tokens begin and end.
+const PLACES: (&str, &str) = (" SUM( A1 ,\t\né) ", "1-4 4-5 6-8 9-10 12-14 14-15 ");
+
+#[test]
+fn texts_have_their_tokens(rt: HostRuntime) -> Result<(), Fail> {
+    for &(text, first, end, count) in tokens() {
+        assert!(rt; begins_with(rt.alloc(), text, first, end, count)?, "{text}");
     }
+    assert!(rt; has_places(rt.alloc(), PLACES.0, PLACES.1)?);
+    Ok(())
 }
 
-/// Whether `$` stands before the first row, the first column, the second row and the second column.
-fn marked(row1: bool, col1: bool, row2: bool, col2: bool) -> Marks {
-    Marks {
-        row1,
-        col1,
-        row2,
-        col2,
-    }
-}
-
-fn written(rows: Band, cols: Band, marks: Marks) -> MarkedArea {
-    MarkedArea { rows, cols, marks }
-}
-
-/// The reference to an area without a `$`.
-fn plain(rows: Band, cols: Band) -> Lent<'static> {
-    Lent::Reference(written(rows, cols, marked(false, false, false, false)))
-}
-
-/// The first token, where it ends, and how many there are.
-#[derive(Clone, Copy, Debug)]
-struct Row {
-    text: &'static str,
-    token: Lent<'static>,
+/// Whether a text has so many tokens, and at its front the first one.
+fn begins_with(
+    alloc: Global,
+    text: &str,
+    first: &str,
     end: usize,
     count: usize,
-}
-
-fn first(text: &'static str, token: Lent<'static>, end: usize, count: usize) -> Row {
-    Row {
-        text,
-        token,
-        end,
-        count,
-    }
-}
-
-fn reads_first(alloc: Global, rt: &impl Abort, row: &Row) -> Result<(), Fail> {
-    let tokens = tokens_of(alloc, row.text)?;
-    let Some(tokens) = &tokens else {
-        assert!(rt; false, "nothing fits in {}", row.text);
-        return Ok(());
+) -> Result<bool, NoMemory> {
+    let Some(tokens) = tokens_of(alloc, text)? else {
+        return Ok(first == "nothing fits");
     };
-    assert_eq!(rt; tokens.as_slice().len(), row.count, "in {}", row.text);
-    if let Some(placed) = tokens.as_slice().first() {
-        assert_eq!(rt; lend(&placed.token), row.token, "in {}", row.text);
-        assert_eq!(rt; (placed.start, placed.end), (0, row.end), "in {}", row.text);
-    }
-    Ok(())
-}
-
-fn read_all_first(alloc: Global, rt: &impl Abort, table: &[Row]) -> Result<(), Fail> {
-    for row in table {
-        reads_first(alloc, rt, row)?;
-    }
-    Ok(())
-}
-
-#[test]
-fn areas_are_references(rt: HostRuntime) -> Result<(), Fail> {
-    let one = Span(0, 1);
-    let two = Span(0, 2);
-    read_all_first(
-        rt.alloc(),
-        &rt,
-        &[
-            first("A1", plain(one, one), 2, 1),
-            first(
-                "zzz9999999",
-                plain(Span(9_999_998, 9_999_999), Span(18_277, 18_278)),
-                10,
-                1,
-            ),
-            first("A1:B2", plain(two, two), 5, 1),
-            first("B2:A1", plain(two, two), 5, 1),
-            first("A:B", plain(Whole, two), 3, 1),
-            first("5:7", plain(Span(4, 7), Whole), 3, 1),
-            first("A5:B", plain(From(4), two), 4, 1),
-            first("A1:B ", plain(From(0), two), 4, 1),
-            first("A1+B2", plain(one, one), 2, 3),
-            first("A1é", plain(one, one), 2, 2),
-        ],
-    )
-}
-
-#[test]
-fn marks_go_with_coordinates(rt: HostRuntime) -> Result<(), Fail> {
-    let two = Span(0, 2);
-    let one = Span(0, 1);
-    let marked_area = |rows, cols, marks| Lent::Reference(written(rows, cols, marks));
-    read_all_first(
-        rt.alloc(),
-        &rt,
-        &[
-            first(
-                "$A$1",
-                marked_area(one, one, marked(true, true, false, false)),
-                4,
-                1,
-            ),
-            first(
-                "A$1",
-                marked_area(one, one, marked(true, false, false, false)),
-                3,
-                1,
-            ),
-            first(
-                "$A$1:B2",
-                marked_area(two, two, marked(true, true, false, false)),
-                7,
-                1,
-            ),
-            first(
-                "B2:$A$1",
-                marked_area(two, two, marked(true, true, false, false)),
-                7,
-                1,
-            ),
-            first(
-                "A1:B$2",
-                marked_area(two, two, marked(false, false, true, false)),
-                6,
-                1,
-            ),
-            first(
-                "B$2:A1",
-                marked_area(two, two, marked(false, false, true, false)),
-                6,
-                1,
-            ),
-            first(
-                "$B1:A2",
-                marked_area(two, two, marked(false, false, false, true)),
-                6,
-                1,
-            ),
-            first(
-                "A1:$A$1",
-                marked_area(one, one, marked(false, false, true, true)),
-                7,
-                1,
-            ),
-            first(
-                "$A$1:A1",
-                marked_area(one, one, marked(true, true, false, false)),
-                7,
-                1,
-            ),
-            first(
-                "$5:$7",
-                marked_area(Span(4, 7), Whole, marked(true, false, true, false)),
-                5,
-                1,
-            ),
-            first(
-                "7:$5",
-                marked_area(Span(4, 7), Whole, marked(true, false, false, false)),
-                4,
-                1,
-            ),
-            first(
-                "B:$A",
-                marked_area(Whole, two, marked(false, true, false, false)),
-                4,
-                1,
-            ),
-            first(
-                "A$5:$B",
-                marked_area(From(4), two, marked(true, false, false, true)),
-                6,
-                1,
-            ),
-        ],
-    )
-}
-
-#[test]
-fn words_are_told_apart(rt: HostRuntime) -> Result<(), Fail> {
-    read_all_first(
-        rt.alloc(),
-        &rt,
-        &[
-            first("A01", Lent::Word("A01"), 3, 1),
-            first("A1.x", Lent::Word("A1.x"), 4, 1),
-            first("A1_", Lent::Word("A1_"), 3, 1),
-            first("AAAA1", Lent::Word("AAAA1"), 5, 1),
-            first("A12345678", Lent::Word("A12345678"), 9, 1),
-            first("A", Lent::Word("A"), 1, 1),
-            first("_a", Lent::Word("_a"), 2, 1),
-            first("é1", Lent::Word("é1"), 3, 1),
-            first("SUM1(", Lent::Function("SUM1"), 4, 2),
-            first("A1(", Lent::Function("A1"), 2, 2),
-            first("TRUE(", Lent::Function("TRUE"), 4, 2),
-            first("SUM (", Lent::Word("SUM"), 3, 2),
-            first("TRUE", Lent::Truth(true), 4, 1),
-            first("fAlSe", Lent::Truth(false), 5, 1),
-            first("TRUEA", Lent::Word("TRUEA"), 5, 1),
-        ],
-    )
-}
-
-#[test]
-fn titles_stand_before_references(rt: HostRuntime) -> Result<(), Fail> {
-    let cell = written(Span(0, 1), Span(0, 1), marked(false, false, false, false));
-    let column = written(Whole, Span(0, 1), marked(false, false, false, false));
-    read_all_first(
-        rt.alloc(),
-        &rt,
-        &[
-            first("x!A1", Lent::Elsewhere("x", cell), 4, 1),
-            first("A1!A1", Lent::Elsewhere("A1", cell), 5, 1),
-            first("TRUE!A1", Lent::Elsewhere("TRUE", cell), 7, 1),
-            first("é.1!A:A", Lent::Elsewhere("é.1", column), 8, 1),
-            first("'x'!A1", Lent::Elsewhere("x", cell), 6, 1),
-            first("'Jon''s'!A:A", Lent::Elsewhere("Jon's", column), 12, 1),
-            first("'a!b'!A1+1", Lent::Elsewhere("a!b", cell), 8, 3),
-        ],
-    )
-}
-
-#[test]
-fn numbers_and_texts_are_read(rt: HostRuntime) -> Result<(), Fail> {
-    read_all_first(
-        rt.alloc(),
-        &rt,
-        &[
-            first("0", Lent::Number(0), 1, 1),
-            first("007", Lent::Number(7), 3, 1),
-            first("5A", Lent::Number(5), 1, 2),
-            first(
-                "9007199254740992",
-                Lent::Number(9_007_199_254_740_992),
-                16,
-                1,
-            ),
-            first("\"a\"\"b\"", Lent::Text("a\"b"), 6, 1),
-            first("\"\"", Lent::Text(""), 2, 1),
-            first("\"A1'!\"", Lent::Text("A1'!"), 6, 1),
-        ],
-    )
-}
-
-#[test]
-fn signs_are_read(rt: HostRuntime) -> Result<(), Fail> {
-    read_all_first(
-        rt.alloc(),
-        &rt,
-        &[
-            first("#REF!", Lent::Lost, 5, 1),
-            first("#REF!A1", Lent::Lost, 5, 2),
-            first("<>", Lent::Operator(Operator::NotEqual), 2, 1),
-            first("< >", Lent::Operator(Operator::Less), 1, 2),
-            first("<=", Lent::Operator(Operator::AtMost), 2, 1),
-            first(">=", Lent::Operator(Operator::AtLeast), 2, 1),
-            first("=<", Lent::Operator(Operator::Equal), 1, 2),
-            first(">", Lent::Operator(Operator::Greater), 1, 1),
-            first("><", Lent::Operator(Operator::Greater), 1, 2),
-            first("<<=", Lent::Operator(Operator::Less), 1, 2),
-            first("+", Lent::Operator(Operator::Add), 1, 1),
-            first("-1", Lent::Operator(Operator::Subtract), 1, 2),
-            first("**", Lent::Operator(Operator::Multiply), 1, 2),
-            first("/", Lent::Operator(Operator::Divide), 1, 1),
-            first("&", Lent::Operator(Operator::Join), 1, 1),
-            first("(", Lent::Open, 1, 1),
-            first(")", Lent::Close, 1, 1),
-            first(",", Lent::Comma, 1, 1),
-        ],
-    )
-}
-
-/// Texts at one of whose places nothing fits.
-const NOTHING: [&str; 24] = [
-    "\r",
-    "1 \r",
-    "A:5",
-    "05:7",
-    "5:7A",
-    "B:A5",
-    "A1:B2x",
-    "A1:B$",
-    "A$",
-    "$A",
-    "$A$1!",
-    "1.5",
-    "9007199254740993",
-    "99999999999999999999",
-    "\"a",
-    "\"a\"\"",
-    "'x'",
-    "'x",
-    "''!A1",
-    "'x'!A01",
-    "x!A01",
-    "x!",
-    "#REF",
-    "{",
-];
-
-fn has_no_tokens(alloc: Global, rt: &impl Abort, text: &str) -> Result<(), Fail> {
-    let tokens = tokens_of(alloc, text)?;
-    assert!(rt; tokens.is_none(), "in {text}");
-    Ok(())
-}
-
-#[test]
-fn nothing_else_fits(rt: HostRuntime) -> Result<(), Fail> {
-    for text in &NOTHING {
-        has_no_tokens(rt.alloc(), &rt, text)?;
-    }
-    Ok(())
-}
-
-/// ` SUM( A1 ,` and behind a tab and a line feed `é)` and a space.
-const PLACES: [(usize, usize); 6] = [(1, 4), (4, 5), (6, 8), (9, 10), (12, 14), (14, 15)];
-
-#[test]
-fn tokens_have_places(rt: HostRuntime) -> Result<(), Fail> {
-    let tokens = tokens_of(rt.alloc(), " SUM( A1 ,\t\né) ")?;
-    let Some(tokens) = &tokens else {
-        assert!(&rt; false, "nothing fits");
-        return Ok(());
+    let Some(placed) = tokens.as_slice().first() else {
+        return Ok(first == "no token");
     };
-    assert_eq!(&rt; tokens.as_slice().len(), PLACES.len());
-    for (placed, place) in tokens.as_slice().iter().zip(&PLACES) {
-        assert_eq!(&rt; (placed.start, placed.end), *place);
+    let mut shown = String::new(alloc);
+    show(&mut shown, &placed.token)?;
+    Ok(
+        shown.as_str() == first
+            && (placed.start, placed.end, tokens.as_slice().len()) == (0, end, count),
+    )
+}
+
+/// Whether the tokens of a text have the places.
+fn has_places(alloc: Global, text: &str, places: &str) -> Result<bool, NoMemory> {
+    let Some(tokens) = tokens_of(alloc, text)? else {
+        return Ok(false);
+    };
+    let mut shown = String::new(alloc);
+    for placed in tokens.as_slice() {
+        write!(shown, "{}-{} ", placed.start, placed.end)?;
+    }
+    Ok(shown.as_str() == places)
+}
+
+fn show(out: &mut String, token: &Token) -> Result<(), NoMemory> {
+    match token {
+        Token::Reference(written) => show_area(out, written)?,
+        Token::Elsewhere(title, written) => {
+            write!(out, "{}! ", title.as_str())?;
+            show_area(out, written)?;
+        }
+        Token::Function(name) => write!(out, "function {}", name.as_str())?,
+        Token::Word(word) => write!(out, "word {}", word.as_str())?,
+        Token::Truth(truth) => write!(out, "{truth}")?,
+        Token::Number(number) => write!(out, "number {number}")?,
+        Token::Text(text) => write!(out, "text {}", text.as_str())?,
+        Token::Lost => out.push_str("lost")?,
+        Token::Operator(operator) => write!(out, "{operator:?}")?,
+        Token::Open => out.push_str("open")?,
+        Token::Close => out.push_str("close")?,
+        Token::Comma => out.push_str("comma")?,
     }
     Ok(())
 }
 
-#[test]
-fn blanks_are_no_tokens(rt: HostRuntime) -> Result<(), Fail> {
-    for text in ["", " ", "\t\n "] {
-        let tokens = tokens_of(rt.alloc(), text)?;
-        assert_eq!(&rt; tokens.map(|tokens| tokens.as_slice().len()), Some(0));
-    }
+fn show_area(out: &mut String, written: &MarkedArea) -> Result<(), NoMemory> {
+    let marks = written.marks;
+    write!(
+        out,
+        "{}{:?}{}, ",
+        dollar(marks.row1),
+        written.rows,
+        dollar(marks.row2)
+    )?;
+    write!(
+        out,
+        "{}{:?}{}",
+        dollar(marks.col1),
+        written.cols,
+        dollar(marks.col2)
+    )?;
     Ok(())
+}
+
+fn dollar(marked: bool) -> &'static str {
+    if marked { "$" } else { "" }
 }

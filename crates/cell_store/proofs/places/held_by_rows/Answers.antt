@@ -4,7 +4,7 @@ use Rattle.std.specs.List.{filter}
 use Rattle.std.specs.List.Sorted.{IsPermutation, IsStrictlySortedBy}
 use Rattle.std.proofs.lemmas.Fn.{filter_same}
 use Rattle.grid_range.specs.Area.{Holds}
-use Rattle.cell_store.specs.Table.{by_rows}
+use Rattle.grid_range.specs.Area.{by_rows}
 use Rattle.cell_store.proofs.Listed.{holds_place, told}
 use Rattle.cell_store.proofs.Ordered.{held_in_order, held_exactly}
 use Rattle.cell_store.proofs.places.held_by_rows.Goals as goal

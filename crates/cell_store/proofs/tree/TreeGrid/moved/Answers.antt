@@ -6,7 +6,7 @@ use Rattle.std.proofs.lemmas.Map.Iter.{btree_map_turn}
 use Rattle.std.proofs.lemmas.Map.Keys.{IsDistinct-from_sorted}
 use Rattle.grid_range.specs.Change.{Fits}
 use Rattle.cell_store.specs.Moved.{GoesWithLines, lines_on}
-use Rattle.cell_store.specs.Table.{by_rows}
+use Rattle.grid_range.specs.Area.{by_rows}
 use Rattle.cell_store.specs.Entries.{HasEntriesInside, table_of}
 use Rattle.cell_store.proofs.Cells.{by_rows_total, len-cells-most}
 use Rattle.cell_store.proofs.Tables.{filled-view}

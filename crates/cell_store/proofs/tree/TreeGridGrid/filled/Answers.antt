@@ -1,6 +1,6 @@
 use Rattle.std.proofs.Common.{◌∙◌}
 use Rattle.std.proofs.lemmas.Map.Keys.{IsDistinct-from_sorted}
-use Rattle.cell_store.specs.Table.{by_rows}
+use Rattle.grid_range.specs.Area.{by_rows}
 use Rattle.cell_store.proofs.Tables.{filled-view}
 use Rattle.cell_store.proofs.tree.TreeGridGrid.filled.Goals as goal
 

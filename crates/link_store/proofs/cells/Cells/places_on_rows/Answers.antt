@@ -1,11 +1,9 @@
 use Rattle.std.proofs.Common.{ℕ, ◌≡◌, ◌∙◌, sym, ap, arith}
-use Rattle.std.specs.Prelude.{Contains}
 use Rattle.link_store.specs.declared.cells.Cell.{Cell}
-use Rattle.link_store.specs.declared.cells.Link.{Link}
 use Rattle.link_store.specs.Lists.{entries_of}
 use Rattle.link_store.specs.Lines.{list_of}
 use Rattle.link_store.proofs.Sheets.{has_column}
-use Rattle.link_store.proofs.Gathered.{in_row, has_row, left_first, line_begins, line_ends, line_goes_on, list_noted}
+use Rattle.link_store.proofs.Gathered.{in_row, left_first, line_begins, line_ends, line_goes_on, list_noted}
 use Rattle.link_store.proofs.Gathered.{none_yet, on_lines, place_read, rows_gathered}
 use Rattle.link_store.proofs.cells.Cells.places_on_rows.Goals as goal
 

@@ -1,4 +1,4 @@
-use Rattle.std.proofs.Common.{◌≡◌, refl, sym, ap, ◌∙◌}
+use Rattle.std.proofs.Common.{refl, sym, ap, ◌∙◌}
 use Rattle.std.specs.Prelude.{Some}
 use Rattle.cell_store.specs.Table.{item_at, with_item}
 use Rattle.link_store.specs.declared.cells.Cell.{Cell}
@@ -6,7 +6,7 @@ use Rattle.link_store.specs.Lists.{with_item_at}
 use Rattle.link_store.specs.Lines.{list_of}
 use Rattle.link_store.proofs.Sheets.{item_from}
 use Rattle.link_store.proofs.Placed.{live_cell, none_at}
-use Rattle.link_store.proofs.Rewritten.{changes_put, grid_put, rewritten}
+use Rattle.link_store.proofs.Rewritten.{changes_put, grid_put}
 use Rattle.link_store.proofs.Views.{item-table, table_put}
 use Rattle.link_store.proofs.grid.LinkGridGrid.get_mut.Goals as goal
 

@@ -1,4 +1,4 @@
-use Rattle.std.proofs.Common.{◌∙◌, sym, ap, subst}
+use Rattle.std.proofs.Common.{sym, subst}
 use Rattle.std.specs.Option.{IsSome}
 use Rattle.cell_store.specs.Places.{AreFilledPlaces}
 use Rattle.link_store.proofs.Views.{item-table}

@@ -1,6 +1,0 @@
-use Rattle.std.proofs.Common.{◌≡◌}
-use Rattle.cell_store.proofs.tests.fill.Given as goal
-
--- the sheet keeps its size
-abbrev pub invariant-loop-row : goal.invariant-loop-row
-invariant-loop-row g l = ((g.G.Grid.table l.grid).rows ≡ 4) × ((g.G.Grid.table l.grid).cols ≡ 3)
