@@ -1,12 +1,14 @@
 -- Conversations: one part behind another.
-use Rattle.std.proofs.Common.{◌≡◌, ℕ, ◌-◌, List, [], ◌∷◌, ◌++◌, length, Option, None, Some, IfSome}
+use Rattle.std.proofs.Common.{◌≡◌, ℕ, ◌-◌, Bool, true, false, List, [], ◌∷◌, ◌++◌, length, Option, None, Some, IfSome}
+use Rattle.std.specs.Prelude.{MatchBool}
 use Rattle.std.proofs.Common.{MatchOption, ◌⊎◌, inl, inr, refl, sym, ◌∙◌, ap, subst}
 use Rattle.std.proofs.Common.{append_assoc, arith}
 use Rattle.std.specs.Option.{option_map}
 use Rattle.sheets_http.specs.declared.request.Wire.{Wire}
 use Rattle.sheets_http.specs.Framing.{End, ended, asked, closed, truncated, long_talk}
-use Rattle.sheets_http.specs.Framing.{Talk}
-use Rattle.sheets_http.specs.Laws.{HasOneTalk}
+use Rattle.sheets_http.specs.Framing.{request_and_rest, talk_end, Talk}
+use Rattle.sheets_http.specs.Laws.{HasOneNext, HasOneTalk}
+use Rattle.sheets_cli.specs.Laws.{BeginsTalk}
 use Rattle.sheets_cli.specs.Program.{status_of, status_at}
 use Rattle.sheets_http.specs.Outside.{TakesAll}
 use Rattle.sheets_cli.specs.declared.ended.Ended.{Ended}
@@ -59,6 +61,37 @@ Talk-behind room bytes (request ∷ requests) others room' rest end first talk =
   first.1,
   rw first.2 (Talk-behind (room - (length bytes - length first.0)) first.0 requests others room' rest end first.3 talk),
 )
+
+-- what goes on behind a request that doesn't ask for the end
+behind_open : (close : Bool) (Last Others : Type 0) → close ≡ false → MatchBool close Last Others → Others
+behind_open true Last Others e is = let wrong : true ≡ false = e in cc
+behind_open false Last Others e is = is
+
+-- requests with which a stream begins are the first of its talk
+pub begins_talk : HasOneNext → BeginsTalk
+begins_talk one room bytes [] room' rest wires end first talk = (
+  wires,
+  refl,
+  subst (λ (r : ℕ). Talk r rest wires end) (sym first.0)
+      (subst (λ (b : List ℕ). Talk room b wires end) (sym first.1) talk),
+)
+begins_talk one room bytes (request ∷ requests) room' rest [] end first talk =
+    let wrong : talk_end end ≡ request_and_rest request first.0 =
+    one room bytes (talk_end end) (request_and_rest request first.0) talk first.1 in
+    cc
+begins_talk one room bytes (request ∷ requests) room' rest (wire ∷ wires) end first talk =
+    let same : request_and_rest wire talk.0 ≡ request_and_rest request first.0 =
+    one room bytes (request_and_rest wire talk.0) (request_and_rest request first.0) talk.1 first.1 in
+    let wire_is : wire ≡ request = cc in
+    let behind_it : talk.0 ≡ first.0 = cc in
+    let near = behind_open wire.close ((wires ≡ []) × (end ≡ asked))
+    (Talk (room - (length bytes - length talk.0)) talk.0 wires end)
+    (ap (λ (w : Wire). w.close) wire_is ∙ first.2) talk.2 in
+    let on = subst (λ (r : List ℕ). Talk (room - (length bytes - length r)) r wires end) behind_it near in
+    let later = begins_talk one (room - (length bytes - length first.0)) first.0 requests room' rest wires end first.3
+    on in
+    let others_are : wires ≡ requests ++ later.0 = later.1 in
+    (later.0, cc, later.2)
 
 -- ---- parts of a conversation
 

@@ -19,7 +19,7 @@ mod values;
 pub use cells::{PLACES, Sheet};
 pub use conversation::converse;
 pub use ended::Ended;
-pub use laws::reply_laws;
+pub use laws::{cut_off_laws, reply_laws};
 pub use program::{MOST, USAGE, sheets_main};
 pub use range::{COLUMNS, ROWS, Rectangle};
 pub use standard::{Input, Output};

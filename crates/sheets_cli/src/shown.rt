@@ -56,7 +56,7 @@ fn cell_shown(alloc: Global, sheet: &Sheet, row: u32, column: u32) -> Result<Jso
     ensures { IfOk result (λ shown. view shown ≡ string (shown_text (cells_of sheet.now row column))) }
 {
     let text = show(alloc, sheet.value(row, column))?;
-    Ok(Json::String(String::from_str(alloc, text.as_str())?))
+    Ok(Json::String(text.into_string()))
 }
 
 /// Cuts the empty values at the end.

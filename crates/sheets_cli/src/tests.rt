@@ -215,4 +215,5 @@ fn reads_and_writes_of_the_system(rt: HostRuntime) -> Result<(), Fail> {
 #[test]
 fn calls_the_laws(_rt: HostRuntime) {
     reply_laws();
+    cut_off_laws();
 }

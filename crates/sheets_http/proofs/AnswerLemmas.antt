@@ -1,18 +1,19 @@
 -- What a progress of reading answers is what comes next in the stream.
 use Rattle.std.proofs.Common.{◌≡◌, ℕ, ◌+◌, ◌-◌, ◌<◌, ◌≤◌, inl, inr, Bool, true, false, List, [], ◌∷◌, ◌++◌, length, take, drop, refl, sym, ap, ◌∙◌, subst, arith, append-nil}
-use Rattle.std.specs.Prelude.{Option, Some, None, Result, Ok, Err, IfSome, map, is_none, unwrap_or, nat_lt, ◌||◌, ◌&&◌, if◌then◌else◌, codes}
+use Rattle.std.specs.Prelude.{Option, Some, None, Result, Ok, Err, IfSome, is_none, unwrap_or, nat_lt, ◌||◌, ◌&&◌, if◌then◌else◌, codes}
 use Rattle.std.proofs.lemmas.Bool.{ltb-false}
 use Rattle.std.proofs.lemmas.List.{length-append, length-drop, length-take, take-take, drop-take}
 use Rattle.httparse.specs.Grammar.{ReadsRequest}
-use Rattle.httparse.specs.Spans.{name_and_value}
 use Rattle.sheets_http.specs.declared.request.Wire.{Wire}
 use Rattle.sheets_http.specs.declared.request.HeadFault.{HeadFault}
-use Rattle.sheets_http.specs.declared.request.HeadFault.TheVariants.{BadHead, NoLength, BodyLong}
+use Rattle.sheets_http.specs.declared.request.HeadFault.TheVariants.{NoLength, BodyLong}
 use Rattle.sheets_http.specs.declared.request.Next.TheVariants as next
 use Rattle.sheets_http.specs.declared.summary.HeadSummary.{HeadSummary}
 use Rattle.sheets_http.specs.declared.scanned.Scanned.TheVariants as scanned
 use Rattle.cell_value.specs.FaultCount.{Rose}
-use Rattle.sheets_http.specs.Heads.{Fields, head_limit, skip_breaks, asks_to_close, has_field, sends_body, content_length, body_limit, framed, body_length}
+use Rattle.sheets_http.specs.Heads.{head_limit, skip_breaks}
+use Rattle.sheets_http.specs.Fields.{Fields, fields_of, has_field}
+use Rattle.sheets_http.specs.BodyLengths.{sends_body, content_length, body_limit, framed, body_length}
 use Rattle.sheets_http.specs.declared.request.Next.{Next}
 use Rattle.sheets_http.specs.declared.scan.HeadState.TheVariants.{Whole}
 use Rattle.sheets_http.specs.Framing.{refused_message, incomplete_message, BeginsWith, wire_of, end_of, ended, closed, truncated, long_talk, IsNext, StreamNext, request_and_rest, talk_end}
@@ -42,10 +43,9 @@ answer_refused most held (Some rest) stream_after room room_after fault e is =
 -- ---- a request
 
 -- a body that is served isn't too long
-body_is_short : (method : List ℕ) (minor : ℕ) (fields : Fields) (size : ℕ)
-    → body_length method minor fields ≡ Ok size → size ≤ body_limit
-body_is_short method minor fields size e =
-    outer (asks_to_close minor fields) (content_length fields) e
+body_is_short : (method : List ℕ) (fields : Fields) (size : ℕ) → body_length method fields ≡ Ok size
+    → size ≤ body_limit
+body_is_short method fields size e = outer (content_length fields) e
   where
     inner : (x y : Bool) (length : ℕ) → nat_lt body_limit length ≡ y
         → (if x then Err NoLength else (if y then Err BodyLong else Ok length)) ≡ Ok size → size ≤ body_limit
@@ -56,11 +56,9 @@ body_is_short method minor fields size e =
         let is : length ≡ size = cc in
         omega (arith, ltb-false body_limit length t)
 
-    outer : (x : Bool) (r : Result (Option ℕ) HeadFault)
-        → (if x then Err BadHead else framed method fields r) ≡ Ok size → size ≤ body_limit
-    outer true r e = let w : Err BadHead ≡ Ok size = e in cc
-    outer false (Err fault) e = let w : Err fault ≡ Ok size = e in cc
-    outer false (Ok length) e =
+    outer : (r : Result (Option ℕ) HeadFault) → framed method fields r ≡ Ok size → size ≤ body_limit
+    outer (Err fault) e = let w : Err fault ≡ Ok size = e in cc
+    outer (Ok length) e =
         inner (has_field (codes "transfer-encoding") fields || (is_none length && sends_body method))
         (nat_lt body_limit (unwrap_or length 0)) (unwrap_or length 0) refl e
 
@@ -69,7 +67,7 @@ pub few_bytes : (near : List ℕ) (n : ℕ) (summary : HeadSummary) → IsScanne
     → n + summary.length ≤ head_limit + body_limit
 few_bytes near n summary is =
     let h = is.0 in
-    let short = body_is_short h.method h.minor (map name_and_value h.fields) summary.length is.3.length_is in
+    let short = body_is_short h.method (fields_of h) summary.length is.3.length_is in
     omega (arith, short, settled_early near n Whole is.1)
 
 -- the request of a summary and a body
@@ -77,6 +75,8 @@ abbrev pub wire_of_summary : HeadSummary → List ℕ → Wire
 wire_of_summary summary body = record {
   method = summary.method;
   target = summary.target;
+  user_token = summary.user_token;
+  project = summary.project;
   coded = summary.coded;
   close = summary.close;
   body = body;
@@ -110,7 +110,7 @@ request_taken most held (Some rest) n summary is inside near =
     let body = body_bytes room n size held.pending near in
     let same : wire_of h (take size (drop n (take room held.pending)))
     ≡ wire_of_summary summary (take size (drop n held.pending)) =
-    cc (has.method_is, has.target_is, has.coded_is, has.close_is, body) in
+    cc (has.method_is, has.target_is, has.user_token_is, has.project_is, has.coded_is, has.close_is, body) in
     let told = next_whole room held.pending rest n size h is.1 is.2 has.length_is
     (omega (arith, length-take room held.pending, inside, near)) in (
       drop (n + size) held.pending ++ rest,

@@ -8,7 +8,8 @@ use Rattle.httparse.proofs.GrammarLemmas.{request_unique}
 use Rattle.sheets_http.specs.declared.request.Wire.{Wire}
 use Rattle.sheets_http.specs.declared.scan.HeadState.{HeadState}
 use Rattle.sheets_http.specs.declared.scan.HeadState.TheVariants.{Growing, Whole, TooLong}
-use Rattle.sheets_http.specs.Heads.{skip_breaks, head_state, SettledAt, IsUnsettled, body_length_of}
+use Rattle.sheets_http.specs.Heads.{skip_breaks, head_state, SettledAt, IsUnsettled}
+use Rattle.sheets_http.specs.BodyLengths.{body_length_of}
 use Rattle.sheets_http.specs.Framing.{FirstMessage, complete_message, refused_message, incomplete_message, with_body, IsMessage, of_head, of_no_head, BeginsWith, growing, too_long, whole_head, End, asked, request_and_rest, talk_end, next_of, IsNext, Talk}
 use Rattle.sheets_http.specs.Laws.{HasOneNext, HasOneTalk, KeepsRequests}
 use Rattle.sheets_http.proofs.ListLemmas.{drop-append}

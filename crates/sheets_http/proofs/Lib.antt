@@ -1,6 +1,7 @@
 pub mod ListLemmas
 pub mod HeadLemmas
 pub mod GrammarLemmas
+pub mod CallerLemmas
 pub mod ScanLemmas
 pub mod TalkLemmas
 pub mod AnswerLemmas

@@ -9,7 +9,8 @@ use Rattle.sheets_http.specs.declared.request.HeadFault.{HeadFault}
 use Rattle.sheets_http.specs.declared.request.HeadFault.TheVariants.{HeadLong, BadHead}
 use Rattle.sheets_http.specs.declared.scan.HeadState.{HeadState}
 use Rattle.sheets_http.specs.declared.scan.HeadState.TheVariants.{Growing, Whole, TooLong}
-use Rattle.sheets_http.specs.Heads.{is_break, skip_breaks, is_too_long, head_state, SettledAt, IsNoHead, body_length_of}
+use Rattle.sheets_http.specs.Heads.{is_break, skip_breaks, is_too_long, head_state, SettledAt, IsNoHead}
+use Rattle.sheets_http.specs.BodyLengths.{body_length_of}
 use Rattle.sheets_http.specs.Framing.{FirstMessage, complete_message, refused_message, incomplete_message, wire_of, with_body, of_head, of_no_head, BeginsWith, growing, too_long, whole_head, End, asked, StreamNext, request_and_rest, talk_end, next_of, IsNext, Talk}
 use Rattle.sheets_http.proofs.LawLemmas.{request_is_no_end}
 use Rattle.sheets_http.specs.Laws.{HasTalk, IsRequestText, TakesBytes, AreRequestTexts, EndsTalk, by_request, by_stream, HoldsRequests}

@@ -7,7 +7,8 @@ use Rattle.httparse.specs.Grammar.{RequestHead, ReadsRequest}
 use Rattle.sheets_http.specs.declared.request.HeadFault.{HeadFault}
 use Rattle.sheets_http.specs.declared.scan.HeadState.{HeadState}
 use Rattle.sheets_http.specs.declared.scan.HeadState.TheVariants.{Whole, TooLong}
-use Rattle.sheets_http.specs.Heads.{skip_breaks, SettledAt, body_length_of}
+use Rattle.sheets_http.specs.Heads.{skip_breaks, SettledAt}
+use Rattle.sheets_http.specs.BodyLengths.{body_length_of}
 use Rattle.sheets_http.specs.Framing.{FirstMessage, complete_message, refused_message, incomplete_message, wire_of, with_body, IsMessage, of_head, of_no_head, BeginsWith, growing, too_long, whole_head, closed, long_talk, end_of, request_and_rest, talk_end, next_of, IsNext}
 use Rattle.sheets_http.proofs.ListLemmas.{take-append}
 

@@ -1,7 +1,6 @@
 -- What a buffer knows of a head, and how far each read brings a request.
-use Rattle.std.specs.Prelude.{◌≡◌, ℕ, ◌+◌, ◌<◌, ◌≤◌, List, [], ◌∷◌, length, take, map, Option, Some, None, IfSome, Result, Ok, Err, ⊤}
+use Rattle.std.specs.Prelude.{◌≡◌, ℕ, ◌+◌, ◌<◌, ◌≤◌, List, [], ◌∷◌, length, take, Option, Some, None, IfSome, Result, Ok, Err, ⊤}
 use Rattle.httparse.specs.Grammar.{RequestHead, ReadsRequest}
-use Rattle.httparse.specs.Spans.{name_and_value}
 use Rattle.cell_value.specs.declared.failure.NoMemory.{NoMemory}
 use Rattle.sheets_http.specs.declared.next.Progress.{Progress}
 use Rattle.sheets_http.specs.declared.next.Progress.TheVariants as progress
@@ -10,6 +9,7 @@ use Rattle.sheets_http.specs.declared.scanned.Scanned.TheVariants as scanned
 use Rattle.sheets_http.specs.declared.scan.HeadScan.{HeadScan}
 use Rattle.sheets_http.specs.declared.scan.HeadState.TheVariants.{Growing, Whole}
 use Rattle.sheets_http.specs.Heads.{skip_breaks, head_state, SettledAt, IsUnsettled}
+use Rattle.sheets_http.specs.Fields.{fields_of}
 use Rattle.sheets_http.specs.Scanning.{IsScan}
 use Rattle.sheets_http.specs.HeadReading.{IsSummary}
 use Rattle.sheets_http.specs.declared.summary.HeadSummary.{HeadSummary}
@@ -27,7 +27,7 @@ pub record IsReady (scan : HeadScan) (bytes : List ℕ) : Type 0 where
 abbrev pub IsScanned : List ℕ → Result Scanned NoMemory → Type 0
 IsScanned bytes (Ok (scanned.Head summary end)) =
     (h : RequestHead) × SettledAt bytes end Whole × ReadsRequest (skip_breaks (take end bytes)) h []
-    × IsSummary h.method h.target h.minor (map name_and_value h.fields) summary
+    × IsSummary h.method h.target h.minor (fields_of h) summary
 IsScanned bytes (Ok (scanned.Refused fault)) = BeginsWith bytes (refused_message fault)
 IsScanned bytes (Ok scanned.Growing) = IsUnsettled bytes
 IsScanned bytes (Err error) = ⊤

@@ -1,13 +1,15 @@
 -- A conversation: the whole requests that a stream of bytes holds one after another, and how it ends
 -- (RFC 9112, sections 2.2, 6.3 and 9.6).
-use Rattle.std.specs.Prelude.{◌≡◌, ℕ, ◌-◌, List, [], ◌∷◌, ◌++◌, length, take, drop, map, if◌then◌else◌, nat_le, MatchBool, Result, Ok, Err}
+use Rattle.std.specs.Prelude.{◌≡◌, ℕ, ◌-◌, List, [], ◌∷◌, ◌++◌, length, take, drop, if◌then◌else◌, nat_le, MatchBool, Result, Ok, Err}
 use Rattle.httparse.specs.Grammar.{RequestHead, ReadsRequest}
-use Rattle.httparse.specs.Spans.{name_and_value}
 use Rattle.sheets_http.specs.declared.request.Wire.{Wire}
 use Rattle.sheets_http.specs.declared.request.HeadFault.{HeadFault}
 use Rattle.sheets_http.specs.declared.request.HeadFault.TheVariants.{HeadLong, BadHead}
 use Rattle.sheets_http.specs.declared.scan.HeadState.TheVariants.{Whole, TooLong}
-use Rattle.sheets_http.specs.Heads.{skip_breaks, SettledAt, IsUnsettled, IsNoHead, asks_to_close, body_length_of, is_coded}
+use Rattle.sheets_http.specs.Heads.{skip_breaks, SettledAt, IsUnsettled, IsNoHead}
+use Rattle.sheets_http.specs.Fields.{fields_of, asks_to_close, is_coded}
+use Rattle.sheets_http.specs.BodyLengths.{body_length_of}
+use Rattle.sheets_http.specs.Callers.{user_token, project}
 
 -- ---- what a stream begins with
 
@@ -23,8 +25,10 @@ abbrev pub wire_of : RequestHead → List ℕ → Wire
 wire_of h body = record {
   method = h.method;
   target = h.target;
-  coded = is_coded (map name_and_value h.fields);
-  close = asks_to_close h.minor (map name_and_value h.fields);
+  user_token = user_token (fields_of h);
+  project = project (fields_of h);
+  coded = is_coded (fields_of h);
+  close = asks_to_close h.minor (fields_of h);
   body = body;
 }
 

@@ -2,7 +2,8 @@
 use Rattle.std.specs.Prelude.{◌≡◌, ℕ, ◌-◌, ◌<◌, List, [], ◌∷◌, ◌++◌, length, Ok}
 use Rattle.httparse.specs.Grammar.{RequestHead, ReadsRequest}
 use Rattle.sheets_http.specs.declared.request.Wire.{Wire}
-use Rattle.sheets_http.specs.Heads.{skip_breaks, body_length_of}
+use Rattle.sheets_http.specs.Heads.{skip_breaks}
+use Rattle.sheets_http.specs.BodyLengths.{body_length_of}
 use Rattle.sheets_http.specs.Framing.{wire_of, End, asked, StreamNext, request_and_rest, talk_end, IsNext, Talk}
 
 -- one thing comes next in a stream

@@ -1,6 +1,9 @@
 pub mod Outside
 pub mod Memory
 pub mod Heads
+pub mod Fields
+pub mod BodyLengths
+pub mod Callers
 pub mod Scanning
 pub mod HeadReading
 pub mod Framing

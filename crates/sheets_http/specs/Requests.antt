@@ -42,7 +42,7 @@ IsAnswer room bytes room_after stream_after next.LongTalk = IsNext room bytes (t
 IsAnswer room bytes room_after stream_after next.ReadFault = (stream_after ≡ Some bytes) × (room_after ≡ room)
 IsAnswer room bytes room_after stream_after next.NoMemory = (stream_after ≡ Some bytes) × (room_after ≡ room)
 
--- the answer says what comes next; that the connection is closed is only told by a request
+-- the answer says what comes next; that the client asked for the end is told by its request
 abbrev pub IsAnswerOf : StreamNext → Next → Type 0
 IsAnswerOf (request_and_rest wire rest) answer = answer ≡ next.Request wire
 IsAnswerOf (talk_end ended) answer = answer ≡ next.End

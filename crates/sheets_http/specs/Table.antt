@@ -9,7 +9,7 @@ use Rattle.sheets_http.specs.declared.table.Segment.{Segment}
 use Rattle.sheets_http.specs.declared.table.Segment.TheVariants.{Root, Version, Spreadsheets, Values, DeveloperMetadata, SpreadsheetId, Range, MetadataId}
 use Rattle.sheets_http.specs.declared.table.Member.{Member}
 use Rattle.sheets_http.specs.declared.table.Member.TheVariants.{MajorDimension, ValueRenderOption, ValueInputOption, IncludeValuesInResponse, ResponseValueRenderOption, ResponseDateTimeRenderOption, InsertDataOption, Ranges, IncludeGridData, Alt, PrettyPrint, DateTimeRenderOption}
-use Rattle.sheets_http.specs.Heads.{is_numeral}
+use Rattle.sheets_http.specs.BodyLengths.{is_numeral}
 
 -- ---- its lines
 

@@ -1,7 +1,8 @@
 ghost use Rattle.std.specs.Prelude.{◌≡◌, ◌<◌, ◌≤◌, ◌↔◌, true, [], length, is_err, OnErr, IfOk};
+ghost use Rattle.cell_value.specs.Calls.{no_calls, fails_next, after_call};
 ghost use Rattle.cell_value.specs.FaultCount.{Rose};
 ghost use Rattle.sheets_http.specs.Outside.{StaysSteady, Gives, EndsThere, Takes};
-ghost use Rattle.sheets_http.specs.Memory.{no_calls, fails_next, after_call, given, taken};
+ghost use Rattle.sheets_http.specs.Memory.{given, taken};
 
 use crate::{Sink, SinkFault, Source, SteadySink, SteadySource};
 use cell_value::{Bytes, Failed, Items};
@@ -17,7 +18,7 @@ struct Calls {
 }
 
 impl Model for Calls {
-    ghost use Rattle.sheets_http.specs.Memory.{CallCount};
+    ghost use Rattle.cell_value.specs.Calls.{CallCount};
 
     ghost Value = { CallCount };
 
@@ -38,7 +39,7 @@ impl Calls {
 
     /// Counts one more call, and answers whether it fails.
     fn fails(&mut self) -> bool
-        ensures calls { self.new ≡ after_call self.old }
+        ensures calls { self.new ≡ after_call (fails_next self.old) self.old }
         ensures later { self.old.faults ≤ self.new.faults }
         ensures fails { result ≡ fails_next self.old }
     {
@@ -109,7 +110,7 @@ impl Source for MemorySource {
         ensures later { self.old.calls.faults ≤ self.new.calls.faults }
         ensures steady { StaysSteady (never_fails self.old.calls) (never_fails self.new.calls)
             self.old.calls.faults self.new.calls.faults }
-        ensures calls { self.new.calls ≡ after_call self.old.calls }
+        ensures calls { self.new.calls ≡ after_call (fails_next self.old.calls) self.old.calls }
         ensures piece { self.new.bytes.piece ≡ self.old.bytes.piece }
         ensures fails { is_err result ≡ fails_next self.old.calls }
     {
@@ -191,7 +192,7 @@ impl Sink for MemorySink {
         ensures short_later { self.old.bytes.shortages ≤ self.new.bytes.shortages }
         ensures steady { StaysSteady (never_fails self.old.calls) (never_fails self.new.calls)
             self.old.calls.faults self.new.calls.faults }
-        ensures calls { self.new.calls ≡ after_call self.old.calls }
+        ensures calls { self.new.calls ≡ after_call (fails_next self.old.calls) self.old.calls }
         ensures piece { self.new.bytes.piece ≡ self.old.bytes.piece }
         ensures fails { (result ≡ Err SinkFault.Failed) ↔ (fails_next self.old.calls ≡ true) }
         ensures unwritten { OnErr result (self.new.bytes.written ≡ self.old.bytes.written) }

@@ -1,9 +1,11 @@
 ghost use Rattle.std.specs.Prelude.{◌≡◌, ◌&&◌, map, not, codes, if◌then◌else◌};
 ghost use Rattle.std.specs.List.{list_any};
+ghost use Rattle.std.specs.Option.{option_copied};
 ghost use Rattle.std.specs.Str.{str_eq_ignore_ascii_case};
 ghost use Rattle.httparse.specs.Borrowed.{header_parts};
 ghost use Rattle.std.specs.Str.Parse.{digits_value};
-ghost use Rattle.sheets_http.specs.Heads.{has_field, has_field_value, asks_to_close, sends_body, is_numeral, content_length, framed, body_length, is_coded};
+ghost use Rattle.sheets_http.specs.Fields.{has_field, has_field_value, sole_value, asks_to_close, is_coded};
+ghost use Rattle.sheets_http.specs.BodyLengths.{sends_body, is_numeral, content_length, framed, body_length};
 
 use crate::HeadFault;
 use httparse::Header;
@@ -12,16 +14,12 @@ use httparse::Header;
 const BODY_LIMIT: u64 = 8_388_608;
 
 /// How many bytes of a body stand behind a head, or why the request is refused.
-pub(crate) fn body_length(method: &str, minor: u8, fields: &[Header<'_>]) -> Result<u64, HeadFault>
-    ensures { result ≡ body_length method.now minor (map header_parts fields.now) }
+pub(crate) fn body_length(method: &str, fields: &[Header<'_>]) -> Result<u64, HeadFault>
+    ensures { result ≡ body_length method.now (map header_parts fields.now) }
 {
-    if asks_to_close(minor, fields) {
-        Err(HeadFault::BadHead)
-    } else {
-        match content_length(fields) {
-            Ok(size) => framed(method, fields, size),
-            Err(fault) => Err(fault),
-        }
+    match content_length(fields) {
+        Ok(size) => framed(method, fields, size),
+        Err(fault) => Err(fault),
     }
 }
 
@@ -102,6 +100,29 @@ fn sends_body(method: &str) -> bool
     ensures { result ≡ sends_body method.now }
 {
     method == "POST" || method == "PUT"
+}
+
+/// The value of the one field of that name, in any ASCII case, where the name stands just once.
+pub(crate) fn sole_value<'a>(name: &str, fields: &[Header<'a>]) -> Option<&'a [u8]>
+    ensures { option_copied result ≡ sole_value name.now (map header_parts fields.now) }
+{
+    for (at, field) in fields.iter().enumerate() {
+        if is_named(field, name) {
+            return only_value(name, field.value, &fields[at + 1..]);
+        }
+    }
+    None
+}
+
+/// The value of a field of that name, where no other stands behind it.
+fn only_value<'a>(name: &str, value: &'a [u8], behind: &[Header<'_>]) -> Option<&'a [u8]>
+    ensures { option_copied result ≡ (if has_field name.now (map header_parts behind.now) then None else Some value.now) }
+{
+    if has_field(name, behind) {
+        None
+    } else {
+        Some(value)
+    }
 }
 
 /// Whether there is a field of that name, in any ASCII case.

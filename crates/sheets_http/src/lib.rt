@@ -2,6 +2,7 @@
 #![tactic(auto)]
 
 mod buffer;
+mod caller;
 mod failing;
 mod fields;
 mod laws;

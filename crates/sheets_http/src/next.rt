@@ -182,6 +182,8 @@ fn take_request(
     ensures wire { IfOk result (λ wire. wire ≡ record {
       method = summary.method;
       target = summary.target;
+      user_token = summary.user_token;
+      project = summary.project;
       coded = summary.coded;
       close = summary.close;
       body = take summary.length (drop end buffer.old.pending);
@@ -195,6 +197,8 @@ fn take_request(
     let HeadSummary {
         method,
         target,
+        user_token,
+        project,
         coded,
         close,
         length,
@@ -205,6 +209,8 @@ fn take_request(
     Ok(Wire {
         method,
         target,
+        user_token,
+        project,
         coded,
         close,
         body: Bytes::of(body),

@@ -9,9 +9,13 @@ pub struct Wire {
     pub method: Text,
     /// The request target, as it stands (RFC 9112, section 3.2).
     pub target: Text,
+    /// The token that it comes with, where it has one (RFC 6750, section 2.1).
+    pub user_token: Option<Text>,
+    /// The project that it is made for; empty where it names none.
+    pub project: Text,
     /// Whether its body has a coding, as gzip (RFC 9110, section 8.4).
     pub coded: bool,
-    /// Whether the connection is closed after it.
+    /// Whether the connection is closed after it (RFC 9112, section 9.6).
     pub close: bool,
     /// The body.
     pub body: Bytes,
@@ -22,8 +26,7 @@ pub struct Wire {
 pub enum HeadFault {
     /// It has no end within 16,384 bytes and 66 lines.
     HeadLong,
-    /// It breaks the grammar, tells its length in no form or twice, or asks for the connection to be
-    /// closed.
+    /// It breaks the grammar, or tells the length of its body in no form or twice.
     BadHead,
     /// It is a POST or PUT without a length, or its body has a transfer coding.
     NoLength,

@@ -6,25 +6,34 @@ use std::test::Fail;
 /// What a request line is: the call, the parts of its path and the members of its query.
 fn shown(alloc: Global, method: &str, target: &str) -> Result<String, Fail> {
     match route(alloc, method, target) {
-        Ok(found) => {
-            let (book, range, id) = (found.book.as_str(), found.range.as_str(), found.id.as_str());
-            let mut line = format!(in alloc; "{:?} [{book}] [{range}] [{id}]", found.verb)?;
-            for (name, value) in found.query.as_slice() {
-                line.push_str(format!(in alloc;
-                    " {}={}",
-                    name.as_str(),
-                    value.as_str()
-                )?.as_str())?;
-            }
-            Ok(line)
-        }
+        Ok(found) => shown_route(alloc, &found),
         Err(RouteFault::NoMemory) => Err(NoMemory.into()),
         Err(fault) => Ok(format!(in alloc; "{fault:?}")?),
     }
 }
 
+fn shown_route(alloc: Global, found: &Route) -> Result<String, Fail> {
+    let mut line = shown_call(alloc, found)?;
+    for member in found.query.as_slice() {
+        add_member(alloc, &mut line, member)?;
+    }
+    Ok(line)
+}
+
+fn shown_call(alloc: Global, found: &Route) -> Result<String, Fail> {
+    let (book, range, id) = (found.book.as_str(), found.range.as_str(), found.id.as_str());
+    Ok(format!(in alloc; "{:?} [{book}] [{range}] [{id}]", found.verb)?)
+}
+
+fn add_member(alloc: Global, line: &mut String, member: &(Text, Text)) -> Result<(), Fail> {
+    let (name, value) = (member.0.as_str(), member.1.as_str());
+    let word = format!(in alloc; " {name}={value}")?;
+    line.push_str(word.as_str())?;
+    Ok(())
+}
+
 /// Methods and targets, and what they are.
-const REQUESTS: [(&str, &str, &str); 43] = [
+const REQUESTS: &[(&str, &str, &str)] = &[
     ("POST", "/v4/spreadsheets", "Create [] [] []"),
     (
         "POST",
@@ -178,27 +187,122 @@ const REQUESTS: [(&str, &str, &str); 43] = [
     ("GET", "/v4/spreadsheets/b1/a/b/c", "NoRoute"),
 ];
 
-#[test]
-fn requests_are_calls(rt: HostRuntime) -> Result<(), Fail> {
-    let alloc = rt.alloc();
-    for (method, target, want) in REQUESTS {
-        let line = shown(alloc, method, target)?;
-        assert_eq!(rt; line.as_str(), want, "{method} {target}");
-    }
-    Ok(())
+/// These requests.
+fn requests() -> &'static [(&'static str, &'static str, &'static str)] {
+    REQUESTS
 }
 
-#[test]
-fn tokens_have_users(rt: HostRuntime) -> Result<(), Fail> {
-    let alloc = rt.alloc();
-    assert_eq!(rt; Users::anyone().user_of("t"), Some("t"));
+/// Whether a request line is that.
+fn is_shown(alloc: Global, method: &str, target: &str, want: &str) -> Result<bool, Fail> {
+    Ok(shown(alloc, method, target)?.as_str() == want)
+}
+
+/// The ends of the table's paths behind `/v4/spreadsheets`, and the calls that they are by `GET`, `PUT` and
+/// `POST`, each without a query and with one of a member that each call takes.
+const LINES: &[(&str, [&str; 3])] = &[
+    ("", ["NoRoute", "NoRoute", "Create [] [] []"]),
+    ("/b", ["Get [b] [] []", "NoRoute", "NoRoute"]),
+    (
+        "/b:batchUpdate",
+        ["Get [b:batchUpdate] [] []", "NoRoute", "Batch [b] [] []"],
+    ),
+    ("/b/values/A1", ["Read [b] [A1] []", "BadQuery", "NoRoute"]),
+    (
+        "/b/values/A1:append",
+        ["Read [b] [A1:append] []", "BadQuery", "BadQuery"],
+    ),
+    (
+        "/b/values/A1:clear",
+        ["Read [b] [A1:clear] []", "BadQuery", "Clear [b] [A1] []"],
+    ),
+    (
+        "/b/values:batchGet",
+        ["ReadMany [b] [] []", "NoRoute", "NoRoute"],
+    ),
+    (
+        "/b/values:batchUpdate",
+        ["NoRoute", "NoRoute", "WriteMany [b] [] []"],
+    ),
+    (
+        "/b/values:batchClear",
+        ["NoRoute", "NoRoute", "ClearMany [b] [] []"],
+    ),
+    (
+        "/b/values:batchGetByDataFilter",
+        ["NoRoute", "NoRoute", "ReadFiltered [b] [] []"],
+    ),
+    (
+        "/b/developerMetadata/7",
+        ["Item [b] [] [7]", "NoRoute", "NoRoute"],
+    ),
+    (
+        "/b/developerMetadata:search",
+        ["NoRoute", "NoRoute", "Search [b] [] []"],
+    ),
+    ("/b/sheets/0", ["NoRoute", "NoRoute", "NoRoute"]),
+];
+
+/// These lines.
+fn lines() -> &'static [(&'static str, [&'static str; 3])] {
+    LINES
+}
+
+/// Whether a line's path is that call by that method, without a query, with an empty one, and with one.
+fn is_line(alloc: Global, method: &str, end: &str, want: &str) -> Result<bool, Fail> {
+    let target = format!(in alloc; "/v4/spreadsheets{end}")?;
+    let bare = format!(in alloc; "{}?", target.as_str())?;
+    let query = format!(in alloc; "{}?alt=json", target.as_str())?;
+    let is_fault = want == "NoRoute" || want == "BadQuery";
+    let member = if is_fault { "" } else { " alt=json" };
+    let with_member = format!(in alloc; "{want}{member}")?;
+    Ok(
+        is_shown(alloc, method, target.as_str(), want)?
+            && is_shown(alloc, method, bare.as_str(), want)?
+            && is_shown(alloc, method, query.as_str(), with_member.as_str())?,
+    )
+}
+
+/// Whether a line's path is these calls, by `GET`, `PUT` and `POST`.
+fn are_lines(alloc: Global, end: &str, calls: &[&str; 3]) -> Result<bool, Fail> {
+    Ok(
+        is_line(alloc, "GET", end, calls[0])?
+            && is_line(alloc, "PUT", end, calls[1])?
+            && is_line(alloc, "POST", end, calls[2])?,
+    )
+}
+
+/// A table of users.
+fn some_users(alloc: Global) -> Result<Users, Fail> {
     let mut pairs = Vec::new(alloc);
-    for (token, user) in [("t", "ann"), ("u", "bob")] {
+    for (token, user) in [("t", "ann"), ("u", "bob"), ("t", "cy")] {
         let token = Text::of(String::from_str(alloc, token)?);
         pairs.push((token, Text::of(String::from_str(alloc, user)?)))?;
     }
-    let users = Users::of(Items::of(pairs));
-    assert_eq!(rt; users.user_of("u"), Some("bob"));
-    assert_eq!(rt; users.user_of("ann"), None);
+    Ok(Users::of(Items::of(pairs)))
+}
+
+/// Whether tokens have their users.
+fn have_users(alloc: Global) -> Result<bool, Fail> {
+    let users = some_users(alloc)?;
+    Ok(
+        Users::anyone().user_of("t") == Some("t")
+            && users.user_of("u") == Some("bob")
+            && users.user_of("t") == Some("ann")
+            && users.user_of("ann").is_none(),
+    )
+}
+
+#[test]
+fn requests_are_calls(rt: HostRuntime) -> Result<(), Fail> {
+    for (method, target, want) in requests() {
+        assert!(rt;
+            is_shown(rt.alloc(), method, target, want)?,
+            "{method} {target}"
+        );
+    }
+    for (end, calls) in lines() {
+        assert!(rt; are_lines(rt.alloc(), end, calls)?, "{end}");
+    }
+    assert!(rt; have_users(rt.alloc())?);
     Ok(())
 }

@@ -104,12 +104,11 @@ fn fit_segments(alloc: Global, path: &[Segment], raws: &[&[u8]]) -> Result<bool,
     }
 }
 
-/// Whether a raw segment fits.
+/// Whether a raw segment fits. It takes memory only where the segment has escapes.
 fn fits_segment(alloc: Global, segment: Segment, raw: &[u8]) -> Result<bool, NoMemory>
     ensures { IfOk result (λ fits. IsTrue fits ↔ FitsSegment segment raw.now) }
 {
-    let mut bytes = Vec::new(alloc);
-    percent_decode(raw).append_to(&mut bytes)?;
+    let bytes = percent_decode(raw).into_cow(alloc)?;
     match str::from_utf8(&bytes) {
         Ok(text) => Ok(segment.fits(text)),
         Err(_) => Ok(false),

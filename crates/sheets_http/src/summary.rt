@@ -1,8 +1,11 @@
-ghost use Rattle.std.specs.Prelude.{◌≡◌, map, IfOk};
+ghost use Rattle.std.specs.Prelude.{◌≡◌, map, Ok, IfOk};
+ghost use Rattle.std.specs.Option.{option_copied};
 ghost use Rattle.httparse.specs.Borrowed.{header_parts};
-ghost use Rattle.sheets_http.specs.HeadReading.{IsHeadText, SummaryOf, ReadsHead};
+ghost use Rattle.sheets_http.specs.HeadReading.{IsHeadText, IsSummary, SummaryOf, ReadsHead};
+ghost use Rattle.sheets_http.specs.BodyLengths.{body_length};
 
 use crate::HeadFault;
+use crate::caller::{project, user_token};
 use crate::fields::{asks_to_close, body_length, is_coded};
 use crate::scan::LINE_LIMIT;
 use cell_value::{NoMemory, Text};
@@ -18,6 +21,8 @@ const FIELD_LIMIT: usize = LINE_LIMIT - 2;
 pub(crate) struct HeadSummary {
     pub(crate) method: Text,
     pub(crate) target: Text,
+    pub(crate) user_token: Option<Text>,
+    pub(crate) project: Text,
     pub(crate) coded: bool,
     pub(crate) close: bool,
     pub(crate) length: u64,
@@ -60,26 +65,55 @@ fn head_of(
 ) -> Result<HeadSummary, HeadError>
     ensures { SummaryOf method.now target.now minor (map header_parts fields.now) result }
 {
-    match body_length(method, minor, fields) {
-        Ok(length) => match texts(alloc, method, target) {
-            Ok((method, target)) => Ok(HeadSummary {
-                method,
-                target,
-                coded: is_coded(fields),
-                close: asks_to_close(minor, fields),
-                length,
-            }),
+    match body_length(method, fields) {
+        Ok(length) => match summary_of(alloc, method, target, minor, fields, length) {
+            Ok(summary) => Ok(summary),
             Err(_) => Err(HeadError::NoMemory),
         },
         Err(fault) => Err(HeadError::Fault(fault)),
     }
 }
 
-/// Both as texts of their own.
-fn texts(alloc: Global, method: &str, target: &str) -> Result<(Text, Text), NoMemory>
-    ensures { IfOk result (λ both. (both.0 ≡ method.now) × (both.1 ≡ target.now)) }
+/// The same where the length of the body is known.
+fn summary_of(
+    alloc: Global,
+    method: &str,
+    target: &str,
+    minor: u8,
+    fields: &[Header<'_>],
+    length: u64,
+) -> Result<HeadSummary, NoMemory>
+    requires { body_length method.now (map header_parts fields.now) ≡ Ok length }
+    ensures { IfOk result (λ summary. IsSummary method.now target.now minor (map header_parts fields.now) summary) }
 {
-    let method = String::from_str(alloc, method)?;
-    let target = String::from_str(alloc, target)?;
-    Ok((Text::of(method), Text::of(target)))
+    let method = owned(alloc, method)?;
+    let target = owned(alloc, target)?;
+    let user_token = owned_token(alloc, user_token(fields))?;
+    let project = owned(alloc, project(fields))?;
+    Ok(HeadSummary {
+        method,
+        target,
+        user_token,
+        project,
+        coded: is_coded(fields),
+        close: asks_to_close(minor, fields),
+        length,
+    })
+}
+
+/// A token as a text of its own, where there is one.
+fn owned_token(alloc: Global, token: Option<&str>) -> Result<Option<Text>, NoMemory>
+    ensures { IfOk result (λ text. text ≡ option_copied token.entry) }
+{
+    match token {
+        Some(token) => Ok(Some(owned(alloc, token)?)),
+        None => Ok(None),
+    }
+}
+
+/// A text of its own.
+fn owned(alloc: Global, text: &str) -> Result<Text, NoMemory>
+    ensures { IfOk result (λ owned. owned ≡ text.now) }
+{
+    Ok(Text::of(String::from_str(alloc, text)?))
 }

@@ -251,14 +251,17 @@ const EXCHANGES: &[Exchange] = &[
         BAD_HEAD,
     ),
     (
-        &[(
-            "GET /v4/spreadsheets/book1/values/Sheet1!A1",
-            "connection: Close\r\n",
-            "",
-        )],
-        BAD_REQUEST,
+        &[
+            (
+                "GET /v4/spreadsheets/book1/values/Sheet1!A1",
+                "connection: Close\r\n",
+                "",
+            ),
+            ("GET /v4/spreadsheets/book1", "Host: localhost\r\n", ""),
+        ],
+        OK,
         CLOSE,
-        BAD_HEAD,
+        "{\"majorDimension\":\"ROWS\",\"range\":\"Sheet1!A1\"}",
     ),
     (
         &[("GET ", "Host: localhost\r\n", "")],

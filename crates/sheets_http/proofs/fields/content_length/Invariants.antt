@@ -1,6 +1,6 @@
 use Rattle.std.proofs.Common.{◌≡◌, map, drop}
 use Rattle.httparse.specs.Borrowed.{header_parts}
-use Rattle.sheets_http.specs.Heads.{content_length}
+use Rattle.sheets_http.specs.BodyLengths.{content_length}
 use Rattle.sheets_http.proofs.fields.content_length.Given as goal
 
 -- the fields from here on tell what all of them do
