@@ -1,0 +1,4 @@
+pub mod Finding
+pub mod Putting
+pub mod Sharing
+pub mod Opening

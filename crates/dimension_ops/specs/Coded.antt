@@ -1,0 +1,22 @@
+-- How a sheet and a spreadsheet are laid out, so that they can be seen as what they keep.
+use Rattle.std.specs.Prelude.{ℕ, Bool, List, refl}
+use Rattle.std.specs.Coded.{Coded, code_by, coded×, coded_list, coded_bool, coded_ℕ}
+use Rattle.cell_store.specs.Table.{Table, table_code}
+use Rattle.ref_rewrite.specs.contracts.cell_content.Content as content
+use Rattle.ref_rewrite.specs.declared.cell_content.Content.{Content}
+use Rattle.world_model.specs.Book.{PlaceBook}
+use Rattle.world_model.specs.Sheet.{PlaceSheet}
+
+abbrev pub sheet_code : Coded PlaceSheet
+sheet_code =
+    code_by (ℕ × (List ℕ × (Bool × Table Content)))
+    (coded× coded_ℕ (coded× (coded_list coded_ℕ) (coded× coded_bool (table_code content.the_row.coded))))
+    (λ s. (s.id, (s.title, (s.hidden, s.table))))
+    (λ p. record { id = p.0; title = p.1.0; hidden = p.1.1.0; table = p.1.1.1 }) (λ _. refl)
+
+abbrev pub book_code : Coded PlaceBook
+book_code =
+    code_by (List ℕ × (List ℕ × (List ℕ × List PlaceSheet)))
+    (coded× (coded_list coded_ℕ) (coded× (coded_list coded_ℕ) (coded× (coded_list coded_ℕ) (coded_list sheet_code))))
+    (λ b. (b.id, (b.title, (b.owner, b.sheets))))
+    (λ p. record { id = p.0; title = p.1.0; owner = p.1.1.0; sheets = p.1.1.1 }) (λ _. refl)

@@ -1,0 +1,4 @@
+pub mod Coded
+pub mod Found
+pub mod ByName
+pub mod World

@@ -1,0 +1,265 @@
+ghost use Rattle.std.specs.Prelude.{◌≡◌, ◌==◌, ◌∷◌, [], map, length, IfOk, IfSome, IsSomeAnd, OnOk, OnErr};
+ghost use Rattle.std.specs.List.{position_from};
+ghost use Rattle.std.specs.Option.{option_copied};
+ghost use Rattle.cell_store.specs.Table.{HasPlace};
+ghost use Rattle.world_model.specs.Sound.{IsContentWithin, place_sheet_with};
+ghost use Rattle.world_model.specs.Writing.{book_put, table_written};
+ghost use Rattle.std.specs.Arc.{arc_value};
+ghost use Rattle.dimension_ops.specs.Found.{ArePlacesOf, content_at};
+ghost use Rattle.dimension_ops.specs.ByName.{WritesByName};
+ghost use Rattle.dimension_ops.specs.World.{opening_book};
+
+use crate::sheet::Sheet;
+use cell_value::{Duplicate, Items, NoMemory, Text};
+use dev_metadata::Metadata;
+use grid_range::Area;
+use named_ranges::Names;
+use protection::Protections;
+use ref_rewrite::Content;
+use std::alloc::{AllocError, Global};
+use std::marker::Model;
+use std::sync::Arc;
+use world_model::{writes_follow, writes_stay_sound};
+
+/// A spreadsheet: its sheets in their order, named ranges, protected ranges and metadata (Sheets API v4
+/// reference, Spreadsheet). A copy shares the sheets that it doesn't write to.
+#[derive(Drop)]
+pub struct Book {
+    alloc: Global,
+    id: Text,
+    title: Text,
+    owner: Text,
+    sheets: Vec<Arc<Sheet>>,
+    ids: Items<u32>,
+    names: Names,
+    protections: Protections,
+    metadata: Metadata,
+}
+
+impl Model for Book {
+    ghost use Rattle.std.specs.Prelude.{◌≡◌, ◌≤◌, [], map, length};
+    ghost use Rattle.std.specs.Arc.{arc_value};
+    ghost use Rattle.world_model.specs.Book.{PlaceBook};
+    ghost use Rattle.world_model.specs.Sound.{IsSound};
+    ghost use Rattle.dimension_ops.specs.Coded.{book_code};
+    ghost use Rattle.dimension_ops.specs.Found.{most_sheets};
+
+    ghost Value = { PlaceBook };
+
+    ghost coded = { book_code };
+
+    ghost view = { λ b. record { id = b.id; title = b.title; owner = b.owner; sheets = map arc_value b.sheets.items } };
+
+    ghost invariant = { λ b. IsSound (record { id = b.id; title = b.title; owner = b.owner; sheets = map arc_value b.sheets.items })
+        × (b.ids ≡ map (λ sheet. sheet.id) (map arc_value b.sheets.items)) × (length b.sheets.items ≤ most_sheets)
+        × (b.names ≡ []) × (b.protections ≡ []) × (b.metadata ≡ []) };
+}
+
+impl Book {
+    /// The spreadsheet that there is in the beginning.
+    ///
+    /// # Errors
+    ///
+    /// [`NoMemory`] where memory runs out.
+    pub(crate) fn opening(alloc: Global) -> Result<Book, NoMemory>
+        ensures { IfOk result (λ book. book ≡ opening_book) }
+    {
+        let title = Text::of(String::from_str(alloc, "Sheet1")?);
+        let sheets = only(alloc, Sheet::empty(alloc, 0, title, 1_000, 26))?;
+        let mut ids = Vec::new(alloc);
+        ids.push(0)?;
+        Ok(Book {
+            alloc,
+            id: Text::of(String::from_str(alloc, "book1")?),
+            title: Text::of(String::from_str(alloc, "book1")?),
+            owner: Text::of(String::from_str(alloc, "owner")?),
+            sheets,
+            ids: Items::of(ids),
+            names: Names::new(alloc),
+            protections: Protections::new(alloc),
+            metadata: Metadata::new(alloc),
+        })
+    }
+
+    /// The spreadsheet's id, lent.
+    pub fn id(&self) -> &Text
+        ensures { result.now ≡ self.now.id }
+    {
+        &self.id
+    }
+
+    /// The title, lent.
+    pub fn title(&self) -> &Text
+        ensures { result.now ≡ self.now.title }
+    {
+        &self.title
+    }
+
+    /// The owner, lent.
+    pub fn owner(&self) -> &Text
+        ensures { result.now ≡ self.now.owner }
+    {
+        &self.owner
+    }
+
+    /// The ids of the sheets, in their order, lent.
+    pub fn sheets(&self) -> &Items<u32>
+        ensures { result.now ≡ map (λ sheet. sheet.id) self.now.sheets }
+    {
+        &self.ids
+    }
+
+    /// The sheet with the id, lent; None where there is none.
+    pub fn sheet(&self, id: u32) -> Option<&Sheet>
+        ensures { option_copied result ≡ place_sheet_with id self.now.sheets }
+    {
+        match self.sheets.iter().find(|sheet| sheet.id() == id) {
+            Some(sheet) => Some(sheet),
+            None => None,
+        }
+    }
+
+    /// The named ranges, lent; no request makes any yet.
+    pub fn names(&self) -> &Names
+        ensures { result.now ≡ [] }
+    {
+        &self.names
+    }
+
+    /// The protected ranges, lent; no request makes any yet.
+    pub fn protections(&self) -> &Protections
+        ensures { result.now ≡ [] }
+    {
+        &self.protections
+    }
+
+    /// The metadata, lent; no request makes any yet.
+    pub fn metadata(&self) -> &Metadata
+        ensures { result.now ≡ [] }
+    {
+        &self.metadata
+    }
+
+    /// What is stored at the place of the sheet with the id, lent; None where nothing is, and where the
+    /// sheet isn't there. Lines are counted from 0.
+    pub fn content(&self, sheet: u32, row: u32, column: u32) -> Option<&Content>
+        ensures { option_copied result ≡ content_at sheet row column self.now.sheets }
+    {
+        self.sheet(sheet)?.content(row, column)
+    }
+
+    /// The places of the area at which something is stored, by rows; none where the sheet isn't there.
+    ///
+    /// # Errors
+    ///
+    /// [`NoMemory`] where memory runs out.
+    pub fn places(&self, area: &Area) -> Result<Items<(u32, u32)>, NoMemory>
+        ensures { IfOk result (ArePlacesOf area.now self.now.sheets) }
+    {
+        match self.sheet(area.sheet) {
+            Some(sheet) => sheet.places(area),
+            None => Ok(Items::of(Vec::new(self.alloc))),
+        }
+    }
+
+    /// Stores the content at the place of the sheet with the id, or empties it; all else stays. Lines are
+    /// counted from 0. The sheet is copied first where another copy of the spreadsheet shares it.
+    ///
+    /// # Errors
+    ///
+    /// [`NoMemory`] where memory runs out; the spreadsheet is as it was.
+    pub fn put(
+        &mut self,
+        sheet: u32,
+        row: u32,
+        column: u32,
+        content: Option<Content>,
+    ) -> Result<(), NoMemory>
+        requires there { IsSomeAnd (place_sheet_with sheet self.old.sheets) (λ found. HasPlace found.table row column) }
+        requires within { IfSome content (IsContentWithin self.old.sheets) }
+        ensures put { OnOk result (self.new ≡ book_put sheet row column content self.old) }
+        ensures names { OnOk result (WritesByName sheet row column content self.old self.new) }
+        ensures unchanged { OnErr result (self.new ≡ self.old) }
+    {
+        writes_stay_sound();
+        writes_follow();
+        if let Some(place) = place_of(&self.sheets, sheet) {
+            put_shared(&mut self.sheets[place], row, column, content)?;
+        }
+        Ok(())
+    }
+}
+
+/// Stores the content at the place of a sheet that copies of a spreadsheet may share: it is copied first
+/// where they do.
+fn put_shared(
+    sheet: &mut Arc<Sheet>,
+    row: u32,
+    column: u32,
+    content: Option<Content>,
+) -> Result<(), NoMemory>
+    requires inside { HasPlace (arc_value sheet.old).table row column }
+    ensures put { OnOk result (arc_value sheet.new ≡ record (arc_value sheet.old)
+        { table = table_written row column content (arc_value sheet.old).table }) }
+    ensures unchanged { OnErr result (arc_value sheet.new ≡ arc_value sheet.old) }
+{
+    match Arc::make_mut(sheet) {
+        Ok(own) => own.put(row, column, content),
+        Err(_) => Err(NoMemory),
+    }
+}
+
+/// The place of the sheet with the id among those.
+fn place_of(sheets: &[Arc<Sheet>], id: u32) -> Option<usize>
+    ensures { result ≡ position_from (λ sheet. sheet.id == id) 0 (map arc_value sheets.now) }
+{
+    sheets.iter().position(|sheet| sheet.id() == id)
+}
+
+/// The sheet as the only one.
+fn only(alloc: Global, sheet: Sheet) -> Result<Vec<Arc<Sheet>>, NoMemory>
+    ensures { IfOk result (λ sheets. map arc_value sheets.items ≡ sheet ∷ []) }
+{
+    let mut sheets = Vec::new(alloc);
+    sheets.push(Arc::new(alloc, sheet)?)?;
+    Ok(sheets)
+}
+
+/// The same sheets once more: nothing in them is copied.
+fn share(sheets: &Vec<Arc<Sheet>>) -> Result<Vec<Arc<Sheet>>, NoMemory>
+    ensures same { IfOk result (λ copy. map arc_value copy.items ≡ map arc_value sheets.now.items) }
+    ensures long { IfOk result (λ copy. length copy.items ≡ length sheets.now.items) }
+{
+    let copy = sheets.clone()?;
+    Ok(copy)
+}
+
+impl Duplicate for Book {
+    /// A copy that shares the sheets: no cell is copied.
+    fn duplicate(&self) -> Result<Book, NoMemory> {
+        Ok(Book {
+            alloc: self.alloc,
+            id: self.id.duplicate()?,
+            title: self.title.duplicate()?,
+            owner: self.owner.duplicate()?,
+            sheets: share(&self.sheets)?,
+            ids: self.ids.duplicate()?,
+            names: self.names.duplicate()?,
+            protections: self.protections.duplicate()?,
+            metadata: self.metadata.duplicate()?,
+        })
+    }
+}
+
+impl Clone for Book {
+    ghost use Rattle.std.specs.Prelude.{◌≡◌};
+
+    ghost is_clone = { λ old new. new ≡ old };
+
+    fn clone(&self) -> Result<Book, AllocError> {
+        match self.duplicate() {
+            Ok(book) => Ok(book),
+            Err(_) => Err(AllocError),
+        }
+    }
+}

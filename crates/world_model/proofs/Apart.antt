@@ -1,0 +1,81 @@
+-- No two spreadsheets stand for the same one.
+use Rattle.std.proofs.Common.{◌≡◌, ℕ, ◌<◌, true, List, [], ◌∷◌, length, suc, refl, sym, ap, subst, ◌∙◌, arith, inl, inr}
+use Rattle.std.specs.Prelude.{Option, None, Some, is_some}
+use Rattle.std.specs.List.{All, AllZip}
+use Rattle.std.proofs.lemmas.Option.{slice_get_cases}
+use Rattle.cell_store.specs.Laws.{TablesByItems}
+use Rattle.cell_store.specs.Table.{HasPlace, item_at}
+use Rattle.ref_rewrite.specs.declared.cell_content.Content.{Content}
+use Rattle.world_model.specs.Book.{NameBook, PlaceBook}
+use Rattle.world_model.specs.Sheet.{NameSheet, PlaceSheet}
+use Rattle.world_model.specs.Sound.{IsSheetSound}
+use Rattle.world_model.specs.StandsFor.{SheetStandsFor, BookStandsFor}
+use Rattle.world_model.proofs.ContentsApart.{same_held}
+
+nothing_there : {T : Type 0} (P : Type 0) (held : Option T) → (is_some held ≡ true → P) → ¬ P → held ≡ None
+nothing_there P None there out = refl
+nothing_there P (Some item) there out = absurd (out (there refl))
+
+module _ (tables : TablesByItems Content) (sheets : List NameSheet) (ones others : List PlaceSheet)
+    (stand : AllZip (SheetStandsFor sheets) ones sheets) (stand' : AllZip (SheetStandsFor sheets) others sheets) where
+  module _ (one other : PlaceSheet) (names : NameSheet) (stands : SheetStandsFor sheets one names)
+      (stands' : SheetStandsFor sheets other names) (sound : IsSheetSound ones one) (sound' : IsSheetSound others other) where
+    -- past the last line there is nothing
+    nothing_past : (row col : ℕ) → ¬ ((row < length names.rows) × (col < length names.cols))
+        → item_at one.table row col ≡ item_at other.table row col
+    nothing_past row col out =
+        nothing_there (HasPlace one.table row col) (item_at one.table row col) (sound.inside row col)
+        (λ there. out (subst (λ n. row < n) stands.rows there.0, subst (λ n. col < n) stands.cols there.1))
+        ∙ sym (nothing_there (HasPlace other.table row col) (item_at other.table row col) (sound'.inside row col)
+        (λ there. out (subst (λ n. row < n) stands'.rows there.0, subst (λ n. col < n) stands'.cols there.1)))
+
+    same_item : (row col : ℕ) → item_at one.table row col ≡ item_at other.table row col
+    same_item row col = elim (slice_get_cases names.rows row).1 [
+      | inl (r, there, at_row, is) ↦ elim (slice_get_cases names.cols col).1 [
+        | inl (c, there', at_col, is') ↦
+            same_held sheets ones others stand stand' (item_at one.table row col) (item_at other.table row col)
+            (sound.within row col) (sound'.within row col)
+            (sym (stands.cells row col r c at_row at_col) ∙ stands'.cells row col r c at_row at_col)
+        | inr (past, none) ↦ nothing_past row col (λ both. absurd (omega (arith, both.1, past)))
+      ]
+      | inr (past, none) ↦ nothing_past row col (λ both. absurd (omega (arith, both.0, past)))
+    ]
+
+    same_sheet : one ≡ other
+    same_sheet =
+        sheet_of_same one other (stands.id ∙ sym stands'.id) (stands.title ∙ sym stands'.title)
+        (stands.hidden ∙ sym stands'.hidden)
+        (tables.same one.table other.table (stands.rows ∙ sym stands'.rows) (stands.cols ∙ sym stands'.cols) same_item)
+      where
+        sheet_of_same : (one other : PlaceSheet) → one.id ≡ other.id → one.title ≡ other.title
+            → one.hidden ≡ other.hidden → one.table ≡ other.table → one ≡ other
+        sheet_of_same one other id title hidden table =
+            ap (λ n. record one { id = n }) id
+            ∙ ap (λ text. record one { id = other.id; title = text }) title
+            ∙ ap (λ b. record other { hidden = b; table = one.table }) hidden
+            ∙ ap (λ found. record other { table = found }) table
+
+  same_sheets : (some more : List PlaceSheet) (names : List NameSheet) → AllZip (SheetStandsFor sheets) some names
+      → AllZip (SheetStandsFor sheets) more names → All (IsSheetSound ones) some → All (IsSheetSound others) more
+      → some ≡ more
+  same_sheets [] [] names all all' sound sound' = refl
+  same_sheets [] (o ∷ os) [] all all' sound sound' = absurd all'
+  same_sheets [] (o ∷ os) (n ∷ ns) all all' sound sound' = absurd all
+  same_sheets (s ∷ ss) [] [] all all' sound sound' = absurd all
+  same_sheets (s ∷ ss) [] (n ∷ ns) all all' sound sound' = absurd all'
+  same_sheets (s ∷ ss) (o ∷ os) [] all all' sound sound' = absurd all
+  same_sheets (s ∷ ss) (o ∷ os) (n ∷ ns) all all' sound sound' =
+      ap (λ sheet. sheet ∷ ss) (same_sheet s o n all.0 all'.0 (sound 0 s (omega arith)) (sound' 0 o (omega arith)))
+      ∙ ap (λ rest. o ∷ rest) (same_sheets ss os ns all.1 all'.1 (λ k d there. sound (suc k) d (omega arith))
+      (λ k d there. sound' (suc k) d (omega arith)))
+
+-- the law
+pub stands_for_apart : TablesByItems Content → (one other : PlaceBook) (names : NameBook) → BookStandsFor one names
+    → BookStandsFor other names → one ≡ other
+stands_for_apart tables one other names stands stands' =
+    ap (λ text. record one { id = text }) (stands.id ∙ sym stands'.id)
+    ∙ ap (λ text. record one { id = other.id; title = text }) (stands.title ∙ sym stands'.title)
+    ∙ ap (λ text. record other { owner = text; sheets = one.sheets }) (stands.owner ∙ sym stands'.owner)
+    ∙ ap (λ sheets. record other { sheets = sheets })
+    (same_sheets tables names.sheets one.sheets other.sheets stands.sheets stands'.sheets one.sheets other.sheets
+    names.sheets stands.sheets stands'.sheets stands.sound.sheets stands'.sound.sheets)

@@ -1,0 +1,265 @@
+-- A change of lines by places stands for the change by names.
+use Rattle.std.proofs.Common.{◌≡◌, ℕ, ◌<◌, refl, sym, ap, subst, ◌∙◌, List, [], ◌∷◌, cond, Bool, true, false, length, ◌&&◌, arith, suc}
+use Rattle.std.specs.Prelude.{Option, None, Some, IfSome, map, slice_get, ◌==◌, Contains}
+use Rattle.std.specs.List.{All, AllZip}
+use Rattle.std.specs.Option.{option_map}
+use Rattle.std.proofs.lemmas.Bool.{eqb-true, eq-eqb, false≢true, and_parts}
+use Rattle.std.proofs.lemmas.Option.{slice_get_within}
+use Rattle.grid_range.specs.Area.{AreaWithin, band_on}
+use Rattle.grid_range.specs.Band.{Within}
+use Rattle.grid_range.specs.Change.{Changes, Fits, count_after, order_change}
+use Rattle.grid_range.specs.Following.{follow}
+use Rattle.grid_range.specs.FollowingLaws.{OrdersStay}
+use Rattle.grid_range.specs.Order.{IsOrder, is_among}
+use Rattle.grid_range.specs.TrackingLaws.{TracksAll, PlacesAll, TracksStayWithin, PlacesStayBelow}
+use Rattle.grid_range.specs.declared.area.Area.{Area}
+use Rattle.grid_range.specs.declared.axis.Axis.{Axis}
+use Rattle.grid_range.specs.declared.axis.Axis.TheVariants.{Rows, Columns}
+use Rattle.grid_range.specs.declared.change.Change.{Change}
+use Rattle.cell_store.specs.Moved.{lines_on, GoesWithLines}
+use Rattle.cell_store.specs.Table.{Table, item_at}
+use Rattle.ref_rewrite.specs.declared.cell_content.Content.{Content}
+use Rattle.world_model.specs.Area.{Orders, band_named}
+use Rattle.world_model.specs.Book.{NameBook, PlaceBook, orders_of, sheet_with}
+use Rattle.world_model.specs.Content.{content_named}
+use Rattle.world_model.specs.LineChange.{LineChange, line_change, sheet_followed, book_changed, name_content_followed}
+use Rattle.world_model.specs.PlaceChange.{SheetChanged, BookChanged}
+use Rattle.world_model.specs.Sheet.{NameSheet, PlaceSheet, lines_of}
+use Rattle.world_model.specs.Sound.{IsSheetSound, IsLineCount, IsContentWithin, place_sheet_with}
+use Rattle.world_model.specs.StandsFor.{SheetStandsFor, BookStandsFor}
+use Rattle.world_model.proofs.Areas.{FollowsOn, area_follows, other_axis}
+use Rattle.world_model.proofs.Bands.{band_follows}
+use Rattle.world_model.proofs.Contents.{AreasFollow, held_follows}
+use Rattle.world_model.proofs.Counts.{count_after_change}
+use Rattle.world_model.proofs.SoundAfter.{changes_stay_sound}
+use Rattle.world_model.proofs.Found.{IsOwn, FoundByName, found_by_name, own_sheets, lines_if_found, as_long, distinct_on}
+use Rattle.world_model.proofs.Lines.{lines_there, listed}
+use Rattle.world_model.proofs.MovedCells.{among_if_listed, listed_if_among}
+use Rattle.world_model.proofs.MovedTables.{IsPlaced, LinesGo, moved_table, same_size, size_moved, holds_where_moved}
+use Rattle.world_model.proofs.Orders.{on_both, order_here, orders_across, orders_elsewhere, followed_id, followed_title, followed_hidden, followed_cells, followed_here, followed_across, followed_elsewhere}
+
+within_on : (axis : Axis) (area : Area) (rows cols : ℕ) → AreaWithin area rows cols
+    → Within (band_on axis area) (lines_on axis rows cols)
+within_on Rows area rows cols within = within.0
+within_on Columns area rows cols within = within.1
+
+-- a cell of some lines is empty unless both are among them
+both_listed : (rows cols : List ℕ) (r c : ℕ) → Contains rows r → Contains cols c
+    → (is_among rows r && is_among cols c) ≡ true
+both_listed rows cols r c row col =
+    ap (λ b. b && is_among cols c) (among_if_listed rows r row) ∙ among_if_listed cols c col
+
+empty_unless : {N : Type 0} (b : Bool) (held : Option N) → ¬ (b ≡ true) → cond b held None ≡ None
+empty_unless true held never = absurd (never refl)
+empty_unless false held never = refl
+
+module _ (tracks : TracksAll) (places : PlacesAll) (orders_stay : OrdersStay) (placed : List PlaceSheet)
+    (sheets : List NameSheet) (all : AllZip (SheetStandsFor sheets) placed sheets) (id : ℕ) (axis : Axis) (count : ℕ)
+    (change : Change) (fresh : List ℕ) (fits : Fits change count) where
+  abbrev to : LineChange
+  to = line_change sheets id axis (order_change change fresh)
+
+  abbrev before : Orders
+  before = orders_of sheets
+
+  abbrev after : Orders
+  after = orders_of (map (sheet_followed to) sheets)
+
+  module _ (made : Changes change count (before id axis) fresh to.order) where
+    new_distinct : IsOrder to.order
+    new_distinct = orders_stay (before id axis) (order_change change fresh) made.distinct made.made
+
+    lines_go : LinesGo change (before id axis) to.order
+    lines_go = record {
+      distinct = new_distinct;
+      places = λ place name at.
+          let there : place < count =
+          subst (λ n. place < n) made.long (slice_get_within (before id axis) place name at) in
+          (places change count place fits there).stands (before id axis) fresh to.order name made at;
+    }
+
+    -- an area of the sheet
+    area_here : (area : Area)
+        → FoundByName sheets (λ sheet. AreaWithin area sheet.table.rows sheet.table.cols) (sheet_with area.sheet sheets)
+        → (area.sheet == id) ≡ true → FollowsOn axis count change to.order to.changed before after area
+    area_here area found same =
+        let one : area.sheet ≡ id = eqb-true area.sheet id same in
+        let long : lines_on axis found.sheet.table.rows found.sheet.table.cols ≡ count =
+        as_long sheets found.sheet found.names axis found.stands
+        ∙ ap length (sym (lines_there sheets area.sheet axis found.names found.is))
+        ∙ ap (λ n. length (before n axis)) one ∙ made.long in
+        let within : Within (band_on axis area) count =
+        subst (Within (band_on axis area)) long
+        (within_on axis area found.sheet.table.rows found.sheet.table.cols found.holds) in
+        record {
+          own = order_here to sheets area.sheet found.names found.is same;
+          across = orders_across to sheets area.sheet;
+          band = ap (λ n. follow to.order to.changed (band_named (before n axis) (band_on axis area))) one
+              ∙ band_follows tracks (before id axis) fresh to.order (band_on axis area) count change fits made within;
+        }
+
+    areas : AreasFollow placed to count change before after
+    areas = record {
+      follow = λ area within. area_follows to count change before after area
+          (area_here area (found_by_name sheets (λ sheet. AreaWithin area sheet.table.rows sheet.table.cols) area.sheet
+          placed sheets all within.0))
+          (orders_elsewhere to sheets area.sheet);
+    }
+
+    -- a sheet
+    module _ (sheet sheet' : PlaceSheet) (names : NameSheet) (stands : SheetStandsFor sheets sheet names)
+        (own : IsOwn sheets names) (sound : IsSheetSound placed sheet) (changed : SheetChanged id axis count change sheet sheet') where
+      abbrev now : NameSheet
+      now = sheet_followed to names
+
+      is_placed : IsPlaced (content_named before) names.rows names.cols names.cells sheet.table
+      is_placed = record {
+        rows_there = stands.rows;
+        cols_there = stands.cols;
+        inside = sound.inside;
+        stored = stands.cells;
+        nowhere_else = stands.nowhere_else;
+      }
+
+      -- the sheet that is changed is the one with the id
+      own_order : (names.id == id) ≡ true → before id axis ≡ lines_of names axis
+      own_order is = ap (λ n. before n axis) (sym (eqb-true names.id id is)) ∙ lines_there sheets names.id axis names own
+
+      is_changed : (names.id == id) ≡ true → GoesWithLines axis change sheet.table changed.moved
+      is_changed is = changed.goes (stands.id ∙ eqb-true names.id id is)
+
+      is_another : (names.id == id) ≡ false → changed.moved ≡ sheet.table
+      is_another is = changed.stays (λ same. false≢true (sym is ∙ eq-eqb names.id id (sym stands.id ∙ same)))
+
+      -- an item that went with its line is what is stored in its cell
+      stored_here : (names.id == id) ≡ true → (row col r c : ℕ) → slice_get now.rows row ≡ Some r
+          → slice_get now.cols col ≡ Some c
+          → names.cells r c ≡ option_map (content_named before) (item_at changed.moved row col)
+      stored_here is = moved_table axis change sheet.table changed.moved (content_named before) names now is_placed
+          (subst (λ order. LinesGo change order (lines_of now axis)) (own_order is)
+          (subst (LinesGo change (before id axis)) (sym (followed_here to names is)) lines_go))
+          (followed_across to names) (is_changed is)
+
+      stored_elsewhere : (names.id == id) ≡ false → (row col r c : ℕ) → slice_get now.rows row ≡ Some r
+          → slice_get now.cols col ≡ Some c
+          → names.cells r c ≡ option_map (content_named before) (item_at changed.moved row col)
+      stored_elsewhere is row col r c at_row at_col =
+          stands.cells row col r c
+          (ap (λ order. slice_get order row) (sym (followed_elsewhere to names is Rows)) ∙ at_row)
+          (ap (λ order. slice_get order col) (sym (followed_elsewhere to names is Columns)) ∙ at_col)
+          ∙ ap (λ table. option_map (content_named before) (item_at table row col)) (sym (is_another is))
+
+      stored : (b : Bool) → (names.id == id) ≡ b → (row col r c : ℕ) → slice_get now.rows row ≡ Some r
+          → slice_get now.cols col ≡ Some c
+          → names.cells r c ≡ option_map (content_named before) (item_at changed.moved row col)
+      stored true is = stored_here is
+      stored false is = stored_elsewhere is
+
+      within : (b : Bool) → (names.id == id) ≡ b → (row col : ℕ)
+          → IfSome (item_at changed.moved row col) (IsContentWithin placed)
+      within true is row col =
+          holds_where_moved change sheet.table changed.moved axis (is_changed is) (IsContentWithin placed) sound.within
+          row col (item_at changed.moved row col) refl
+      within false is row col =
+          subst (λ table. IfSome (item_at table row col) (IsContentWithin placed)) (sym (is_another is)) (sound.within row col)
+
+      cells_follow : (row col r c : ℕ) → slice_get now.rows row ≡ Some r → slice_get now.cols col ≡ Some c
+          → now.cells r c ≡ option_map (content_named after) (item_at sheet'.table row col)
+      cells_follow row col r c at_row at_col =
+          followed_cells to names r c
+          ∙ ap (λ b. cond b (option_map (name_content_followed to) (names.cells r c)) None)
+          (both_listed now.rows now.cols r c (listed now.rows row r at_row) (listed now.cols col c at_col))
+          ∙ ap (option_map (name_content_followed to)) (stored (names.id == id) refl row col r c at_row at_col)
+          ∙ held_follows placed to count change before after areas (item_at changed.moved row col)
+          (within (names.id == id) refl row col)
+          ∙ ap (option_map (content_named after)) (sym (changed.followed.items row col))
+
+      no_others : (r c : ℕ) → ¬ (Contains now.rows r × Contains now.cols c) → now.cells r c ≡ None
+      no_others r c out = followed_cells to names r c
+          ∙ empty_unless (is_among now.rows r && is_among now.cols c)
+          (option_map (name_content_followed to) (names.cells r c))
+          (λ both. let parts = and_parts (is_among now.rows r) (is_among now.cols c) both in
+          out (listed_if_among now.rows r parts.0, listed_if_among now.cols c parts.1))
+
+      moved_long : (b : Bool) → (names.id == id) ≡ b → (on : Axis)
+          → lines_on on changed.moved.rows changed.moved.cols ≡ length (lines_of now on)
+      moved_long true is on =
+          let sizes = size_moved change sheet.table changed.moved axis (is_changed is) in
+          on_both (λ on. lines_on on changed.moved.rows changed.moved.cols ≡ length (lines_of now on)) axis on
+          (sizes.0
+          ∙ ap (count_after change) (as_long sheets sheet names axis stands ∙ ap length (sym (own_order is)) ∙ made.long)
+          ∙ sym (count_after_change change count (before id axis) fresh to.order made)
+          ∙ ap length (sym (followed_here to names is)))
+          (sizes.1 ∙ as_long sheets sheet names (other_axis axis) stands ∙ ap length (sym (followed_across to names)))
+      moved_long false is on =
+          ap (λ (table : Table Content). lines_on on table.rows table.cols) (is_another is)
+          ∙ as_long sheets sheet names on stands ∙ ap length (sym (followed_elsewhere to names is on))
+
+      long : (on : Axis) → lines_on on sheet'.table.rows sheet'.table.cols ≡ length (lines_of now on)
+      long on = same_size on sheet'.table changed.moved changed.followed.rows changed.followed.cols
+          ∙ moved_long (names.id == id) refl on
+
+      distinct : (b : Bool) → (names.id == id) ≡ b → (on : Axis) → IsOrder (lines_of now on)
+      distinct true is on =
+          on_both (λ on. IsOrder (lines_of now on)) axis on
+          (subst IsOrder (sym (followed_here to names is)) new_distinct)
+          (subst IsOrder (sym (followed_across to names)) (distinct_on sheets sheet names (other_axis axis) stands))
+      distinct false is on =
+          subst IsOrder (sym (followed_elsewhere to names is on)) (distinct_on sheets sheet names on stands)
+
+      pub sheet_follows : SheetStandsFor (map (sheet_followed to) sheets) sheet' now
+      sheet_follows = record {
+        id = changed.id ∙ stands.id ∙ sym (followed_id to names);
+        title = changed.title ∙ stands.title ∙ sym (followed_title to names);
+        hidden = changed.hidden ∙ stands.hidden ∙ sym (followed_hidden to names);
+        distinct_rows = distinct (names.id == id) refl Rows;
+        distinct_cols = distinct (names.id == id) refl Columns;
+        rows = long Rows;
+        cols = long Columns;
+        cells = cells_follow;
+        nowhere_else = no_others;
+      }
+
+    sheets_follow : (ones others : List PlaceSheet) (names : List NameSheet) → AllZip (SheetStandsFor sheets) ones names
+        → All (IsOwn sheets) names → All (IsSheetSound placed) ones → AllZip (SheetChanged id axis count change) ones others
+        → AllZip (SheetStandsFor (map (sheet_followed to) sheets)) others (map (sheet_followed to) names)
+    sheets_follow [] [] [] stand own sound changed = tt
+    sheets_follow [] [] (n ∷ ns) stand own sound changed = absurd stand
+    sheets_follow [] (o ∷ os) names stand own sound changed = absurd changed
+    sheets_follow (s ∷ ss) [] names stand own sound changed = absurd changed
+    sheets_follow (s ∷ ss) (o ∷ os) [] stand own sound changed = absurd stand
+    sheets_follow (s ∷ ss) (o ∷ os) (n ∷ ns) stand own sound changed = (
+      sheet_follows s o n stand.0 (own 0 n (omega arith)) (sound 0 s (omega arith)) changed.0,
+      sheets_follow ss os ns stand.1 (λ k d there. own (suc k) d (omega arith))
+          (λ k d there. sound (suc k) d (omega arith)) changed.1,
+    )
+
+-- the law
+module _ (tracks : TracksAll) (places : PlacesAll) (orders_stay : OrdersStay) (within : TracksStayWithin)
+    (below : PlacesStayBelow) where
+  pub changes_follow : (before after : PlaceBook) (names : NameBook) (id : ℕ) (axis : Axis) (count : ℕ) (change : Change)
+      (fresh order : List ℕ) → BookStandsFor before names
+      → Fits change count → IsLineCount axis (count_after change count)
+      → Changes change count (orders_of names.sheets id axis) fresh order
+      → BookChanged id axis count change before after
+      → BookStandsFor after (book_changed id axis (order_change change fresh) names)
+  changes_follow before after names id axis count change fresh order stands fits room changes changed = record {
+    sound = changes_stay_sound within below before after id axis count change stands.sound fits room
+        (subst (λ n. IfSome (place_sheet_with id before.sheets)
+        (λ sheet. lines_on axis sheet.table.rows sheet.table.cols ≡ n)) changes.long
+        (lines_if_found before.sheets names.sheets id axis stands.sheets))
+        changed;
+    id = changed.id ∙ stands.id;
+    title = changed.title ∙ stands.title;
+    owner = changed.owner ∙ stands.owner;
+    sheets = sheets_follow tracks places orders_stay before.sheets names.sheets stands.sheets id axis count change fresh fits
+        (record {
+          distinct = changes.distinct;
+          long = changes.long;
+          inserts = changes.inserts;
+          made = changes.made;
+          result = refl;
+        })
+        before.sheets after.sheets names.sheets stands.sheets
+        (own_sheets before.sheets names.sheets stands.sheets stands.sound.distinct) stands.sound.sheets changed.sheets;
+  }

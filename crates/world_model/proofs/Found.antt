@@ -1,0 +1,152 @@
+-- A sheet that is found by its id, among those that a program keeps and among those that these stand for.
+use Rattle.std.proofs.Common.{◌≡◌, ◌≢◌, ℕ, ◌<◌, zero, suc, refl, sym, ap, ◌∙◌, List, [], ◌∷◌, cond, Bool, true, false, length, get_or, arith}
+use Rattle.std.specs.Prelude.{Option, Some, IfSome, IsSomeAnd, ◌==◌}
+use Rattle.std.specs.List.{All, AllPairs, AllZip}
+use Rattle.std.proofs.lemmas.Bool.{eqb-true, eq-eqb, false≢true, false_from_ne_true}
+use Rattle.grid_range.specs.Order.{IsOrder}
+use Rattle.grid_range.specs.declared.axis.Axis.{Axis}
+use Rattle.grid_range.specs.declared.axis.Axis.TheVariants.{Rows, Columns}
+use Rattle.cell_store.specs.Moved.{lines_on}
+use Rattle.world_model.specs.Book.{sheet_with, orders_of}
+use Rattle.world_model.specs.Sheet.{NameSheet, PlaceSheet, lines_of}
+use Rattle.world_model.specs.Sound.{place_sheet_with}
+use Rattle.world_model.specs.StandsFor.{SheetStandsFor}
+use Rattle.world_model.proofs.Lines.{lines_there}
+
+-- the sheet is the one that is found by its id
+abbrev pub IsOwn : List NameSheet → NameSheet → Type 0
+IsOwn sheets sheet = sheet_with sheet.id sheets ≡ Some sheet
+
+found_here : (b : Bool) (sheet : NameSheet) (rest : Option NameSheet) → b ≡ true → cond b (Some sheet) rest ≡ Some sheet
+found_here true sheet rest is = refl
+found_here false sheet rest is = absurd (false≢true is)
+
+found_behind : (b : Bool) (first sheet : NameSheet) (rest : Option NameSheet) → b ≡ false → rest ≡ Some sheet
+    → cond b (Some first) rest ≡ Some sheet
+found_behind true first sheet rest is found = absurd (false≢true (sym is))
+found_behind false first sheet rest is found = found
+
+-- where no two have one id, each is found
+pub each_own : (sheets : List NameSheet) → AllPairs (λ one other. one.id ≢ other.id) sheets
+    → All (IsOwn sheets) sheets
+each_own [] distinct k d there = absurd (omega arith)
+each_own (s ∷ ss) distinct zero d there = found_here (s.id == s.id) s (sheet_with s.id ss) (eq-eqb s.id s.id refl)
+each_own (s ∷ ss) distinct (suc k) d there =
+    let sheet = get_or ss k d in
+    found_behind (s.id == sheet.id) s sheet (sheet_with sheet.id ss)
+    (false_from_ne_true (s.id == sheet.id) (λ is. distinct 0 (suc k) d (omega arith) there (eqb-true s.id sheet.id is)))
+    (each_own ss (λ i j e below inside. distinct (suc i) (suc j) e (omega arith) (omega arith)) k d (omega arith))
+
+-- a sheet that is found by places, and the one that it stands for
+pub record FoundByName (sheets : List NameSheet) (P : PlaceSheet → Type 0) (found : Option NameSheet) : Type 0 where
+  pub sheet : PlaceSheet
+  pub names : NameSheet
+  pub is : found ≡ Some names
+  pub stands : SheetStandsFor sheets sheet names
+  pub holds : P sheet
+
+module _ (sheets : List NameSheet) where
+  abbrev StandFor : List PlaceSheet → List NameSheet → Type 0
+  StandFor = AllZip (SheetStandsFor sheets)
+
+  pub same_count : (some : List PlaceSheet) (names : List NameSheet) → StandFor some names → length some ≡ length names
+  same_count [] [] all = refl
+  same_count [] (n ∷ ns) all = absurd all
+  same_count (s ∷ ss) [] all = absurd all
+  same_count (s ∷ ss) (n ∷ ns) all = ap suc (same_count ss ns all.1)
+
+  same_id : (some : List PlaceSheet) (names : List NameSheet) → StandFor some names → (k : ℕ) (d : PlaceSheet)
+      (e : NameSheet) → k < length names → (get_or some k d).id ≡ (get_or names k e).id
+  same_id [] [] all k d e there = absurd (omega arith)
+  same_id [] (n ∷ ns) all k d e there = absurd all
+  same_id (s ∷ ss) [] all k d e there = absurd all
+  same_id (s ∷ ss) (n ∷ ns) all zero d e there = all.0.id
+  same_id (s ∷ ss) (n ∷ ns) all (suc k) d e there = same_id ss ns all.1 k d e (omega arith)
+
+  -- what sheets with distinct ids stand for has distinct ids
+  names_distinct : (some : List PlaceSheet) (names : List NameSheet) → StandFor some names
+      → AllPairs (λ one other. one.id ≢ other.id) some → AllPairs (λ one other. one.id ≢ other.id) names
+  names_distinct [] [] all distinct i j e less there = absurd (omega arith)
+  names_distinct [] (n ∷ ns) all distinct i j e less there = absurd all
+  names_distinct (s ∷ ss) [] all distinct i j e less there = absurd all
+  names_distinct (s ∷ ss) (n ∷ ns) all distinct i j e less there =
+      let long = same_count (s ∷ ss) (n ∷ ns) all in
+      λ same. distinct i j s less (omega (arith, long))
+      (same_id (s ∷ ss) (n ∷ ns) all i s e (omega arith) ∙ same ∙ sym (same_id (s ∷ ss) (n ∷ ns) all j s e there))
+
+  module _ (P : PlaceSheet → Type 0) where
+    found_first : (b b' : Bool) (sheet : PlaceSheet) (names : NameSheet) (rest : Option PlaceSheet)
+        (rest' : Option NameSheet) → b' ≡ b → SheetStandsFor sheets sheet names
+        → (IsSomeAnd rest P → FoundByName sheets P rest')
+        → IsSomeAnd (cond b (Some sheet) rest) P → FoundByName sheets P (cond b' (Some names) rest')
+    found_first true true sheet names rest rest' same stands behind holds = record {
+      sheet = sheet;
+      names = names;
+      is = refl;
+      stands = stands;
+      holds = holds;
+    }
+    found_first true false sheet names rest rest' same stands behind holds = absurd (false≢true same)
+    found_first false true sheet names rest rest' same stands behind holds = absurd (false≢true (sym same))
+    found_first false false sheet names rest rest' same stands behind holds = behind holds
+
+    pub found_by_name : (id : ℕ) (some : List PlaceSheet) (names : List NameSheet) → StandFor some names
+        → IsSomeAnd (place_sheet_with id some) P → FoundByName sheets P (sheet_with id names)
+    found_by_name id [] [] all holds = absurd holds
+    found_by_name id [] (n ∷ ns) all holds = absurd all
+    found_by_name id (s ∷ ss) [] all holds = absurd all
+    found_by_name id (s ∷ ss) (n ∷ ns) all holds =
+        found_first (s.id == id) (n.id == id) s n (place_sheet_with id ss) (sheet_with id ns)
+        (ap (λ m. m == id) (sym all.0.id)) all.0 (found_by_name id ss ns all.1) holds
+
+  -- what holds of each that stands for the one that is found by names holds of the one that is found by places
+  holds_first : (P : PlaceSheet → Type 0) (b b' : Bool) (sheet : PlaceSheet) (names : NameSheet)
+      (rest : Option PlaceSheet) (rest' : Option NameSheet) → b' ≡ b → SheetStandsFor sheets sheet names
+      → (((one : PlaceSheet) (other : NameSheet) → rest' ≡ Some other → SheetStandsFor sheets one other → P one)
+      → IfSome rest P)
+      → ((one : PlaceSheet) (other : NameSheet) → cond b' (Some names) rest' ≡ Some other
+      → SheetStandsFor sheets one other → P one)
+      → IfSome (cond b (Some sheet) rest) P
+  holds_first P true true sheet names rest rest' same stands behind each = each sheet names refl stands
+  holds_first P true false sheet names rest rest' same stands behind each = absurd (false≢true same)
+  holds_first P false true sheet names rest rest' same stands behind each = absurd (false≢true (sym same))
+  holds_first P false false sheet names rest rest' same stands behind each = behind each
+
+  pub holds_if_found : (P : PlaceSheet → Type 0) (id : ℕ) (some : List PlaceSheet) (names : List NameSheet)
+      → StandFor some names
+      → ((one : PlaceSheet) (other : NameSheet) → sheet_with id names ≡ Some other → SheetStandsFor sheets one other
+      → P one)
+      → IfSome (place_sheet_with id some) P
+  holds_if_found P id [] [] all each = tt
+  holds_if_found P id [] (n ∷ ns) all each = absurd all
+  holds_if_found P id (s ∷ ss) [] all each = absurd all
+  holds_if_found P id (s ∷ ss) (n ∷ ns) all each =
+      holds_first P (s.id == id) (n.id == id) s n (place_sheet_with id ss) (sheet_with id ns)
+      (ap (λ m. m == id) (sym all.0.id)) all.0 (holds_if_found P id ss ns all.1) each
+
+  -- a sheet that stands for another has as many lines
+  pub as_long : (sheet : PlaceSheet) (names : NameSheet) (axis : Axis) → SheetStandsFor sheets sheet names
+      → lines_on axis sheet.table.rows sheet.table.cols ≡ length (lines_of names axis)
+  as_long sheet names Rows stands = stands.rows
+  as_long sheet names Columns stands = stands.cols
+
+  pub distinct_on : (sheet : PlaceSheet) (names : NameSheet) (axis : Axis) → SheetStandsFor sheets sheet names
+      → IsOrder (lines_of names axis)
+  distinct_on sheet names Rows stands = stands.distinct_rows
+  distinct_on sheet names Columns stands = stands.distinct_cols
+
+-- each that the sheets stand for is found by its id
+pub own_sheets : (some : List PlaceSheet) (names : List NameSheet) → AllZip (SheetStandsFor names) some names
+    → AllPairs (λ one other. one.id ≢ other.id) some → All (IsOwn names) names
+own_sheets some names all distinct = each_own names (names_distinct names some names all distinct)
+
+-- the lines of the sheet with the id are as many as the one that is found by places has
+pub lines_if_found : (some : List PlaceSheet) (names : List NameSheet) (id : ℕ) (axis : Axis)
+    → AllZip (SheetStandsFor names) some names
+    → IfSome (place_sheet_with id some)
+    (λ sheet. lines_on axis sheet.table.rows sheet.table.cols ≡ length (orders_of names id axis))
+lines_if_found some names id axis all =
+    holds_if_found names
+    (λ sheet. lines_on axis sheet.table.rows sheet.table.cols ≡ length (orders_of names id axis)) id some names all
+    (λ one other found stands.
+    as_long names one other axis stands ∙ ap length (sym (lines_there names id axis other found)))

@@ -1,0 +1,322 @@
+-- What always holds of a spreadsheet holds after a change of lines.
+use Rattle.std.proofs.Common.{◌≡◌, ◌≢◌, ℕ, ◌<◌, zero, suc, refl, sym, ap, subst, ◌∙◌, List, [], ◌∷◌, cond, Bool, true, false, length, get_or, arith}
+use Rattle.std.specs.Prelude.{Option, None, Some, IfSome, IsSomeAnd, is_some, map, ◌==◌}
+use Rattle.std.specs.List.{All, AllPairs, AllZip}
+use Rattle.std.specs.Option.{option_map, option_map_or}
+use Rattle.std.proofs.lemmas.Bool.{eqb-true, eq-eqb, false≢true}
+use Rattle.std.proofs.lemmas.List.Elements.{AllZip-get_or}
+use Rattle.grid_range.specs.Area.{AreaWithin, band_on, with_band}
+use Rattle.grid_range.specs.Band.{Within}
+use Rattle.grid_range.specs.Change.{Fits, count_after}
+use Rattle.grid_range.specs.Tracking.{area_followed, place_of, track_of}
+use Rattle.grid_range.specs.TrackingLaws.{TracksStayWithin, PlacesStayBelow}
+use Rattle.grid_range.specs.declared.area.Area.{Area}
+use Rattle.grid_range.specs.declared.axis.Axis.{Axis}
+use Rattle.grid_range.specs.declared.axis.Axis.TheVariants.{Rows, Columns}
+use Rattle.grid_range.specs.declared.band.Band.{Band}
+use Rattle.grid_range.specs.declared.change.Change.{Change}
+use Rattle.cell_store.specs.Moved.{lines_on, GoesWithLines}
+use Rattle.cell_store.specs.Table.{Table, HasItemsInside, HasPlace, item_at}
+use Rattle.ref_rewrite.specs.Following.{piece_followed}
+use Rattle.ref_rewrite.specs.declared.cell_content.Content.{Content}
+use Rattle.ref_rewrite.specs.declared.cell_content.Content.TheVariants as content
+use Rattle.ref_rewrite.specs.declared.pieces.Piece.{Piece}
+use Rattle.ref_rewrite.specs.declared.pieces.Piece.TheVariants as piece
+use Rattle.ref_rewrite.specs.declared.reference.Ref.{Ref as Reference}
+use Rattle.world_model.specs.Book.{PlaceBook}
+use Rattle.world_model.specs.PlaceChange.{SheetChanged, BookChanged, content_followed}
+use Rattle.world_model.specs.Sheet.{PlaceSheet}
+use Rattle.world_model.specs.Sound.{IsSheetSound, IsSound, IsLineCount, HasNotation, IsContentWithin, IsPieceWithin, IsAreaWithin, place_sheet_with}
+use Rattle.world_model.proofs.Areas.{other_axis}
+use Rattle.world_model.proofs.Forms.{notation_kept}
+use Rattle.world_model.proofs.Kept.{KeepsTitle, only_one, found_both, found_too, still_found, visible_stays, distinct_stay, titles_stay, there_before}
+use Rattle.world_model.proofs.MovedTables.{row_came, col_came, same_size, size_moved, holds_where_moved}
+use Rattle.world_model.proofs.Orders.{on_both}
+
+-- items stand in the sheet where their lines went
+module _ {T : Type 0} (below : PlacesStayBelow) (change : Change) (count : ℕ) (fits : Fits change count)
+    (before moved : Table T) (inside : HasItemsInside before) where
+  place_below : (old place : ℕ) → old < count → place_of change old ≡ Some place → place < count_after change count
+  place_below old place there is =
+      subst (λ found. IfSome found (λ place. place < count_after change count)) is (below change count old fits there)
+
+  inside_on : (axis : Axis) → GoesWithLines axis change before moved → lines_on axis before.rows before.cols ≡ count
+      → (row col : ℕ) (item : T) → item_at moved row col ≡ Some item → HasPlace moved row col
+  inside_on Rows goes long row col item is =
+      let sizes = size_moved change before moved Rows goes in
+      let came = row_came change before moved row col item ((goes.items row col item).0 is) in
+      let there = inside came.0 col (ap is_some came.2) in (
+        subst (λ n. row < n) (sym (sizes.0 ∙ ap (count_after change) long))
+            (place_below came.0 row (subst (λ n. came.0 < n) long there.0) came.1),
+        subst (λ n. col < n) (sym sizes.1) there.1,
+      )
+  inside_on Columns goes long row col item is =
+      let sizes = size_moved change before moved Columns goes in
+      let came = col_came change before moved row col item ((goes.items row col item).0 is) in
+      let there = inside row came.0 (ap is_some came.2) in (
+        subst (λ n. row < n) (sym sizes.1) there.0,
+        subst (λ n. col < n) (sym (sizes.0 ∙ ap (count_after change) long))
+            (place_below came.0 col (subst (λ n. came.0 < n) long there.1) came.1),
+      )
+
+  inside_held : (axis : Axis) → GoesWithLines axis change before moved → lines_on axis before.rows before.cols ≡ count
+      → (row col : ℕ) (held : Option T) → item_at moved row col ≡ held → is_some held ≡ true → HasPlace moved row col
+  inside_held axis goes long row col None is some = absurd (false≢true some)
+  inside_held axis goes long row col (Some item) is some = inside_on axis goes long row col item is
+
+  inside_moved : (axis : Axis) → GoesWithLines axis change before moved → lines_on axis before.rows before.cols ≡ count
+      → HasItemsInside moved
+  inside_moved axis goes long row col some = inside_held axis goes long row col (item_at moved row col) refl some
+
+-- the bands of an area on both axes
+record BandsWithin (axis : Axis) (on across : Band) (table : Table Content) : Type 0 where
+  pub here : Within on (lines_on axis table.rows table.cols)
+  pub there : Within across (lines_on (other_axis axis) table.rows table.cols)
+
+with_band_within : (axis : Axis) (area : Area) (band : Band) (sheets : List PlaceSheet)
+    → IsSomeAnd (place_sheet_with area.sheet sheets)
+    (λ sheet. BandsWithin axis band (band_on (other_axis axis) area) sheet.table)
+    → HasNotation (with_band axis area band).rows (with_band axis area band).cols
+    → IsAreaWithin sheets (with_band axis area band)
+with_band_within Rows area band sheets found has = (
+  found_too (λ sheet. BandsWithin Rows band area.cols sheet.table)
+      (λ sheet. Within band sheet.table.rows × Within area.cols sheet.table.cols)
+      (λ sheet both. (both.here, both.there)) (place_sheet_with area.sheet sheets) found,
+  has,
+)
+with_band_within Columns area band sheets found has = (
+  found_too (λ sheet. BandsWithin Columns band area.rows sheet.table)
+      (λ sheet. Within area.rows sheet.table.rows × Within band sheet.table.cols)
+      (λ sheet both. (both.there, both.here)) (place_sheet_with area.sheet sheets) found,
+  has,
+)
+
+bands_within : (axis : Axis) (area : Area) (table : Table Content) → AreaWithin area table.rows table.cols
+    → BandsWithin axis (band_on axis area) (band_on (other_axis axis) area) table
+bands_within Rows area table within = record { here = within.0; there = within.1 }
+bands_within Columns area table within = record { here = within.1; there = within.0 }
+
+can_have : {sheets : List PlaceSheet} (sheet : PlaceSheet) (on : Axis) → IsSheetSound sheets sheet
+    → IsLineCount on (lines_on on sheet.table.rows sheet.table.cols)
+can_have sheet Rows sound = sound.rows
+can_have sheet Columns sound = sound.cols
+
+some_of_either : {A : Type 0} (P : A → Type 0) (b : Bool) (one other : Option A) → (b ≡ true → IfSome one P)
+    → (b ≡ false → IfSome other P) → IfSome (cond b one other) P
+some_of_either P true one other here elsewhere = here refl
+some_of_either P false one other here elsewhere = elsewhere refl
+
+goes_keeps : (id : ℕ) (axis : Axis) (count : ℕ) (change : Change) (one other : PlaceSheet)
+    → SheetChanged id axis count change one other → KeepsTitle one other
+goes_keeps id axis count change one other goes = record { id = goes.id; title = goes.title; hidden = goes.hidden }
+
+module _ (within : TracksStayWithin) (below : PlacesStayBelow) (befores afters : List PlaceSheet) (id : ℕ) (axis : Axis)
+    (count : ℕ) (change : Change) (fits : Fits change count)
+    (all : AllZip (SheetChanged id axis count change) befores afters)
+    (distinct : AllPairs (λ one other. one.id ≢ other.id) befores)
+    (long : IfSome (place_sheet_with id befores) (λ sheet. lines_on axis sheet.table.rows sheet.table.cols ≡ count))
+    (room : IsLineCount axis (count_after change count)) where
+  abbrev Goes : PlaceSheet → PlaceSheet → Type 0
+  Goes = SheetChanged id axis count change
+
+  keeps : (one other : PlaceSheet) → Goes one other → KeepsTitle one other
+  keeps = goes_keeps id axis count change
+
+  -- the sheet that is changed has the changed number of lines on the axis, and all lines across
+  size_here : (one other : PlaceSheet) → Goes one other → one.id ≡ id
+      → (lines_on axis other.table.rows other.table.cols ≡ count_after change (lines_on axis one.table.rows one.table.cols))
+      × (lines_on (other_axis axis) other.table.rows other.table.cols
+      ≡ lines_on (other_axis axis) one.table.rows one.table.cols)
+  size_here one other goes same =
+      let sizes = size_moved change one.table goes.moved axis (goes.goes same) in (
+        same_size axis other.table goes.moved goes.followed.rows goes.followed.cols ∙ sizes.0,
+        same_size (other_axis axis) other.table goes.moved goes.followed.rows goes.followed.cols ∙ sizes.1,
+      )
+
+  area_elsewhere : (area : Area) → IsAreaWithin befores area → (area.sheet == id) ≡ false → IsAreaWithin afters area
+  area_elsewhere area inside is = (
+    still_found Goes keeps area.sheet (λ sheet. AreaWithin area sheet.table.rows sheet.table.cols)
+        (λ sheet. AreaWithin area sheet.table.rows sheet.table.cols)
+        (λ one other goes same held.
+        let stays : goes.moved ≡ one.table =
+        goes.stays (λ own. false≢true (sym is ∙ eq-eqb area.sheet id (sym (eqb-true one.id area.sheet same) ∙ own))) in (
+          subst (Within area.rows) (sym (goes.followed.rows ∙ ap (λ (table : Table Content). table.rows) stays)) held.0,
+          subst (Within area.cols) (sym (goes.followed.cols ∙ ap (λ (table : Table Content). table.cols) stays)) held.1,
+        ))
+        befores afters all inside.0,
+    inside.1,
+  )
+
+  long_too : (area : Area) → (area.sheet == id) ≡ true
+      → IfSome (place_sheet_with area.sheet befores) (λ sheet. lines_on axis sheet.table.rows sheet.table.cols ≡ count)
+  long_too area is =
+      subst (λ n. IfSome (place_sheet_with n befores)
+      (λ sheet. lines_on axis sheet.table.rows sheet.table.cols ≡ count)) (sym (eqb-true area.sheet id is)) long
+
+  -- an area of the sheet that is changed, and the number of that sheet's lines
+  area_and_lines : (area : Area) → IsAreaWithin befores area → (area.sheet == id) ≡ true
+      → IsSomeAnd (place_sheet_with area.sheet befores)
+      (λ sheet. AreaWithin area sheet.table.rows sheet.table.cols
+      × (lines_on axis sheet.table.rows sheet.table.cols ≡ count))
+  area_and_lines area inside is =
+      found_both (λ sheet. AreaWithin area sheet.table.rows sheet.table.cols)
+      (λ sheet. lines_on axis sheet.table.rows sheet.table.cols ≡ count) (place_sheet_with area.sheet befores) inside.0
+      (long_too area is)
+
+  band_here : (area : Area) → IsAreaWithin befores area → (area.sheet == id) ≡ true → (band : Band)
+      → Within band (count_after change count) × HasNotation (with_band axis area band).rows (with_band axis area band).cols
+      → IsAreaWithin afters (with_band axis area band)
+  band_here area inside is band held =
+      with_band_within axis area band afters
+      (still_found Goes keeps area.sheet
+      (λ sheet. AreaWithin area sheet.table.rows sheet.table.cols × (lines_on axis sheet.table.rows sheet.table.cols ≡ count))
+      (λ sheet. BandsWithin axis band (band_on (other_axis axis) area) sheet.table)
+      (λ one other goes same both.
+      let sizes = size_here one other goes (eqb-true one.id area.sheet same ∙ eqb-true area.sheet id is) in
+      record {
+        here = subst (Within band) (sym (sizes.0 ∙ ap (count_after change) both.1)) held.0;
+        there = subst (Within (band_on (other_axis axis) area)) (sym sizes.1)
+            (bands_within axis area one.table both.0).there;
+      })
+      befores afters all
+      (area_and_lines area inside is))
+      held.1
+
+  areas_here : (area : Area) → IsAreaWithin befores area → (area.sheet == id) ≡ true → (band : Option Band)
+      → IfSome band (λ found. Within found (count_after change count))
+      → IfSome band (λ found. HasNotation (with_band axis area found).rows (with_band axis area found).cols)
+      → IfSome (option_map (with_band axis area) band) (IsAreaWithin afters)
+  areas_here area inside is None held has = tt
+  areas_here area inside is (Some band) held has = band_here area inside is band (held, has)
+
+  track_within : (area : Area) → IsAreaWithin befores area → (area.sheet == id) ≡ true
+      → IfSome (track_of (band_on axis area) count change) (λ found. Within found (count_after change count))
+  track_within area inside is = within (band_on axis area) count change fits
+      (one_within (place_sheet_with area.sheet befores)
+      (area_and_lines area inside is))
+    where
+      one_within : (found : Option PlaceSheet)
+          → IsSomeAnd found (λ sheet. AreaWithin area sheet.table.rows sheet.table.cols
+          × (lines_on axis sheet.table.rows sheet.table.cols ≡ count))
+          → Within (band_on axis area) count
+      one_within None both = absurd both
+      one_within (Some sheet) both =
+          subst (Within (band_on axis area)) both.1 (bands_within axis area sheet.table both.0).here
+
+  area_stays : (area : Area) → IsAreaWithin befores area
+      → IfSome (area_followed id axis count change area) (IsAreaWithin afters)
+  area_stays area inside =
+      some_of_either (IsAreaWithin afters) (area.sheet == id)
+      (option_map (with_band axis area) (track_of (band_on axis area) count change)) (Some area)
+      (λ is. areas_here area inside is (track_of (band_on axis area) count change) (track_within area inside is)
+      (notation_kept axis area count change inside.1))
+      (area_elsewhere area inside)
+
+  -- a reference that follows is within, and one that is lost is no reference
+  reference_stays : (reference : Reference) (area : Option Area) → IfSome area (IsAreaWithin afters)
+      → IsPieceWithin afters (option_map_or (λ found. piece.Ref (record reference { area = found })) area piece.Lost)
+  reference_stays reference None held = tt
+  reference_stays reference (Some area) held = held
+
+  piece_stays : (one : Piece) → IsPieceWithin befores one
+      → IsPieceWithin afters (piece_followed id axis count change one)
+  piece_stays (piece.Text text) inside = tt
+  piece_stays (piece.Word word) inside = tt
+  piece_stays (piece.Ref reference) inside =
+      reference_stays reference (area_followed id axis count change reference.area) (area_stays reference.area inside)
+  piece_stays piece.Lost inside = tt
+
+  pieces_stay : (pieces : List Piece) → All (IsPieceWithin befores) pieces
+      → All (IsPieceWithin afters) (map (piece_followed id axis count change) pieces)
+  pieces_stay [] inside k d there = absurd (omega arith)
+  pieces_stay (one ∷ pieces) inside zero d there = piece_stays one (inside 0 one (omega arith))
+  pieces_stay (one ∷ pieces) inside (suc k) d there =
+      pieces_stay pieces (λ j e below. inside (suc j) e (omega arith)) k d (omega arith)
+
+  content_stays : (one : Content) → IsContentWithin befores one
+      → IsContentWithin afters (content_followed id axis count change one)
+  content_stays (content.Number number) inside = tt
+  content_stays (content.Text text) inside = tt
+  content_stays (content.Truth truth) inside = tt
+  content_stays (content.Formula formula) inside = pieces_stay formula.pieces inside
+
+  held_stays : (held : Option Content) → IfSome held (IsContentWithin befores)
+      → IfSome (option_map (content_followed id axis count change) held) (IsContentWithin afters)
+  held_stays None inside = tt
+  held_stays (Some one) inside = content_stays one inside
+
+  is_some-followed : (held : Option Content) → is_some (option_map (content_followed id axis count change) held) ≡ is_some held
+  is_some-followed None = refl
+  is_some-followed (Some one) = refl
+
+  -- a sheet
+  module _ (one other : PlaceSheet) (goes : Goes one other) (sound : IsSheetSound befores one)
+      (own : one.id ≡ id → lines_on axis one.table.rows one.table.cols ≡ count) where
+    moved_inside : (b : Bool) → (one.id == id) ≡ b → HasItemsInside goes.moved
+    moved_inside true is =
+        let same = eqb-true one.id id is in
+        inside_moved below change count fits one.table goes.moved sound.inside axis (goes.goes same) (own same)
+    moved_inside false is =
+        subst HasItemsInside (sym (goes.stays (λ same. false≢true (sym is ∙ eq-eqb one.id id same)))) sound.inside
+
+    moved_within : (b : Bool) → (one.id == id) ≡ b → (row col : ℕ)
+        → IfSome (item_at goes.moved row col) (IsContentWithin befores)
+    moved_within true is row col =
+        holds_where_moved change one.table goes.moved axis (goes.goes (eqb-true one.id id is)) (IsContentWithin befores)
+        sound.within row col (item_at goes.moved row col) refl
+    moved_within false is row col =
+        subst (λ table. IfSome (item_at table row col) (IsContentWithin befores))
+        (sym (goes.stays (λ same. false≢true (sym is ∙ eq-eqb one.id id same)))) (sound.within row col)
+
+    -- it has as many lines as a sheet can have
+    lines_stay : (b : Bool) → (one.id == id) ≡ b → (on : Axis)
+        → IsLineCount on (lines_on on other.table.rows other.table.cols)
+    lines_stay true is on =
+        let same = eqb-true one.id id is in
+        let sizes = size_here one other goes same in
+        on_both (λ on. IsLineCount on (lines_on on other.table.rows other.table.cols)) axis on
+        (subst (IsLineCount axis) (sym (sizes.0 ∙ ap (count_after change) (own same))) room)
+        (subst (IsLineCount (other_axis axis)) (sym sizes.1) (can_have one (other_axis axis) sound))
+    lines_stay false is on =
+        let stays : goes.moved ≡ one.table = goes.stays (λ same. false≢true (sym is ∙ eq-eqb one.id id same)) in
+        subst (IsLineCount on)
+        (sym (same_size on other.table goes.moved goes.followed.rows goes.followed.cols
+        ∙ ap (λ (table : Table Content). lines_on on table.rows table.cols) stays))
+        (can_have one on sound)
+
+    sheet_stays : IsSheetSound afters other
+    sheet_stays = record {
+      titled = subst (λ title. 0 < length title) (sym goes.title) sound.titled;
+      rows = lines_stay (one.id == id) refl Rows;
+      cols = lines_stay (one.id == id) refl Columns;
+      inside = λ row col some.
+          let held : is_some (item_at goes.moved row col) ≡ true =
+          sym (is_some-followed (item_at goes.moved row col)) ∙ ap is_some (sym (goes.followed.items row col)) ∙ some in
+          let there = moved_inside (one.id == id) refl row col held in (
+            subst (λ n. row < n) (sym goes.followed.rows) there.0,
+            subst (λ n. col < n) (sym goes.followed.cols) there.1,
+          );
+      within = λ row col.
+          subst (λ held. IfSome held (IsContentWithin afters)) (sym (goes.followed.items row col))
+          (held_stays (item_at goes.moved row col) (moved_within (one.id == id) refl row col));
+    }
+
+  sheets_stay : All (IsSheetSound befores) befores → All (IsSheetSound afters) afters
+  sheets_stay sound k d there =
+      let inside = there_before Goes keeps befores afters all k there in
+      sheet_stays (get_or befores k d) (get_or afters k d) (AllZip-get_or Goes befores afters k d d all inside)
+      (sound k d inside)
+      (only_one id (λ sheet. lines_on axis sheet.table.rows sheet.table.cols ≡ count) befores distinct long k d inside)
+
+-- the law, where the sheet may be there
+pub changes_stay_sound : TracksStayWithin → PlacesStayBelow → (before after : PlaceBook) (id : ℕ) (axis : Axis) (count : ℕ)
+    (change : Change) → IsSound before → Fits change count → IsLineCount axis (count_after change count)
+    → IfSome (place_sheet_with id before.sheets) (λ sheet. lines_on axis sheet.table.rows sheet.table.cols ≡ count)
+    → BookChanged id axis count change before after → IsSound after
+changes_stay_sound within below before after id axis count change sound fits room long changed = record {
+  distinct = distinct_stay (SheetChanged id axis count change) (goes_keeps id axis count change) before.sheets after.sheets changed.sheets sound.distinct;
+  titles = titles_stay (SheetChanged id axis count change) (goes_keeps id axis count change) before.sheets after.sheets changed.sheets sound.titles;
+  visible = visible_stays (SheetChanged id axis count change) (goes_keeps id axis count change) before.sheets after.sheets changed.sheets ∙ sound.visible;
+  sheets = sheets_stay within below before.sheets after.sheets id axis count change fits changed.sheets sound.distinct long
+      room sound.sheets;
+}

@@ -1,0 +1,27 @@
+-- A spreadsheet by the names of its lines, and by their places: the `Spreadsheet` of the Google Sheets API v4.
+use Rattle.std.specs.Prelude.{ℕ, List, [], Option, ◌==◌}
+use Rattle.std.specs.List.{find}
+use Rattle.std.specs.Option.{option_map_or}
+use Rattle.world_model.specs.Area.{Orders}
+use Rattle.world_model.specs.Sheet.{NameSheet, PlaceSheet, lines_of}
+
+-- the sheets are in their order
+pub record NameBook : Type 0 where
+  pub id : List ℕ
+  pub title : List ℕ
+  pub owner : List ℕ
+  pub sheets : List NameSheet
+
+pub record PlaceBook : Type 0 where
+  pub id : List ℕ
+  pub title : List ℕ
+  pub owner : List ℕ
+  pub sheets : List PlaceSheet
+
+-- the sheet with the id
+abbrev pub sheet_with : ℕ → List NameSheet → Option NameSheet
+sheet_with id sheets = find (λ sheet. sheet.id == id) sheets
+
+-- the lines of each of the sheets; one that isn't there has none
+abbrev pub orders_of : List NameSheet → Orders
+orders_of sheets id axis = option_map_or (λ sheet. lines_of sheet axis) (sheet_with id sheets) []

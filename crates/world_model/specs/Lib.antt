@@ -1,0 +1,10 @@
+pub mod Area
+pub mod Content
+pub mod Sheet
+pub mod Book
+pub mod Sound
+pub mod StandsFor
+pub mod Writing
+pub mod LineChange
+pub mod PlaceChange
+pub mod Laws

@@ -1,0 +1,78 @@
+-- What a spreadsheet becomes when lines of a sheet are inserted, deleted or moved, by the names of lines:
+-- insertDimension, deleteDimension and moveDimension of the Google Sheets API v4. Cells keep their names, and the
+-- cells of lines that went are gone; each reference to the sheet follows its lines.
+use Rattle.std.specs.Prelude.{ℕ, List, map, Option, None, Some, ◌==◌, ◌&&◌, if◌then◌else◌}
+use Rattle.std.specs.Option.{option_map, option_map_or}
+use Rattle.grid_range.specs.Following.{follow}
+use Rattle.grid_range.specs.Order.{is_among}
+use Rattle.grid_range.specs.OrderChange.{OrderChange, order_after, changed_names}
+use Rattle.grid_range.specs.declared.axis.Axis.{Axis}
+use Rattle.grid_range.specs.declared.axis.Axis.TheVariants.{Rows, Columns}
+use Rattle.world_model.specs.Area.{NameArea, name_band_on, with_name_band}
+use Rattle.world_model.specs.Book.{NameBook, orders_of}
+use Rattle.world_model.specs.Content.{NameRef, NamePiece, NameContent}
+use Rattle.world_model.specs.Sheet.{NameSheet}
+
+-- the lines of a sheet on an axis in their order after a change, and those that it inserted or moved
+pub record LineChange : Type 0 where
+  pub sheet : ℕ
+  pub axis : Axis
+  pub order : List ℕ
+  pub changed : List ℕ
+
+-- an area of the sheet is followed by its lines on the axis, and lost with them; another stays
+abbrev pub name_area_followed : LineChange → NameArea → Option NameArea
+name_area_followed to area =
+    if area.sheet == to.sheet
+    then option_map (with_name_band to.axis area) (follow to.order to.changed (name_band_on to.axis area))
+    else Some area
+
+-- a reference follows with its area; without it, it is lost for good
+abbrev pub reference_followed : LineChange → NameRef → NamePiece
+reference_followed to reference =
+    option_map_or (λ area. NamePiece.Ref (record reference { area = area }))
+    (name_area_followed to reference.area) NamePiece.Lost
+
+abbrev pub name_piece_followed : LineChange → NamePiece → NamePiece
+name_piece_followed to (NamePiece.Text text) = NamePiece.Text text
+name_piece_followed to (NamePiece.Word word) = NamePiece.Word word
+name_piece_followed to (NamePiece.Ref reference) = reference_followed to reference
+name_piece_followed to NamePiece.Lost = NamePiece.Lost
+
+-- the references of a formula follow, and all else stays
+abbrev pub name_content_followed : LineChange → NameContent → NameContent
+name_content_followed to (NameContent.Number number) = NameContent.Number number
+name_content_followed to (NameContent.Text text) = NameContent.Text text
+name_content_followed to (NameContent.Truth truth) = NameContent.Truth truth
+name_content_followed to (NameContent.Formula pieces) = NameContent.Formula (map (name_piece_followed to) pieces)
+
+-- the sheet with other lines on the axis
+abbrev pub with_lines : Axis → List ℕ → NameSheet → NameSheet
+with_lines Rows order sheet = record sheet { rows = order }
+with_lines Columns order sheet = record sheet { cols = order }
+
+-- each cell of the lines that the sheet has keeps what it holds, which follows
+abbrev pub cells_followed : LineChange → NameSheet → ℕ → ℕ → Option NameContent
+cells_followed to sheet row col =
+    if is_among sheet.rows row && is_among sheet.cols col
+    then option_map (name_content_followed to) (sheet.cells row col)
+    else None
+
+abbrev pub with_cells_followed : LineChange → NameSheet → NameSheet
+with_cells_followed to sheet = record sheet { cells = cells_followed to sheet }
+
+-- the sheet that is changed has the new order, and the cells of all sheets follow
+abbrev pub sheet_followed : LineChange → NameSheet → NameSheet
+sheet_followed to sheet =
+    with_cells_followed to (if sheet.id == to.sheet then with_lines to.axis to.order sheet else sheet)
+
+-- the change of the order of a sheet's lines on an axis
+abbrev pub line_change : List NameSheet → ℕ → Axis → OrderChange → LineChange
+line_change sheets id axis change =
+    let order = orders_of sheets id axis in
+    record { sheet = id; axis = axis; order = order_after change order; changed = changed_names change order }
+
+-- the spreadsheet after the change
+abbrev pub book_changed : ℕ → Axis → OrderChange → NameBook → NameBook
+book_changed id axis change book =
+    record book { sheets = map (sheet_followed (line_change book.sheets id axis change)) book.sheets }

@@ -1,0 +1,72 @@
+-- What always holds of a spreadsheet: it has a visible sheet, no two sheets have one id or one title, a sheet has a
+-- row and a column, its items stand in it, and each reference of a formula is to a sheet that is there, to lines
+-- that this has, and of a form that A1 notation has.
+use Rattle.std.specs.Prelude.{◌≡◌, ◌≢◌, ◌<◌, ◌≤◌, ℕ, false, List, length, Option, ◌==◌, IsSomeAnd, IfSome, ⊤}
+use Rattle.std.specs.List.{All, AllPairs, find, list_all}
+use Rattle.std.specs.Str.{str_eq_ignore_ascii_case}
+use Rattle.grid_range.specs.Area.{AreaWithin}
+use Rattle.grid_range.specs.declared.area.Area.{Area}
+use Rattle.grid_range.specs.declared.axis.Axis.{Axis}
+use Rattle.grid_range.specs.declared.axis.Axis.TheVariants.{Rows, Columns}
+use Rattle.grid_range.specs.declared.band.Band.{Band}
+use Rattle.grid_range.specs.declared.band.Band.TheVariants.{Whole, Span}
+use Rattle.cell_store.specs.Table.{HasItemsInside, item_at}
+use Rattle.ref_rewrite.specs.declared.cell_content.Content.{Content}
+use Rattle.ref_rewrite.specs.declared.cell_content.Content.TheVariants as content
+use Rattle.ref_rewrite.specs.declared.pieces.Piece.{Piece}
+use Rattle.ref_rewrite.specs.declared.pieces.Piece.TheVariants as piece
+use Rattle.world_model.specs.Book.{PlaceBook}
+use Rattle.world_model.specs.Sheet.{PlaceSheet}
+
+-- the sheet with the id
+abbrev pub place_sheet_with : ℕ → List PlaceSheet → Option PlaceSheet
+place_sheet_with id sheets = find (λ sheet. sheet.id == id) sheets
+
+-- A1 notation has such an area: some columns, or some rows of all columns (Sheets API v4 guide, A1 notation)
+abbrev pub HasNotation : Band → Band → Type 0
+HasNotation rows (Span start end) = ⊤
+HasNotation (Span start end) Whole = ⊤
+HasNotation _ _ = ⊥
+
+-- the area is on a sheet that is there, both bands are within it, and A1 notation has it
+abbrev pub IsAreaWithin : List PlaceSheet → Area → Type 0
+IsAreaWithin sheets area = IsSomeAnd (place_sheet_with area.sheet sheets)
+    (λ sheet. AreaWithin area sheet.table.rows sheet.table.cols) × HasNotation area.rows area.cols
+
+abbrev pub IsPieceWithin : List PlaceSheet → Piece → Type 0
+IsPieceWithin sheets (piece.Ref reference) = IsAreaWithin sheets reference.area
+IsPieceWithin sheets (piece.Text text) = ⊤
+IsPieceWithin sheets (piece.Word word) = ⊤
+IsPieceWithin sheets piece.Lost = ⊤
+
+-- each reference is
+abbrev pub IsContentWithin : List PlaceSheet → Content → Type 0
+IsContentWithin sheets (content.Formula formula) = All (IsPieceWithin sheets) formula.pieces
+IsContentWithin sheets (content.Number number) = ⊤
+IsContentWithin sheets (content.Text text) = ⊤
+IsContentWithin sheets (content.Truth truth) = ⊤
+
+-- how many rows, and how many columns, a sheet can have (Google Drive help, files you can store: a sheet's last
+-- column is ZZZ; the bound on rows is this project's)
+abbrev pub most_on : Axis → ℕ
+most_on Rows = 1000000
+most_on Columns = 18278
+
+-- a sheet can have as many lines on the axis
+abbrev pub IsLineCount : Axis → ℕ → Type 0
+IsLineCount axis lines = (0 < lines) × (lines ≤ most_on axis)
+
+-- the sheet has a title, a row and a column, each item stands in it, and its references are within
+pub record IsSheetSound (sheets : List PlaceSheet) (sheet : PlaceSheet) : Type 0 where
+  pub titled : 0 < length sheet.title
+  pub rows : IsLineCount Rows sheet.table.rows
+  pub cols : IsLineCount Columns sheet.table.cols
+  pub inside : HasItemsInside sheet.table
+  pub within : (row col : ℕ) → IfSome (item_at sheet.table row col) (IsContentWithin sheets)
+
+-- titles are one ignoring ASCII case
+pub record IsSound (book : PlaceBook) : Type 0 where
+  pub distinct : AllPairs (λ one other. one.id ≢ other.id) book.sheets
+  pub titles : AllPairs (λ one other. str_eq_ignore_ascii_case one.title other.title ≡ false) book.sheets
+  pub visible : list_all (λ sheet. sheet.hidden) book.sheets ≡ false
+  pub sheets : All (IsSheetSound book.sheets) book.sheets

@@ -1,0 +1,32 @@
+-- When what a program keeps, by places, stands for what is meant, by names.
+use Rattle.std.specs.Prelude.{◌≡◌, ℕ, List, length, Some, None, Contains, slice_get}
+use Rattle.std.specs.List.{AllZip}
+use Rattle.std.specs.Option.{option_map}
+use Rattle.grid_range.specs.Order.{IsOrder}
+use Rattle.cell_store.specs.Table.{item_at}
+use Rattle.world_model.specs.Book.{NameBook, PlaceBook, orders_of}
+use Rattle.world_model.specs.Content.{content_named}
+use Rattle.world_model.specs.Sheet.{NameSheet, PlaceSheet}
+use Rattle.world_model.specs.Sound.{IsSound}
+
+-- both have one id, title, mark and size, no line has two names of an order, the item at a place is, with its
+-- references by names, what is stored in the cell of the lines at that place, and no other cell has anything
+pub record SheetStandsFor (sheets : List NameSheet) (sheet : PlaceSheet) (names : NameSheet) : Type 0 where
+  pub id : sheet.id ≡ names.id
+  pub title : sheet.title ≡ names.title
+  pub hidden : sheet.hidden ≡ names.hidden
+  pub distinct_rows : IsOrder names.rows
+  pub distinct_cols : IsOrder names.cols
+  pub rows : sheet.table.rows ≡ length names.rows
+  pub cols : sheet.table.cols ≡ length names.cols
+  pub cells : (row col r c : ℕ) → slice_get names.rows row ≡ Some r → slice_get names.cols col ≡ Some c
+      → names.cells r c ≡ option_map (content_named (orders_of sheets)) (item_at sheet.table row col)
+  pub nowhere_else : (r c : ℕ) → ¬ (Contains names.rows r × Contains names.cols c) → names.cells r c ≡ None
+
+-- what is kept by places is sound, and both are one spreadsheet, sheet by sheet
+pub record BookStandsFor (book : PlaceBook) (names : NameBook) : Type 0 where
+  pub sound : IsSound book
+  pub id : book.id ≡ names.id
+  pub title : book.title ≡ names.title
+  pub owner : book.owner ≡ names.owner
+  pub sheets : AllZip (SheetStandsFor names.sheets) book.sheets names.sheets
