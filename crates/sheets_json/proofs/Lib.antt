@@ -1,0 +1,5 @@
+pub mod ReadingLemmas
+pub mod MemberLemmas
+pub mod BodyLemmas
+pub mod WholeLemmas
+pub mod CallLemmas

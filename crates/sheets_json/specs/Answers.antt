@@ -1,0 +1,98 @@
+-- Answers as JSON values (Google Sheets API v4 reference, ValueRange, UpdateValuesResponse,
+-- AppendValuesResponse, ClearValuesResponse, and the responses of batchGet, batchUpdate and batchClear).
+-- Members are put into an object in the order of their names.
+use Rattle.std.specs.Prelude.{ℕ, List, codes, map, Option, None, Some}
+use Rattle.serde_json.specs.Data.{Data, unsigned, boolean, number, string, array, object, Members, no_members, put}
+use Rattle.serde_json.specs.Find.{of_integer}
+use Rattle.serde_json.specs.View.{items_of}
+use Rattle.grid_range.specs.declared.axis.Axis.{Axis}
+use Rattle.grid_range.specs.declared.axis.Axis.TheVariants.{Rows, Columns}
+use Rattle.cell_value.specs.declared.cell.Cell.{Cell}
+use Rattle.cell_value.specs.declared.cell.Cell.TheVariants as cell
+use Rattle.sheets_json.specs.declared.answer.ShownRange.{ShownRange}
+use Rattle.sheets_json.specs.declared.answer.Update.{Update}
+use Rattle.sheets_json.specs.declared.answer.Answer.{Answer}
+use Rattle.sheets_json.specs.declared.answer.Answer.TheVariants as answer
+
+abbrev pub text_data : List ℕ → Data
+text_data text = string text
+
+abbrev pub count_data : ℕ → Data
+count_data count = number (unsigned count)
+
+abbrev pub list_data : {A : Type 0} → (A → Data) → List A → Data
+list_data meaning items = array (items_of (map meaning items))
+
+-- a member that may be absent
+abbrev pub put_given : {A : Type 0} → List ℕ → (A → Data) → Option A → Members → Members
+put_given name meaning None members = members
+put_given name meaning (Some value) members = put name (meaning value) members
+
+-- ---- ranges
+
+abbrev pub dimension_data : Axis → Data
+dimension_data Rows = string (codes "ROWS")
+dimension_data Columns = string (codes "COLUMNS")
+
+abbrev pub cell_data : Cell → Data
+cell_data (cell.Text text) = string text
+cell_data (cell.Number whole) = number (of_integer whole)
+cell_data (cell.Truth truth) = boolean truth
+
+-- ValueRange
+abbrev pub range_data : ShownRange → Data
+range_data shown = object (
+    put (codes "majorDimension") (dimension_data shown.major_dimension) (
+    put (codes "range") (text_data shown.range) (
+    put_given (codes "values") (list_data (list_data cell_data)) shown.values no_members)))
+
+-- UpdateValuesResponse
+abbrev pub update_data : Update → Data
+update_data update = object (
+    put (codes "spreadsheetId") (text_data update.spreadsheet_id) (
+    put (codes "updatedCells") (count_data update.updated_cells) (
+    put (codes "updatedColumns") (count_data update.updated_columns) (
+    put (codes "updatedRange") (text_data update.updated_range) (
+    put (codes "updatedRows") (count_data update.updated_rows) no_members)))))
+
+-- ---- answers
+
+abbrev pub append_data : List ℕ → Option (List ℕ) → Update → Data
+append_data id table updates = object (
+    put (codes "spreadsheetId") (text_data id) (
+    put_given (codes "tableRange") text_data table (
+    put (codes "updates") (update_data updates) no_members)))
+
+abbrev pub clear_data : List ℕ → List ℕ → Data
+clear_data range id = object (
+    put (codes "clearedRange") (text_data range) (
+    put (codes "spreadsheetId") (text_data id) no_members))
+
+abbrev pub read_many_data : List ℕ → List ShownRange → Data
+read_many_data id ranges = object (
+    put (codes "spreadsheetId") (text_data id) (
+    put (codes "valueRanges") (list_data range_data ranges) no_members))
+
+abbrev pub clear_many_data : List (List ℕ) → List ℕ → Data
+clear_many_data ranges id = object (
+    put (codes "clearedRanges") (list_data text_data ranges) (
+    put (codes "spreadsheetId") (text_data id) no_members))
+
+abbrev pub write_many_data : List Update → List ℕ → ℕ → ℕ → ℕ → ℕ → Data
+write_many_data responses id cells columns rows sheets = object (
+    put (codes "responses") (list_data update_data responses) (
+    put (codes "spreadsheetId") (text_data id) (
+    put (codes "totalUpdatedCells") (count_data cells) (
+    put (codes "totalUpdatedColumns") (count_data columns) (
+    put (codes "totalUpdatedRows") (count_data rows) (
+    put (codes "totalUpdatedSheets") (count_data sheets) no_members))))))
+
+abbrev pub answer_data : Answer → Data
+answer_data (answer.Read shown) = range_data shown
+answer_data (answer.Write update) = update_data update
+answer_data (answer.Append id table updates) = append_data id table updates
+answer_data (answer.Clear range id) = clear_data range id
+answer_data (answer.ReadMany id ranges) = read_many_data id ranges
+answer_data (answer.WriteMany responses id cells columns rows sheets) =
+    write_many_data responses id cells columns rows sheets
+answer_data (answer.ClearMany ranges id) = clear_many_data ranges id

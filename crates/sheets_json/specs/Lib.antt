@@ -1,0 +1,14 @@
+pub mod Reading
+pub mod Members
+pub mod Shapes
+pub mod Words
+pub mod ValueRanges
+pub mod Bodies
+pub mod Calls
+pub mod Answers
+pub mod Refusals
+pub mod Scalars
+pub mod Sheets
+pub mod Dimensions
+pub mod Requests
+pub mod Creations

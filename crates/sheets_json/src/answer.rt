@@ -1,0 +1,82 @@
+use cell_value::{Cell, Items, Text};
+use grid_range::Axis;
+
+/// A range with what its cells show (Sheets API v4 reference, ValueRange).
+#[derive(Debug, Drop)]
+pub struct ShownRange {
+    /// The range, as A1 text.
+    pub range: Text,
+    /// The dimension of the inner lists.
+    pub major_dimension: Axis,
+    /// What the cells show, if some show something.
+    pub values: Option<Items<Items<Cell>>>,
+}
+
+/// What a write did (Sheets API v4 reference, UpdateValuesResponse).
+#[derive(Debug, Drop)]
+pub struct Update {
+    /// The spreadsheet's id.
+    pub spreadsheet_id: Text,
+    /// How many cells were written or emptied.
+    pub updated_cells: u64,
+    /// How many columns have such a cell.
+    pub updated_columns: u64,
+    /// The range of the values, as A1 text.
+    pub updated_range: Text,
+    /// How many rows have such a cell.
+    pub updated_rows: u64,
+}
+
+/// What a call is answered (Google Sheets API v4 reference, spreadsheets.values).
+#[derive(Debug, Drop)]
+pub enum Answer {
+    /// ValueRange
+    Read(ShownRange),
+    /// UpdateValuesResponse
+    Write(Update),
+    /// AppendValuesResponse
+    Append {
+        /// The spreadsheet's id.
+        spreadsheet_id: Text,
+        /// The range of the table, as A1 text, if there was one.
+        table_range: Option<Text>,
+        /// What the write did.
+        updates: Update,
+    },
+    /// ClearValuesResponse
+    Clear {
+        /// The range, as A1 text.
+        cleared_range: Text,
+        /// The spreadsheet's id.
+        spreadsheet_id: Text,
+    },
+    /// BatchGetValuesResponse
+    ReadMany {
+        /// The spreadsheet's id.
+        spreadsheet_id: Text,
+        /// The ranges, in the order of the request.
+        value_ranges: Items<ShownRange>,
+    },
+    /// BatchUpdateValuesResponse
+    WriteMany {
+        /// What each write did, in the order of the request.
+        responses: Items<Update>,
+        /// The spreadsheet's id.
+        spreadsheet_id: Text,
+        /// How many cells were written or emptied, those of each write counted.
+        total_updated_cells: u64,
+        /// How many different columns have such a cell.
+        total_updated_columns: u64,
+        /// How many different rows have such a cell.
+        total_updated_rows: u64,
+        /// How many different sheets have such a cell.
+        total_updated_sheets: u64,
+    },
+    /// BatchClearValuesResponse
+    ClearMany {
+        /// The ranges, as A1 text, in the order of the request.
+        cleared_ranges: Items<Text>,
+        /// The spreadsheet's id.
+        spreadsheet_id: Text,
+    },
+}

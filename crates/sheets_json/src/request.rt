@@ -1,0 +1,68 @@
+use crate::ShapeFault;
+use cell_value::SheetProperties;
+use grid_range::Axis;
+
+/// A change that a batch asks for (Google Sheets API v4 reference, Request).
+#[derive(Debug, Drop)]
+pub enum Request {
+    /// AddSheetRequest
+    AddSheet {
+        /// What is asked for the sheet.
+        properties: Option<SheetProperties>,
+    },
+    /// DeleteSheetRequest
+    DeleteSheet {
+        /// The sheet's id.
+        sheet_id: u32,
+    },
+    /// InsertDimensionRequest
+    InsertDimension {
+        /// The lines that are inserted; the end is given.
+        range: DimensionRange,
+        /// Whether they are like the line before them.
+        inherit_from_before: Option<bool>,
+    },
+    /// DeleteDimensionRequest
+    DeleteDimension {
+        /// The lines.
+        range: DimensionRange,
+    },
+    /// AppendDimensionRequest
+    AppendDimension {
+        /// The sheet's id, 0 where none was given.
+        sheet_id: u32,
+        /// Whether rows or columns are appended.
+        dimension: Axis,
+        /// How many.
+        length: u32,
+    },
+    /// MoveDimensionRequest
+    MoveDimension {
+        /// The lines.
+        source: DimensionRange,
+        /// The line before which they are moved, counted before they are taken away.
+        destination_index: u32,
+    },
+}
+
+/// Some rows or columns of a sheet (Sheets API v4 reference, DimensionRange).
+#[derive(Clone, Copy, Debug)]
+pub struct DimensionRange {
+    /// The sheet's id, 0 where none was given.
+    pub sheet_id: u32,
+    /// Whether they are rows or columns.
+    pub dimension: Axis,
+    /// The first line, from 0; 0 where none was given.
+    pub start_index: u32,
+    /// The line behind the last; the number of lines where it isn't given.
+    pub end_index: Option<u32>,
+}
+
+/// A request of a batch as it was read. Its fault is told in its turn.
+#[derive(Debug, Drop)]
+pub enum Step {
+    /// What it asks for.
+    Read(Request),
+    /// Why it asks for nothing.
+    Shape(ShapeFault),
+}
