@@ -10,3 +10,4 @@ pub mod Range
 pub mod Canonical
 pub mod Capped
 pub mod Laws
+pub mod Faults

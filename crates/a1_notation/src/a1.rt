@@ -35,6 +35,11 @@ pub enum A1Fault {
 }
 
 impl fmt::Display for A1Fault {
+    ghost use Rattle.std.specs.Prelude.{Some};
+    ghost use Rattle.a1_notation.specs.Faults.{fault_text};
+
+    ghost output = { λ fault. Some (fault_text fault) };
+
     fn fmt<W: fmt::Write>(&self, f: &mut fmt::Formatter<W>) -> fmt::Result {
         f.write_str(match self {
             A1Fault::NotA1 => "no range in A1 notation",

@@ -28,6 +28,3 @@ pub use row::{NUMBERED_ROWS, read_row};
 pub use title::quote_name;
 pub use word::split_word;
 pub use writing::{is_one_line, write_a1};
-
-#[cfg(test)]
-mod tests;

@@ -8,6 +8,3 @@ mod texts;
 mod types;
 
 pub use types::{Condition, Criterion, Filter};
-
-#[cfg(test)]
-mod tests;

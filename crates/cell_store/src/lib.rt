@@ -12,6 +12,3 @@ pub use laws::tables_by_items;
 pub use places::held_by_rows;
 pub use store::CellStore;
 pub use tree::TreeGrid;
-
-#[cfg(test)]
-mod tests;

@@ -9,4 +9,5 @@ pub mod Entries
 pub mod Elements
 pub mod FaultCount
 pub mod Calls
+pub mod Faults
 pub mod formers

@@ -52,6 +52,11 @@ pub enum Bad {
 }
 
 impl fmt::Display for Bad {
+    ghost use Rattle.std.specs.Prelude.{Some};
+    ghost use Rattle.cell_value.specs.Faults.{bad_text};
+
+    ghost output = { λ fault. Some (bad_text fault) };
+
     fn fmt<W: fmt::Write>(&self, f: &mut fmt::Formatter<W>) -> fmt::Result {
         f.write_str(match self {
             Bad::NotWhole => "not a whole number within 2^53 either way",

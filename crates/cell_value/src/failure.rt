@@ -7,6 +7,11 @@ use std::fmt;
 pub struct NoMemory;
 
 impl fmt::Display for NoMemory {
+    ghost use Rattle.std.specs.Prelude.{Some};
+    ghost use Rattle.cell_value.specs.Faults.{no_memory_text};
+
+    ghost output = { λ _. Some no_memory_text };
+
     fn fmt<W: fmt::Write>(&self, f: &mut fmt::Formatter<W>) -> fmt::Result {
         f.write_str("no memory")
     }
@@ -32,6 +37,11 @@ impl<T: Drop> From<AllocFailed<T>> for NoMemory {
 pub struct Failed;
 
 impl fmt::Display for Failed {
+    ghost use Rattle.std.specs.Prelude.{Some};
+    ghost use Rattle.cell_value.specs.Faults.{failed_text};
+
+    ghost output = { λ _. Some failed_text };
+
     fn fmt<W: fmt::Write>(&self, f: &mut fmt::Formatter<W>) -> fmt::Result {
         f.write_str("failed")
     }

@@ -27,6 +27,3 @@ pub use sequence::{Bytes, Items, Text};
 pub use shown::show;
 pub use texts::is_among;
 pub use update::Update;
-
-#[cfg(test)]
-mod tests;

@@ -6,11 +6,11 @@ ghost use Rattle.dev_metadata.specs.Following.{IsBelow, item_followed, items_els
 ghost use Rattle.dev_metadata.specs.Given.{with_given};
 ghost use Rattle.dev_metadata.specs.Listed.{HaveOwnIds, has_id, with_id, not_found};
 
-use crate::following::{SheetChange, drop_found, drop_sheet};
+use crate::following::{drop_found, drop_sheet};
 use crate::types::{Item, Lookup};
 use crate::updating::Given;
 use cell_value::{Duplicate, NoMemory, follow_values};
-use grid_range::{Axis, Change};
+use grid_range::{Axis, Change, SheetChange};
 use indexmap::IndexMap;
 use std::alloc::Global;
 use std::marker::Model;

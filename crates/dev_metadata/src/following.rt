@@ -7,7 +7,7 @@ ghost use Rattle.dev_metadata.specs.Spot.{is_on_sheet};
 use crate::matching::is_same_axis;
 use crate::types::{Item, Lookup, Spot};
 use cell_value::Follow;
-use grid_range::{Axis, Change, place};
+use grid_range::{Axis, Change, SheetChange, place};
 use indexmap::IndexMap;
 
 /// Takes out the items that are on the sheet or a line of it.
@@ -24,15 +24,6 @@ pub(crate) fn drop_found(by_id: &mut IndexMap<u32, Item>, lookup: &Lookup, proje
         filter (λ entry. not (finds lookup.now project.now entry.1)) by_id.old.entries }
 {
     by_id.retain(|_, item| !lookup.finds(project, item));
-}
-
-/// A change of the lines on an axis of a sheet, of which there were `count`.
-#[derive(Clone, Copy)]
-pub(crate) struct SheetChange<'a> {
-    pub(crate) sheet: u32,
-    pub(crate) axis: Axis,
-    pub(crate) count: u32,
-    pub(crate) change: &'a Change,
 }
 
 impl Follow<SheetChange<'_>> for Item {

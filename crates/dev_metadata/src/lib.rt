@@ -13,6 +13,3 @@ mod updating;
 
 pub use list::Metadata;
 pub use types::{Item, ItemPatch, Lookup, MetaFault, Sight, SightKind, Spot, SpotKind};
-
-#[cfg(test)]
-mod tests;

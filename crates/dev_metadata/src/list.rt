@@ -54,14 +54,6 @@ impl Metadata {
         self.items.len() as u64
     }
 
-    /// The items in order of creation.
-    #[cfg(test)]
-    pub(crate) fn items(&self) -> &ById
-        ensures { result.now ≡ self.now }
-    {
-        &self.items
-    }
-
     /// Adds an item behind the others, and gives its id: the one that is asked for, or else the least
     /// from 1 on that none has.
     ///

@@ -57,6 +57,45 @@ formula_exchanged (piece.Text text ∷ later) (piece.Text other ∷ others) symb
 formula_exchanged (piece.Text text ∷ later) (next ∷ others) symbols may are = absurd may.0
 formula_exchanged one other symbols may are = absurd are
 
+-- and each list of symbols that it has comes from such symbols
+abbrev WasExchanged : (List Symbol → Type 0) → List Symbol → Type 0
+WasExchanged P symbols = (all : List Symbol) × P all × AreExchanged all symbols
+
+piece_was : (one other : Piece) (symbols : List Symbol) → MayBecome one other → AreOfPiece other symbols
+    → WasExchanged (AreOfPiece one) symbols
+piece_was (piece.Text text) (piece.Text other) symbols may are =
+    (symbols, subst (λ own. AreOfPiece (piece.Text own) symbols) may are, all_stay symbols)
+piece_was (piece.Word word) (piece.Word other) symbols may are =
+    (symbol.Word word ∷ [], refl, rw are (inr (true, refl, refl), tt))
+piece_was (piece.Ref reference) (piece.Ref other) symbols may are =
+    (symbol.Ref reference.area ∷ [], refl, rw are (inr (true, refl, refl), tt))
+piece_was (piece.Ref reference) piece.Lost symbols may are =
+    (symbol.Ref reference.area ∷ [], refl, rw are (inr (false, refl, refl), tt))
+piece_was piece.Lost piece.Lost symbols may are = (symbol.Lost ∷ [], refl, rw are (inl refl, tt))
+piece_was _ _ symbols may are = absurd may
+
+pieces_were : (one other : List Piece) (symbols : List Symbol) → MayBe one other → AreOfPieces other symbols
+    → WasExchanged (AreOfPieces one) symbols
+pieces_were [] [] symbols may are = (symbols, are, all_stay symbols)
+pieces_were [] (next ∷ others) symbols may are = absurd may
+pieces_were (first ∷ later) [] symbols may are = absurd may
+pieces_were (first ∷ later) (next ∷ others) symbols may are =
+    let front = piece_was first next are.0 may.0 are.2 in
+    let back = pieces_were later others are.1 may.1 are.3 in (
+      front.0 ++ back.0,
+      (front.0, back.0, front.1, back.1, refl),
+      rw are.4 (both_exchanged front.0 back.0 are.0 are.1 front.2 back.2),
+    )
+
+formula_was : (one other : List Piece) (symbols : List Symbol) → MayBe one other → AreSymbolsOf other symbols
+    → WasExchanged (AreSymbolsOf one) symbols
+formula_was [] (piece.Text other ∷ others) symbols may are = absurd may
+formula_was (piece.Text text ∷ later) (piece.Text other ∷ others) symbols may are =
+    let found = pieces_were (piece.Text are.0 ∷ later) (piece.Text are.0 ∷ others) symbols (refl, may.1) are.2 in
+    (found.0, (are.0, sym may.0 ∙ are.1, found.1), found.2)
+formula_was (first ∷ later) (piece.Text other ∷ others) symbols may are = absurd may.0
+formula_was one other symbols may are = absurd are
+
 -- a text stands before another only where it did
 text_apart : (one other : List Piece) → MayBe one other → NoTextFirst one → NoTextFirst other
 text_apart (piece.Text text ∷ later) other may none = absurd none
@@ -92,17 +131,9 @@ stay_formed (first ∷ later) (next ∷ others) may formed =
     (stay_formed later others may.1 (All-tail IsWellFormed first later formed))
 
 pub limits_stay : LimitsStay
-limits_stay one other tree may is =
-    let found = formula_exchanged one.pieces other.pieces is.symbols may is.are in
-    let grown = tree_stays is.symbols tree is.has found.0 found.2 in (
-      grown.0,
-      record {
-        symbols = found.0;
-        are = found.1;
-        has = grown.1;
-        limits = exchanged_passed is.symbols found.0 found.2 is.limits;
-      },
-    )
+limits_stay one other may keeps symbols are =
+    let found = formula_was one.pieces other.pieces symbols may are in
+    exchanged_passed found.0 symbols found.2 (keeps found.0 found.1)
 
 pub stays_readable : StaysReadable
 stays_readable before after here one other is may present =

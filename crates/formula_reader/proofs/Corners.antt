@@ -60,7 +60,7 @@ marked_digit : (m : Bool) (text : List ℕ) → begins is_ascii_digit text ≡ t
 marked_digit true text is = (refl, refl)
 marked_digit false text is = digit_begins text is
 
-row_begins : (text : List ℕ) (row : Coordinate) (rest : List ℕ) → IsMarkedRow text row
+pub row_begins : (text : List ℕ) (row : Coordinate) (rest : List ℕ) → IsMarkedRow text row
     → (begins is_ascii_alphabetic (text ++ rest) ≡ false) × (begins is_joined (text ++ rest) ≡ true)
 row_begins text row rest is =
     rw (is.spelled, marked-append row.marked is.name rest)

@@ -1,5 +1,5 @@
 -- What is read passes no limit that its tokens don't pass, though a reference that is lost names no cells.
-use Rattle.std.proofs.Common.{◌≡◌, cond, ℕ, ◌≤◌, Bool, true, false, List, [], ◌∷◌, ◌++◌, length, map, max, refl, sym, ap, ◌∙◌, arith, inl, inr, ltb-true, lt-ltb}
+use Rattle.std.proofs.Common.{◌≡◌, cond, ℕ, ◌≤◌, Bool, true, false, List, [], ◌∷◌, length, map, max, refl, sym, ap, ◌∙◌, arith, inl, inr, ltb-true, lt-ltb}
 use Rattle.std.specs.Prelude.{⊤, ◌⊎◌, Some, None, nat_lt, if◌then◌else◌}
 use Rattle.std.specs.List.{count_by}
 use Rattle.std.proofs.lemmas.Bool.{false≢true}
@@ -8,7 +8,7 @@ use Rattle.formula_reader.proofs.Lexemes.{Item, placed, tokens_in}
 use Rattle.formula_reader.specs.declared.symbols.Symbol.{Symbol}
 use Rattle.formula_reader.specs.declared.fault.FormulaFault.TheVariants.{Tokens, References, Depth}
 use Rattle.formula_reader.specs.Limits.{deepest, first_passed, passed, passed_by_symbols}
-use Rattle.formula_reader.proofs.Neighbours.{Kind, operand, kind_of_token, kind_of_symbol, State, before_operand, behind_operand, behind_name, step, Leads}
+use Rattle.formula_reader.proofs.Neighbours.{Kind, operand, kind_of_token, kind_of_symbol}
 use Rattle.formula_reader.proofs.Counted.{counted_kind, kind_names_cells, depth_behind_kind, count-cons, passed_placed, passed_symbols}
 
 -- a token stands for a symbol of its kind, or names cells where the symbol is lost
@@ -20,33 +20,6 @@ abbrev pub StandFor : List Kind → List Kind → Type 0
 StandFor [] [] = ⊤
 StandFor (own ∷ later) (other ∷ others) = StandsFor own other × StandFor later others
 StandFor _ _ = ⊥
-
-pub stand_alike : (kinds : List Kind) → StandFor kinds kinds
-stand_alike [] = tt
-stand_alike (kind ∷ later) = (inl refl, stand_alike later)
-
-pub stand_both : (one other one' other' : List Kind) → StandFor one one' → StandFor other other'
-    → StandFor (one ++ other) (one' ++ other')
-stand_both [] other [] other' first second = second
-stand_both (own ∷ one) other (own' ∷ one') other' first second =
-    (first.0, stand_both one other one' other' first.1 second)
-stand_both one other one' other' first second = absurd first
-
--- they lead on as the symbols do
-steps_alike : (a : State) (own other : Kind) → StandsFor own other → step a own ≡ step a other
-steps_alike a own other (inl same) = ap (step a) same
-steps_alike a own other (inr lost) = rw (lost.0, lost.1) (operands_alike a)
-  where
-    operands_alike : (a : State) → step a (operand true) ≡ step a (operand false)
-    operands_alike before_operand = refl
-    operands_alike behind_operand = refl
-    operands_alike behind_name = refl
-
-pub lead_alike : (a : State) (own other : List Kind) (b : State) → StandFor own other → Leads a other b → Leads a own b
-lead_alike a [] [] b stand leads = leads
-lead_alike a (kind ∷ own) (kind' ∷ other) b stand leads =
-    (leads.0, steps_alike a kind kind' stand.0 ∙ leads.1, lead_alike leads.0 own other b stand.1 leads.2)
-lead_alike a own other b stand leads = absurd stand
 
 -- they are as many and as deep
 as_many : (own other : List Kind) → StandFor own other → length own ≡ length other

@@ -85,40 +85,59 @@ pub comma_fits : (rest : List ℕ) → FitsFirst forms (44 ∷ []) token.Comma r
 comma_fits rest = pass_unfit (44 ∷ []) token.Comma rest forms (inl (refl, refl))
 
 -- < and > begin other signs, too
-less_fits : (rest : List ℕ) → begins widens rest ≡ false → FitsFirst forms (60 ∷ []) (token.Operator Less) rest
+pub less_fits : (rest : List ℕ) → begins widens rest ≡ false → FitsFirst forms (60 ∷ []) (token.Operator Less) rest
 less_fits [] ends = pass_unfit (60 ∷ []) (token.Operator Less) [] forms (inl (refl, refl))
 less_fits (b ∷ rest) ends =
     let narrow = or_parts (b == 61) (b == 62) ends in
     pass_unfit (60 ∷ []) (token.Operator Less) (b ∷ rest) forms (rw (narrow.0, narrow.1) (inl (refl, refl)))
 
-greater_fits : (rest : List ℕ) → begins widens rest ≡ false → FitsFirst forms (62 ∷ []) (token.Operator Greater) rest
+greater_fits : (rest : List ℕ) → begins (λ byte. byte == 61) rest ≡ false
+    → FitsFirst forms (62 ∷ []) (token.Operator Greater) rest
 greater_fits [] ends = pass_unfit (62 ∷ []) (token.Operator Greater) [] forms (inl (refl, refl))
 greater_fits (b ∷ rest) ends =
-    let narrow = or_parts (b == 61) (b == 62) ends in
-    pass_unfit (62 ∷ []) (token.Operator Greater) (b ∷ rest) forms (rw narrow.0 (inl (refl, refl)))
+    pass_unfit (62 ∷ []) (token.Operator Greater) (b ∷ rest) forms (rw ends (inl (refl, refl)))
+
+-- what makes another operator of this one
+abbrev pub widens_sign : Operator → ℕ → Bool
+widens_sign Less byte = widens byte
+widens_sign Greater byte = byte == 61
+widens_sign other byte = false
+
+pub sign_fits : (operator : Operator) (rest : List ℕ) → begins (widens_sign operator) rest ≡ false
+    → FitsFirst forms (operator_text operator) (token.Operator operator) rest
+sign_fits Less rest ends = less_fits rest ends
+sign_fits Greater rest ends = greater_fits rest ends
+sign_fits other rest ends =
+    pass_unfit (operator_text other) (token.Operator other) rest forms (inl (refl, refl))
+
+narrower : (operator : Operator) (byte : ℕ) → widens byte ≡ false → widens_sign operator byte ≡ false
+narrower Less byte narrow = narrow
+narrower Greater byte narrow = (or_parts (byte == 61) (byte == 62) narrow).0
+narrower other byte narrow = refl
+
+none_widens : (operator : Operator) (rest : List ℕ) → begins widens rest ≡ false
+    → begins (widens_sign operator) rest ≡ false
+none_widens operator [] ends = refl
+none_widens operator (b ∷ rest) ends = narrower operator b ends
 
 pub operator_fits : (operator : Operator) (rest : List ℕ) → begins widens rest ≡ false
     → FitsFirst forms (operator_text operator) (token.Operator operator) rest
-operator_fits Less rest ends = less_fits rest ends
-operator_fits Greater rest ends = greater_fits rest ends
-operator_fits other rest ends =
-    pass_unfit (operator_text other) (token.Operator other) rest forms (inl (refl, refl))
+operator_fits operator rest ends = sign_fits operator rest (none_widens operator rest ends)
 
 -- a text ends before a byte that ends an operand
 no_quote_behind : (rest : List ℕ) → begins goes_on rest ≡ false → slice_index rest 0 ≢ 34
 no_quote_behind [] ends is = cc
 no_quote_behind (b ∷ rest) ends is = false≢true (sym ends ∙ ap goes_on is)
 
+pub closed_fits : (text rest : List ℕ) → slice_index rest 0 ≢ 34
+    → FitsFirst forms (quoted 34 text) (token.Text text) rest
+closed_fits text rest closed =
+    pass_unfit (quoted 34 text) (token.Text text) rest forms
+    (inl (record { text = text; spelled = refl; closed = closed; token_is = refl }))
+
 pub text_fits : (text rest : List ℕ) → begins goes_on rest ≡ false
     → FitsFirst forms (quoted 34 text) (token.Text text) rest
-text_fits text rest ends =
-    pass_unfit (quoted 34 text) (token.Text text) rest forms
-    (inl (record {
-      text = text;
-      spelled = refl;
-      closed = no_quote_behind rest ends;
-      token_is = refl;
-    }))
+text_fits text rest ends = closed_fits text rest (no_quote_behind rest ends)
 
 -- what is read before a rest has the text before it as its lexeme
 fits_read : (own : List ℕ) (token : Token) (rest : List ℕ) → Reads (FitsFirst forms) (own ++ rest) (Some (token, rest))
@@ -194,18 +213,25 @@ row_digits text row rest is first =
 end_no_digit : (b : ℕ) → goes_on b ≡ false → is_ascii_digit b ≡ false
 end_no_digit b h = grind (arith, nat_tests)
 
+end_no_colon : (b : ℕ) → goes_on b ≡ false → (b == 58) ≡ false
+end_no_colon b h = grind (arith, nat_tests)
+
 no_digit_behind : (rest : List ℕ) → begins goes_on rest ≡ false → begins is_ascii_digit rest ≡ false
 no_digit_behind [] ends = refl
 no_digit_behind (b ∷ rest) ends = end_no_digit b ends
 
--- digits before a byte that ends an operand
+no_colon_behind : (rest : List ℕ) → begins goes_on rest ≡ false → begins (λ byte. byte == 58) rest ≡ false
+no_colon_behind [] ends = refl
+no_colon_behind (b ∷ rest) ends = end_no_colon b ends
+
+-- digits before neither a digit nor : (58)
 module _ (own rest : List ℕ) (some : begins is_ascii_digit own ≡ true) (all : list_all is_ascii_digit own ≡ true)
-    (ends : begins goes_on rest ≡ false) where
+    (ends : begins is_ascii_digit rest ≡ false) (no_colon : begins (λ byte. byte == 58) rest ≡ false) where
   first_byte : begins is_ascii_digit (own ++ rest) ≡ true
   first_byte = begins-front is_ascii_digit own rest some
 
   own_run : IsRun is_ascii_digit own rest
-  own_run = record { all = all; ends = no_digit_behind rest ends }
+  own_run = record { all = all; ends = ends }
 
   no_other : (text : List ℕ) → own ++ rest ≡ text → begins is_ascii_digit text ≡ false → ⊥
   no_other text e other = false≢true (sym other ∙ ap (begins is_ascii_digit) (sym e) ∙ first_byte)
@@ -221,7 +247,7 @@ module _ (own rest : List ℕ) (some : begins is_ascii_digit own ≡ true) (all 
       let digits = row_digits text row (58 ∷ behind) is (ap (begins is_ascii_digit) (sym e) ∙ first_byte) in
       let colon =
       (run_is_one is_ascii_digit own rest text (58 ∷ behind) own_run (record { all = digits; ends = refl }) e).1 in
-      false≢true (sym ends ∙ ap (begins goes_on) colon)
+      false≢true (sym no_colon ∙ ap (begins (λ byte. byte == 58)) colon)
 
   -- so no reference stands there
   no_part : (text : List ℕ) (written : MarkedArea) (behind : List ℕ) → own ++ rest ≡ text ++ behind
@@ -235,18 +261,24 @@ module _ (own rest : List ℕ) (some : begins is_ascii_digit own ≡ true) (all 
   no_reference : FitsNowhere OwnReference (own ++ rest)
   no_reference lexeme token behind e is = no_part lexeme is.written behind e is.reference.stands.part_is
 
-pub number_fits : (own : List ℕ) (value : ℕ) (rest : List ℕ) → IsNumberText own value → begins goes_on rest ≡ false
+pub digits_fit : (own : List ℕ) (value : ℕ) (rest : List ℕ) → IsNumberText own value
+    → begins is_ascii_digit rest ≡ false → begins (λ byte. byte == 58) rest ≡ false
     → FitsFirst forms own (token.Number (pos value)) rest
-number_fits own value rest number ends =
+digits_fit own value rest number ends no_colon =
     let first = digit_begins (own ++ rest) (begins-front is_ascii_digit own rest number.some) in
     let titled = cannot_start Titled (own ++ rest) first.1 in
     let function = cannot_start FunctionName (own ++ rest) first.0 in
-    let reference = no_reference own rest number.some number.all ends in
+    let reference = no_reference own rest number.some number.all ends no_colon in
     let word = cannot_start AnyWord (own ++ rest) first.0 in
     let digits : IsNumber own (token.Number (pos value)) rest = record {
       some = number.some;
-      run = own_run own rest number.some number.all ends;
+      run = own_run own rest number.some number.all ends no_colon;
       exact = rw number.value_is number.exact;
       token_is = rw number.value_is refl;
     } in
     inr (titled, inr (function, inr (reference, inr (word, inl digits))))
+
+pub number_fits : (own : List ℕ) (value : ℕ) (rest : List ℕ) → IsNumberText own value → begins goes_on rest ≡ false
+    → FitsFirst forms own (token.Number (pos value)) rest
+number_fits own value rest number ends =
+    digits_fit own value rest number (no_digit_behind rest ends) (no_colon_behind rest ends)

@@ -42,6 +42,7 @@ pub mod Bytes
 pub mod PrintedReferences
 pub mod ReferencesAgain
 pub mod Apart
+pub mod TextAlone
 pub mod TextItems
 pub mod PrintedItems
 pub mod Counted
@@ -51,15 +52,13 @@ pub mod WellFormed
 pub mod CutAreas
 pub mod ReadReferences
 pub mod Fewer
-pub mod ReadItems
 pub mod Readable
 pub mod Exchanged
 pub mod TreeStays
 pub mod Changed
 pub mod PrintedTwice
 pub mod Becoming
-pub mod SymbolSources
+pub mod SymbolsRead
 pub mod OneReference
 pub mod OneToken
 pub mod OneTree
-pub mod KnownSheets

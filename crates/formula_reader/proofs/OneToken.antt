@@ -137,7 +137,7 @@ form_once quotes (Sign spelling sign) own other t u rest behind is is' e =
     (own_is, is.1 ∙ sym is'.1, (same_front own rest other behind e (ap length own_is)).1)
 
 -- and so the first one that fits
-first_once : QuotesEndOnce → (tried : List Form) → IsOnce (FitsFirst tried)
+pub first_once : QuotesEndOnce → (tried : List Form) → IsOnce (FitsFirst tried)
 first_once quotes [] own other t u rest behind is is' e = absurd is
 first_once quotes (form ∷ later) own other t u rest behind (inl is) (inl is') e =
     form_once quotes form own other t u rest behind is is' e

@@ -7,7 +7,7 @@ use Rattle.ref_rewrite.specs.declared.pieces.Piece.TheVariants as piece
 use Rattle.formula_reader.specs.declared.symbols.Symbol.{Symbol}
 use Rattle.formula_reader.specs.Grammar.{HasTree}
 use Rattle.formula_reader.specs.Symbols.{symbols_of, AreOfPiece, AreOfPieces, AreSymbolsOf}
-use Rattle.formula_reader.specs.Laws.{HasOneTokens, HasOneTree}
+use Rattle.formula_reader.specs.Laws.{HasOneTokens, HasOneSymbols, HasOneTree}
 use Rattle.formula_reader.proofs.OneToken.{tokens_once}
 use Rattle.formula_reader.proofs.Unique.{one_tree}
 
@@ -29,7 +29,7 @@ pieces_once quotes (first ∷ later) one other are are' =
     let back = pieces_once quotes later are.1 are'.1 are.3 are'.3 in
     are.4 ∙ rw (front, back) refl ∙ sym are'.4
 
-formula_once : QuotesEndOnce → (pieces : List Piece) (one other : List Symbol) → AreSymbolsOf pieces one
+pub formula_once : QuotesEndOnce → (pieces : List Piece) (one other : List Symbol) → AreSymbolsOf pieces one
     → AreSymbolsOf pieces other → one ≡ other
 formula_once quotes (piece.Text text ∷ later) one other are are' =
     let whole : 61 ∷ are.0 ≡ 61 ∷ are'.0 = sym are.1 ∙ are'.1 in
@@ -40,6 +40,9 @@ formula_once quotes _ one other are are' = absurd are
 
 pub has_one_tokens : QuotesEndOnce → HasOneTokens
 has_one_tokens quotes text one other are are' = tokens_once quotes text 0 one other are are'
+
+pub has_one_symbols : QuotesEndOnce → HasOneSymbols
+has_one_symbols quotes formula one other are are' = formula_once quotes formula.pieces one other are are'
 
 pub has_one_tree : QuotesEndOnce → HasOneTree
 has_one_tree quotes formula one other is is' =

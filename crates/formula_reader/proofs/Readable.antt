@@ -9,16 +9,17 @@ use Rattle.formula_reader.specs.Tokens.{AreTokens}
 use Rattle.formula_reader.specs.declared.fault.FormulaFault.{FormulaFault}
 use Rattle.formula_reader.specs.declared.fault.FormulaFault.TheVariants as fault
 use Rattle.formula_reader.specs.Sheets.{Sheets}
-use Rattle.formula_reader.specs.Limits.{passed}
+use Rattle.formula_reader.specs.Limits.{passed, passed_by_symbols}
 use Rattle.formula_reader.specs.Pieces.{one_text, pieces_from, formula_of, AreTokensOf}
 use Rattle.formula_reader.specs.Printed.{ArePrintable}
-use Rattle.formula_reader.specs.Symbols.{AreSymbolsOf, IsTreeOf, HasTreeOfTokens, KeepsLimits}
+use Rattle.formula_reader.specs.declared.symbols.Symbol.{Symbol}
+use Rattle.formula_reader.specs.Symbols.{symbols_read, AreSymbolsOf, IsTreeOf, HasTreeOfTokens, KeepsLimits}
 use Rattle.formula_reader.specs.Tree.{Expression}
 use Rattle.formula_reader.specs.ReadBack.{AreKnown, IsPresent, IsReadable}
-use Rattle.formula_reader.proofs.Bytes.{pieces_spell}
 use Rattle.formula_reader.specs.Grammar.{HasTree}
-use Rattle.formula_reader.proofs.ReadItems.{symbols_within, symbols_are_read}
-use Rattle.formula_reader.proofs.SymbolSources.{pieces_other}
+use Rattle.formula_reader.proofs.OneToken.{tokens_once}
+use Rattle.formula_reader.proofs.OneTree.{formula_once}
+use Rattle.formula_reader.proofs.SymbolsRead.{read_symbols, symbols_within}
 use Rattle.formula_reader.proofs.ReadReferences.{pieces_seen}
 use Rattle.formula_reader.proofs.WellFormed.{pieces_formed}
 use Rattle.formula_reader.proofs.Within.{read_has}
@@ -50,63 +51,61 @@ module _ (a1 : A1Laws) (sheets : Sheets) (here : ℕ) (text behind : List ℕ) (
   read_references =
       read_has (HasReferences sheets here) sheets here text tokens result (λ within. rw begins pieces_referring) is
 
-  module _ (only : (all : List Placed) → AreTokens behind 0 all → all ≡ tokens) where
-    pieces_readable : passed tokens ≡ None → CanBeReadAgain sheets here (record { pieces = pieces })
-    pieces_readable within known tree has =
-        let form = pieces_formed sheets here behind tokens are tree has in
-        record {
-          tree = tree;
-          tree_is = has;
-          limits =
-              symbols_within pieces behind tokens has.0 tree
-              (pieces_spell sheets here behind tokens are) has.1 has.2 form.each only within;
-          form = form;
-          references = (pieces_referring known).1;
-        }
+  abbrev symbols : List Symbol
+  symbols = symbols_read sheets here tokens
 
-    pub read_readable : IfOk result (CanBeReadAgain sheets here)
-    read_readable =
-        read_has (CanBeReadAgain sheets here) sheets here text tokens result
-        (λ within. rw begins (pieces_readable within)) is
+  -- its symbols are those of the tokens, and pass no limit
+  symbols_are : AreSymbolsOf pieces symbols
+  symbols_are = read_symbols sheets here a1.quotes_end behind tokens are
 
-    -- its symbols are those of the tokens, and pass no limit
-    pieces_tree : HasTreeOfTokens sheets here tokens (record { pieces = pieces })
-    pieces_tree tree has =
-        let form = pieces_formed sheets here behind tokens are tree has in
-        subst (λ symbols. HasTree symbols tree)
-        (symbols_are_read pieces behind tokens has.0 tree
-        (pieces_spell sheets here behind tokens are) has.1 has.2 form.each only
-        sheets here (pieces_other sheets here (61 ∷ behind) 0 tokens)) has.2
+  only_these : (all : List Symbol) → AreSymbolsOf pieces all → symbols ≡ all
+  only_these all are_all = formula_once a1.quotes_end pieces symbols all symbols_are are_all
 
-    pub read_tree : (all : List Placed) → AreTokensOf text all → IfOk result (HasTreeOfTokens sheets here all)
-    read_tree all are_all =
-        let whole : 61 ∷ are_all.0 ≡ 61 ∷ behind = sym are_all.1 ∙ begins in
-        let same_behind : are_all.0 ≡ behind = cc in
-        let same : all ≡ tokens = only all (subst (λ (b : List ℕ). AreTokens b 0 all) same_behind are_all.2) in
-        rw same
-        (read_has (HasTreeOfTokens sheets here tokens) sheets here text tokens result
-        (λ within. rw begins pieces_tree) is)
+  pieces_within : passed tokens ≡ None → KeepsLimits (record { pieces = pieces })
+  pieces_within within all are_all =
+      subst (λ all. passed_by_symbols all ≡ None) (only_these all are_all)
+      (symbols_within sheets here a1.quotes_end behind tokens are within)
 
-    pieces_within : passed tokens ≡ None → KeepsLimits (record { pieces = pieces })
-    pieces_within within tree has =
-        let form = pieces_formed sheets here behind tokens are tree has in
-        record {
-          symbols = has.0;
-          are = has.1;
-          has = has.2;
-          limits =
-              symbols_within pieces behind tokens has.0 tree
-              (pieces_spell sheets here behind tokens are) has.1 has.2 form.each only within;
-        }
+  pub read_within : IfOk result KeepsLimits
+  read_within = read_has KeepsLimits sheets here text tokens result (λ within. rw begins (pieces_within within)) is
 
-    pub read_within : IfOk result KeepsLimits
-    read_within = read_has KeepsLimits sheets here text tokens result (λ within. rw begins (pieces_within within)) is
+  pieces_tree : HasTreeOfTokens sheets here tokens (record { pieces = pieces })
+  pieces_tree tree = (
+    λ has. subst (λ all. HasTree all tree) (sym (only_these has.0 has.1)) has.2,
+    λ has. (symbols, symbols_are, has),
+  )
+
+  pub read_tree : (all : List Placed) → AreTokensOf text all → IfOk result (HasTreeOfTokens sheets here all)
+  read_tree all are_all =
+      let whole : 61 ∷ are_all.0 ≡ 61 ∷ behind = sym are_all.1 ∙ begins in
+      let same_behind : are_all.0 ≡ behind = cc in
+      let same : all ≡ tokens =
+      tokens_once a1.quotes_end behind 0 all tokens
+      (subst (λ (b : List ℕ). AreTokens b 0 all) same_behind are_all.2) are
+      in
+      rw same
+      (read_has (HasTreeOfTokens sheets here tokens) sheets here text tokens result
+      (λ within. rw begins pieces_tree) is)
+
+  pieces_readable : passed tokens ≡ None → CanBeReadAgain sheets here (record { pieces = pieces })
+  pieces_readable within known tree has = record {
+    tree = tree;
+    tree_is = has;
+    limits = pieces_within within has.0 has.1;
+    form = pieces_formed sheets here behind tokens are tree has;
+    references = (pieces_referring known).1;
+  }
+
+  pub read_readable : IfOk result (CanBeReadAgain sheets here)
+  read_readable =
+      read_has (CanBeReadAgain sheets here) sheets here text tokens result
+      (λ within. rw begins (pieces_readable within)) is
 
 -- what is read of a text with no = before it has no tree
 pub text_within : (text : List ℕ) (formula : Formula) → formula ≡ one_text text
     → ((behind : List ℕ) → ¬ (text ≡ 61 ∷ behind)) → KeepsLimits formula
-text_within text formula is no_sign tree has =
-    let are : AreSymbolsOf (one_text text).pieces has.0 = rw is at has.1 in
+text_within text formula is no_sign symbols has =
+    let are : AreSymbolsOf (one_text text).pieces symbols = rw is at has in
     absurd (no_sign are.0 are.1)
 
 pub text_readable : (sheets : Sheets) (here : ℕ) (text : List ℕ) (formula : Formula) → formula ≡ one_text text

@@ -20,7 +20,6 @@ use Rattle.formula_reader.specs.Symbols.{symbol_of, symbols_of, AreOfPiece}
 use Rattle.formula_reader.proofs.Neighbours.{Kind, operand, naming, kind_of_token, kind_of_symbol}
 use Rattle.formula_reader.proofs.Apart.{OpensBehind, AreLexemes}
 use Rattle.formula_reader.proofs.Gathering.{gathered}
-use Rattle.formula_reader.proofs.SymbolSources.{AreFrom}
 
 -- the items are lexemes that spell the text, of tokens of these kinds
 pub record AreOf (text : List ℕ) (kinds : List Kind) (items : List Item) : Type 0 where
@@ -121,7 +120,6 @@ opens_behind own token rest fits = λ name is.
 -- the items of a text without references, words and #REF!
 pub record AreOfText (text : List ℕ) (symbols : List Symbol) (items : List Item) : Type 0 where
   pub of : AreOf text (map kind_of_symbol symbols) items
-  pub from : AreFrom (tokens_in items) [] symbols
   pub pending_grows : (sheets : Sheets) (here : ℕ) (pending : List ℕ) (more : List Item)
       → gathered sheets here pending (items ++ more) ≡ gathered sheets here (pending ++ text) more
 
@@ -130,14 +128,12 @@ items_of_text : (at : ℕ) (items : List Item) (symbols : List Symbol) → AreFi
     → AreOfText (spell items) symbols items
 items_of_text at [] symbols fit is = record {
   of = record { spells = refl; are = tt; kinds_are = let same : [] ≡ symbols = cc in ap (map kind_of_symbol) same };
-  from = let same : [] ≡ symbols = cc in (refl, sym same);
   pending_grows = λ sheets here pending more. ap (λ text. gathered sheets here text more) (sym (append-nil pending));
 }
 items_of_text at (gap blanks ∷ later) symbols fit is =
     let rest = items_of_text (at + length blanks) later symbols fit.1 is in
     record {
       of = record { spells = refl; are = (fit.0, rest.of.are); kinds_are = rest.of.kinds_are };
-      from = rest.from;
       pending_grows = λ sheets here pending more.
           rest.pending_grows sheets here (pending ++ blanks) more
           ∙ ap (λ text. gathered sheets here text more) (append_assoc pending blanks (spell later));
@@ -156,7 +152,6 @@ items_of_text at (lexeme own token ∷ later) symbols fit is =
         );
         kinds_are = rw (parts.whole, it.kind, rest.of.kinds_are) refl;
       };
-      from = (parts.first, [], parts.others, rw parts.first_is (refl, refl), rest.from, parts.whole);
       pending_grows = λ sheets here pending more.
           rw (it.no_piece sheets here)
           (rest.pending_grows sheets here (pending ++ own) more

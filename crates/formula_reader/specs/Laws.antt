@@ -7,10 +7,11 @@ use Rattle.ref_rewrite.specs.declared.reference.Marks.{Marks}
 use Rattle.a1_notation.specs.declared.column.TheConstants.{NAMED_COLUMNS}
 use Rattle.a1_notation.specs.declared.row.TheConstants.{NUMBERED_ROWS}
 use Rattle.a1_notation.specs.Canonical.{IsStretch, area_text}
+use Rattle.formula_reader.specs.declared.symbols.Symbol.{Symbol}
 use Rattle.formula_reader.specs.declared.tokens.token.Placed.{Placed}
 use Rattle.formula_reader.specs.Changed.{MayBecome}
 use Rattle.formula_reader.specs.ReferenceText.{reference_text}
-use Rattle.formula_reader.specs.Symbols.{IsTreeOf, HasTreeWithin}
+use Rattle.formula_reader.specs.Symbols.{AreSymbolsOf, IsTreeOf, KeepsLimits}
 use Rattle.formula_reader.specs.Tokens.{AreTokens}
 use Rattle.formula_reader.specs.Tree.{Expression}
 
@@ -18,14 +19,18 @@ use Rattle.formula_reader.specs.Tree.{Expression}
 abbrev pub HasOneTokens : Type 0
 HasOneTokens = (text : List ℕ) (one other : List Placed) → AreTokens text 0 one → AreTokens text 0 other → one ≡ other
 
+-- a formula has one list of symbols at most
+abbrev pub HasOneSymbols : Type 0
+HasOneSymbols = (formula : Formula) (one other : List Symbol) → AreSymbolsOf formula.pieces one
+    → AreSymbolsOf formula.pieces other → one ≡ other
+
 -- a formula has one tree at most
 abbrev pub HasOneTree : Type 0
 HasOneTree = (formula : Formula) (one other : Expression) → IsTreeOf formula one → IsTreeOf formula other → one ≡ other
 
--- a formula with a tree within the limits becomes one with a tree within them, as its pieces may become
+-- a formula that keeps the limits becomes one that keeps them, as its pieces may become
 abbrev pub LimitsStay : Type 0
-LimitsStay = (one other : Formula) (tree : Expression) → AllZip MayBecome one.pieces other.pieces
-    → HasTreeWithin one tree → (grown : Expression) × HasTreeWithin other grown
+LimitsStay = (one other : Formula) → AllZip MayBecome one.pieces other.pieces → KeepsLimits one → KeepsLimits other
 
 -- no coordinate is marked
 abbrev pub no_marks : Marks

@@ -11,7 +11,6 @@ pub mod Printed
 pub mod Limits
 pub mod Pieces
 pub mod Cuts
-pub mod Workbook
 pub mod Tree
 pub mod Grammar
 pub mod Symbols
@@ -21,3 +20,4 @@ pub mod Bytes
 pub mod ReadBack
 pub mod Changed
 pub mod Laws
+pub mod Faults

@@ -1,5 +1,5 @@
 -- The symbols of a formula, and its tree.
-use Rattle.std.specs.Prelude.{◌≡◌, ℕ, List, [], ◌∷◌, ◌++◌, Option, Some, None, option_map, option_and_then, map}
+use Rattle.std.specs.Prelude.{◌≡◌, ◌↔◌, ℕ, List, [], ◌∷◌, ◌++◌, Option, Some, None, option_map, option_and_then, map}
 use Rattle.formula_reader.specs.declared.tokens.token.Placed.{Placed}
 use Rattle.formula_reader.specs.declared.tokens.token.Token.{Token}
 use Rattle.formula_reader.specs.declared.tokens.token.Token.TheVariants as token
@@ -86,18 +86,12 @@ AreSymbolsOf _ symbols = ⊥
 abbrev pub IsTreeOf : Formula → Expression → Type 0
 IsTreeOf formula tree = (symbols : List Symbol) × AreSymbolsOf formula.pieces symbols × HasTree symbols tree
 
--- a tree of the formula is one of the tokens that were read
+-- the formula's trees are those of the tokens that were read
 abbrev pub HasTreeOfTokens : Sheets → ℕ → List Placed → Formula → Type 0
 HasTreeOfTokens sheets here tokens formula =
-    (tree : Expression) → IsTreeOf formula tree → HasTree (symbols_read sheets here tokens) tree
+    (tree : Expression) → IsTreeOf formula tree ↔ HasTree (symbols_read sheets here tokens) tree
 
--- the formula has that tree, and its symbols pass no limit
-pub record HasTreeWithin (formula : Formula) (tree : Expression) : Type 0 where
-  pub symbols : List Symbol
-  pub are : AreSymbolsOf formula.pieces symbols
-  pub has : HasTree symbols tree
-  pub limits : passed_by_symbols symbols ≡ None
-
--- if the formula has a tree, its symbols pass no limit
+-- the formula's symbols pass no limit
 abbrev pub KeepsLimits : Formula → Type 0
-KeepsLimits formula = (tree : Expression) → IsTreeOf formula tree → HasTreeWithin formula tree
+KeepsLimits formula =
+    (symbols : List Symbol) → AreSymbolsOf formula.pieces symbols → passed_by_symbols symbols ≡ None

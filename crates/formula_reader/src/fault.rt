@@ -16,6 +16,11 @@ pub enum FormulaFault {
 }
 
 impl fmt::Display for FormulaFault {
+    ghost use Rattle.std.specs.Prelude.{Some};
+    ghost use Rattle.formula_reader.specs.Faults.{fault_text};
+
+    ghost output = { λ fault. Some (fault_text fault) };
+
     fn fmt<W: fmt::Write>(&self, f: &mut fmt::Formatter<W>) -> fmt::Result {
         f.write_str(match self {
             FormulaFault::Tokens => "more than 512 tokens",

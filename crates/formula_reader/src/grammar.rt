@@ -13,8 +13,8 @@ ghost use Rattle.formula_reader.specs.declared.symbols.Symbol.{Symbol};
 ghost use Rattle.formula_reader.specs.Limits.{passed_by_symbols};
 ghost use Rattle.formula_reader.specs.Grammar.{HasTree};
 ghost use Rattle.formula_reader.specs.Only.{IsOnly};
-ghost use Rattle.formula_reader.specs.Tree.{Expression, expression_of};
-ghost use Rattle.formula_reader.specs.Symbols.{AreSymbolsOf, IsTreeOf, HasTreeWithin};
+ghost use Rattle.formula_reader.specs.Tree.{expression_of};
+ghost use Rattle.formula_reader.specs.Symbols.{AreSymbolsOf, IsTreeOf, KeepsLimits};
 
 use crate::fault::FormulaFault;
 use crate::limits::passed;
@@ -49,13 +49,14 @@ fn parse(alloc: Global, symbols: &[Symbol]) -> Result<Option<Tree>, NoMemory>
 ///
 /// [`FormulaFault::Tokens`], [`FormulaFault::References`] and [`FormulaFault::Depth`], exactly where the
 /// formula's symbols, its tokens with the cells that references name, pass a limit as
-/// [`read_formula`](crate::read_formula) counts it: a formula with a tree that was read passes none, nor does
-/// one whose references followed or were lost since. [`FormulaFault::NoMemory`] where memory runs out.
+/// [`read_formula`](crate::read_formula) counts it: a formula that was read passes none, with a tree or without
+/// one, nor does it where its references followed or were lost since, or its words were renamed.
+/// [`FormulaFault::NoMemory`] where memory runs out.
 pub fn tree_of(alloc: Global, formula: &Formula) -> Result<Option<Tree>, FormulaFault>
     ensures tree { IfOk result (λ tree. IsOnly (IsTreeOf formula.now) (option_map expression_of tree)) }
     ensures limits { (symbols : List Symbol) (fault : FormulaFault) → AreSymbolsOf formula.now.pieces symbols
         → passed_by_symbols symbols ≡ Some fault → (result ≡ Err fault) ⊎ (result ≡ Err FormulaFault.NoMemory) }
-    ensures within { (tree : Expression) (fault : FormulaFault) → HasTreeWithin formula.now tree → result ≡ Err fault
+    ensures within { (fault : FormulaFault) → KeepsLimits formula.now → result ≡ Err fault
         → fault ≡ FormulaFault.NoMemory }
     ensures passed { (fault : FormulaFault) → result ≡ Err fault → (fault ≡ FormulaFault.NoMemory)
         ⊎ ((symbols : List Symbol) × AreSymbolsOf formula.now.pieces symbols
@@ -69,6 +70,3 @@ pub fn tree_of(alloc: Global, formula: &Formula) -> Result<Option<Tree>, Formula
         None => Ok(parse(alloc, symbols.as_slice())?),
     }
 }
-
-#[cfg(test)]
-mod tests;

@@ -2,7 +2,7 @@
 //! that has read a formula knows by them that it can still be printed and read again when the sheets
 //! have changed.
 
-ghost use Rattle.formula_reader.specs.Laws.{HasOneTokens, HasOneTree, LimitsStay, PrintsCanonically};
+ghost use Rattle.formula_reader.specs.Laws.{HasOneTokens, HasOneSymbols, HasOneTree, LimitsStay, PrintsCanonically};
 ghost use Rattle.formula_reader.specs.Changed.{StaysReadable, PrintsTheSame, MayFollow, MayLoseSheet, MayBeRenamed};
 
 use a1_notation::a1_laws;
@@ -14,15 +14,16 @@ pub fn has_one_tokens()
     a1_laws();
 }
 
-/// A formula has one tree at most.
+/// A formula has one list of symbols at most, and so one tree.
 pub fn has_one_tree()
-    ensures { HasOneTree }
+    ensures symbols { HasOneSymbols }
+    ensures tree { HasOneTree }
 {
     a1_laws();
 }
 
-/// A formula with a tree within the limits has one after its references have followed, or were lost, and
-/// after its words are renamed.
+/// A formula that keeps the limits keeps them after its references have followed, or were lost, and after
+/// its words are renamed.
 pub fn limits_stay()
     ensures { LimitsStay }
 {}

@@ -25,6 +25,3 @@ pub use printing::print_formula;
 pub use reading::read_formula;
 pub use tokens::{MarkedArea, Operator, Placed, Token, tokens_of};
 pub use tree::Tree;
-
-#[cfg(test)]
-mod tests;

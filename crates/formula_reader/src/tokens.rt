@@ -54,6 +54,3 @@ pub fn tokens_of(alloc: Global, text: &str) -> Result<Option<Items<Placed>>, NoM
     }
     Ok(Some(Items::of(tokens)))
 }
-
-#[cfg(test)]
-mod tests;

@@ -1,5 +1,6 @@
 ghost use Rattle.std.specs.Prelude.{◌≡◌, ◌↔◌, IsTrue};
 
+use crate::axis::Axis;
 use crate::band::Band;
 
 /// A change of the lines on one axis of a sheet: insertDimension, deleteDimension and moveDimension
@@ -13,6 +14,19 @@ pub enum Change {
     /// The lines from `start` to `end - 1` stand before the line that stood at `to`, or last where
     /// `to` is the number of lines. A `to` from `start` to `end` moves nothing.
     Move { start: u32, end: u32, to: u32 },
+}
+
+/// A change of the lines on an axis of a sheet, of which there were `count`.
+#[derive(Clone, Copy)]
+pub struct SheetChange<'a> {
+    /// The sheet's id.
+    pub sheet: u32,
+    /// The axis whose lines change.
+    pub axis: Axis,
+    /// How many lines there were.
+    pub count: u32,
+    /// What changes.
+    pub change: &'a Change,
 }
 
 impl Change {

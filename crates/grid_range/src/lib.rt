@@ -18,7 +18,7 @@ mod tracking_laws;
 pub use area::Area;
 pub use axis::Axis;
 pub use band::Band;
-pub use change::Change;
+pub use change::{Change, SheetChange};
 pub use following_laws::{
     bands_stay, closed_keeps_lines, delete_in_turn, gives_bands, idle_move_keeps, insert_beside,
     insert_lengthens, lost_for_good, lost_where_gone, move_keeps_lines, open_keeps_lines,
@@ -31,6 +31,3 @@ pub use tracking_laws::{
     spans_stay_apart, tears_where_torn, torn_or_whole, tracks_all, tracks_exactly,
     tracks_stay_within,
 };
-
-#[cfg(test)]
-mod tests;

@@ -7,95 +7,92 @@
 //! sheet of 1,000 rows and 1,000 columns, with 10,000 items and with 1,000,000.
 #![tactic(auto)]
 
-mod calls;
-mod report;
-mod rounds;
-mod sheet;
+mod cases;
+mod sheets;
+mod times;
 
-use cell_store::{Grid, TreeGrid};
-use grid_range::{Area, Axis, Band};
-use link_store::LinkGrid;
+use cases::{BY_COLUMNS, BY_ROWS, CHANGES, Call, Case, FEW_CHANGES, ROW};
+use cell_store::CellStore;
+use grid_range::{Axis, Band};
+use sheets::{NARROW, Sheet, WIDE, filled_linked, filled_tree, linked, tree};
 use std::alloc::Global;
 use std::time::Clock;
 use std::{env, io};
-
-const ROWS: u32 = 1_000;
-
-const NARROW: u32 = 26;
-
-const WIDE: u32 = 1_000;
-
-/// How often changes are timed on a tree grid, and on a linked one.
-const TREE_ROUNDS: u32 = 3;
-
-const LINKED_ROUNDS: u32 = 1_000;
+use times::compare;
 
 fn main(rt: HostRuntime) -> anyhow::Result<()> {
+    count(&rt, &mut tree(rt.alloc(), NARROW))?;
+    count(&rt, &mut linked(rt.alloc(), NARROW)?)?;
+    if is_timed(&rt)? {
+        time(&rt, rt.alloc())
+    } else {
+        Ok(())
+    }
+}
+
+/// Whether the program was given the word `time`.
+fn is_timed(rt: &HostRuntime) -> io::Result<bool> {
     let mut timed = false;
-    for word in env::args(&rt)?.skip(1) {
+    for word in env::args(rt)?.skip(1) {
         timed = timed || word.as_str() == "time";
     }
-    count(&rt, "tree grid", TreeGrid::new(rt.alloc(), ROWS, NARROW))?;
-    count(&rt, "linked grid", LinkGrid::new(rt.alloc(), ROWS, NARROW)?)?;
-    if timed {
-        time_calls(&rt, rt.alloc())?;
-        time_changes(&rt, rt.alloc())?;
-    }
-    Ok(())
+    Ok(timed)
 }
 
 /// Fills the sheet and writes how many places a row and the whole sheet have.
-fn count<G: Grid<u64> + Drop, R: Print>(rt: &R, name: &str, grid: G) -> anyhow::Result<()> {
-    let mut grid = grid;
-    sheet::fill(&mut grid, Axis::Rows)?;
-    for (part, rows) in [("one row", Band::Span(500, 501)), ("all rows", Band::Whole)] {
-        let area = Area {
-            sheet: 0,
-            rows,
-            cols: Band::Whole,
-        };
-        let places = sheet::count_places(&grid, &area)?;
-        println!(rt; "{name}, {part}: {places} places of {}", grid.filled())?;
-    }
+fn count<G: CellStore<u64> + Drop, R: Print>(rt: &R, sheet: &mut Sheet<G>) -> anyhow::Result<()> {
+    sheet.make(&Call::Put(Axis::Rows, 1))?;
+    print_places(rt, sheet, "one row", ROW)?;
+    print_places(rt, sheet, "all rows", Band::Whole)
+}
+
+fn print_places<G: CellStore<u64>, R: Print>(
+    rt: &R,
+    sheet: &Sheet<G>,
+    part: &str,
+    rows: Band,
+) -> anyhow::Result<()> {
+    let (name, filled) = (sheet.name, sheet.grid.filled());
+    let places = sheet.count_places(rows, Band::Whole)?;
+    println!(rt; "{name}, {part}: {places} places of {filled}")?;
     Ok(())
 }
 
-fn time_calls<R: Clock + Print>(rt: &R, alloc: Global) -> anyhow::Result<()> {
-    for (order, by) in [("rows", Axis::Rows), ("columns", Axis::Columns)] {
-        for columns in [NARROW, WIDE] {
-            let tree = calls::time(rt, TreeGrid::new(alloc, ROWS, columns), by)?;
-            let linked = calls::time(rt, LinkGrid::new(alloc, ROWS, columns)?, by)?;
-            println!(rt; "{ROWS} rows, {columns} columns, filled by {order}:")?;
-            report::compare_calls(rt, tree, linked)?;
-        }
+fn time<R: Clock + Print>(rt: &R, alloc: Global) -> anyhow::Result<()> {
+    for columns in [NARROW, WIDE] {
+        println!(rt; "1,000 rows, {columns} columns:")?;
+        time_calls(rt, alloc, columns, &BY_ROWS)?;
+        time_calls(rt, alloc, columns, &BY_COLUMNS)?;
     }
-    Ok(())
+    println!(rt; "1,000 rows, 1,000 columns, 10,000 items and 1,000,000:")?;
+    time_changes(rt, alloc)?;
+    println!(rt; "1,000 rows, 1,000 columns, 1,000,000 items:")?;
+    time_few_changes(rt, alloc)
 }
 
-fn time_changes<R: Clock + Print>(rt: &R, alloc: Global) -> anyhow::Result<()> {
-    let mut tree = TreeGrid::new(alloc, ROWS, WIDE);
-    sheet::fill(&mut tree, Axis::Rows)?;
-    let of_tree = rounds::time(rt, &mut tree, TREE_ROUNDS)?;
-    report::changes(rt, "tree grid", tree.filled(), of_tree)?;
-    let mut few = LinkGrid::new(alloc, ROWS, WIDE)?;
-    sheet::fill_some(&mut few, 100)?;
-    let of_few = rounds::time(rt, &mut few, LINKED_ROUNDS)?;
-    report::changes(rt, "linked grid", few.filled(), of_few)?;
-    let mut many = LinkGrid::new(alloc, ROWS, WIDE)?;
-    sheet::fill(&mut many, Axis::Rows)?;
-    let of_many = rounds::time(rt, &mut many, LINKED_ROUNDS)?;
-    report::changes(rt, "linked grid", many.filled(), of_many)?;
-    report::compare_changes(
+/// Times calls that begin on an empty sheet.
+fn time_calls<R: Clock + Print>(
+    rt: &R,
+    alloc: Global,
+    columns: u32,
+    cases: &[Case],
+) -> anyhow::Result<()> {
+    compare(
         rt,
-        "linked with all items to linked with some",
-        of_many,
-        of_few,
-    )?;
-    report::compare_changes(rt, "tree to linked, with all items", of_tree, of_many)?;
-    let full = rounds::time_full_row(rt, &mut many)?;
-    println!(rt;
-        "linked grid: deleting a full row takes {} nanoseconds an item",
-        full / u128::from(WIDE)
-    )?;
-    Ok(())
+        cases,
+        &mut linked(alloc, columns)?,
+        &mut tree(alloc, columns),
+    )
+}
+
+/// Times changes of rows on linked grids with some items and with all.
+fn time_changes<R: Clock + Print>(rt: &R, alloc: Global) -> anyhow::Result<()> {
+    let mut some = filled_linked(alloc, 100)?;
+    compare(rt, &CHANGES, &mut some, &mut filled_linked(alloc, 1)?)
+}
+
+/// Times changes of rows on a linked grid and on a tree grid with all items.
+fn time_few_changes<R: Clock + Print>(rt: &R, alloc: Global) -> anyhow::Result<()> {
+    let mut linked = filled_linked(alloc, 1)?;
+    compare(rt, &FEW_CHANGES, &mut linked, &mut filled_tree(alloc, 1)?)
 }

@@ -5,8 +5,6 @@
 #![tactic(auto)]
 
 mod book;
-#[cfg(test)]
-mod tests;
 
 pub use book::{Book, Note, call, two_more};
 

@@ -20,6 +20,3 @@ pub use disk::Disk;
 pub use fault::LogFault;
 pub use log::DiskLog;
 pub use memory::MemoryDisk;
-
-#[cfg(test)]
-mod tests;

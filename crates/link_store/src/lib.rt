@@ -21,6 +21,3 @@ pub use counting::Steps;
 pub use entries::Entries;
 pub use grid::LinkGrid;
 pub use lists::Links;
-
-#[cfg(test)]
-mod tests;

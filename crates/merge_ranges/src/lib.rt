@@ -9,6 +9,3 @@ mod merges;
 
 pub use fault::{Cut, MergeFault};
 pub use merges::Merges;
-
-#[cfg(test)]
-mod tests;

@@ -2,7 +2,7 @@ ghost use Rattle.std.specs.Prelude.{◌≡◌, ◌==◌, not, filter};
 
 use crate::range::NamedRange;
 use cell_value::Follow;
-use grid_range::{Axis, Change};
+use grid_range::SheetChange;
 use indexmap::IndexMap;
 
 /// Takes out the ranges that are on the sheet.
@@ -11,15 +11,6 @@ pub(crate) fn keep_elsewhere(by_id: &mut IndexMap<String, NamedRange>, sheet: u3
         filter (λ entry. not (entry.1.area.sheet == sheet)) by_id.old.entries }
 {
     by_id.retain(|_, range| range.area.sheet != sheet);
-}
-
-/// A change of the lines on an axis of a sheet, of which there were `count`.
-#[derive(Clone, Copy)]
-pub(crate) struct SheetChange<'a> {
-    pub(crate) sheet: u32,
-    pub(crate) axis: Axis,
-    pub(crate) count: u32,
-    pub(crate) change: &'a Change,
 }
 
 impl Follow<SheetChange<'_>> for NamedRange {

@@ -11,6 +11,3 @@ mod range;
 pub use laws::names_are_words;
 pub use list::Names;
 pub use range::{NameFault, NamedRange};
-
-#[cfg(test)]
-mod tests;

@@ -9,11 +9,11 @@ ghost use Rattle.named_ranges.specs.Following.{IsRangeWithinOn, range_followed, 
 ghost use Rattle.named_ranges.specs.NameRule.{IsName};
 ghost use Rattle.named_ranges.specs.declared.range.NameFault.TheVariants.{NoId, IdTaken, BadName, NameTaken};
 
-use crate::following::{SheetChange, keep_elsewhere};
+use crate::following::keep_elsewhere;
 use crate::name::is_name;
 use crate::range::{NameFault, NamedRange};
 use cell_value::{Duplicate, NoMemory, Text, follow_values};
-use grid_range::{Area, Axis, Change};
+use grid_range::{Area, Axis, Change, SheetChange};
 use indexmap::IndexMap;
 use std::alloc::Global;
 use std::marker::Model;

@@ -5,3 +5,4 @@ pub mod Patch
 pub mod Following
 pub mod Sweep
 pub mod Settled
+pub mod Faults

@@ -14,6 +14,3 @@ mod sweep;
 
 pub use list::Protections;
 pub use range::{Protection, ProtectionFault, ProtectionPatch};
-
-#[cfg(test)]
-mod tests;

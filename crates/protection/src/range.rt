@@ -70,6 +70,11 @@ pub enum ProtectionFault {
 }
 
 impl fmt::Display for ProtectionFault {
+    ghost use Rattle.std.specs.Prelude.{Some};
+    ghost use Rattle.protection.specs.Faults.{fault_text};
+
+    ghost output = { λ fault. Some (fault_text fault) };
+
     fn fmt<W: fmt::Write>(&self, f: &mut fmt::Formatter<W>) -> fmt::Result {
         f.write_str(match self {
             ProtectionFault::Bad => "a bad shape of a protected range",

@@ -8,7 +8,7 @@ ghost use Rattle.ref_rewrite.specs.Following.{IsPieceWithinOn, reference_followe
 use crate::pieces::{Formula, Piece};
 use crate::reference::Ref;
 use cell_value::Update;
-use grid_range::{Axis, Change};
+use grid_range::{Axis, Change, SheetChange};
 
 /// Has each reference to the sheet follow a change of the lines on its axis, where it had `count`. A
 /// reference whose cells are gone becomes [`Piece::Lost`] for good; a title and marks stay with their
@@ -38,15 +38,6 @@ pub fn lose_sheet(formula: &mut Formula, sheet: u32)
     ensures elsewhere { All (IsNoReferenceTo sheet) formula.new.pieces }
 {
     formula.pieces.update(&LostSheet { sheet });
-}
-
-/// A change of the lines on an axis of a sheet, of which there were `count`.
-#[derive(Clone, Copy)]
-struct SheetChange<'a> {
-    sheet: u32,
-    axis: Axis,
-    count: u32,
-    change: &'a Change,
 }
 
 impl Update<SheetChange<'_>> for Piece {

@@ -13,6 +13,3 @@ pub use following::{follow, lose_sheet};
 pub use pieces::{Formula, Piece};
 pub use reference::{Marks, Ref};
 pub use renaming::rename_word;
-
-#[cfg(test)]
-mod tests;

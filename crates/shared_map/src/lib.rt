@@ -10,6 +10,3 @@ mod places;
 mod shared;
 
 pub use map::SharedMap;
-
-#[cfg(test)]
-mod tests;

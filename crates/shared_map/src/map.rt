@@ -1,5 +1,5 @@
 ghost use Rattle.std.specs.Prelude.{◌≡◌, IfOk, OnOk, OnErr, IfErr};
-ghost use Rattle.std.specs.Option.{option_copied};
+ghost use Rattle.std.specs.Option.{option_copied, IsSome};
 ghost use Rattle.std.specs.FinMap as map;
 ghost use Rattle.shared_map.specs.Map.{AreKeysWithin};
 
@@ -111,6 +111,7 @@ impl<T: Duplicate + Drop> SharedMap<T> {
         ensures item { IfOk result (λ item. item ≡ map.get self.old key) }
         ensures taken { OnOk result (self.new ≡ map.remove self.old key) }
         ensures unchanged { OnErr result (self.new ≡ self.old) }
+        ensures held { OnErr result (IsSome (map.get self.old key)) }
     {
         if self.root.get(key).is_none() {
             return Ok(None);

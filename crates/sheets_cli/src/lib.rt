@@ -23,6 +23,3 @@ pub use laws::{cut_off_laws, reply_laws};
 pub use program::{MOST, USAGE, sheets_main};
 pub use range::{COLUMNS, ROWS, Rectangle};
 pub use standard::{Input, Output};
-
-#[cfg(test)]
-mod tests;

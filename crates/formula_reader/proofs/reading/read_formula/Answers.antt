@@ -1,4 +1,4 @@
-use Rattle.std.proofs.Common.{◌≡◌, ℕ, List, ◌∷◌, sym, ◌∙◌, arith, lit<}
+use Rattle.std.proofs.Common.{◌≡◌, ℕ, List, ◌∷◌, arith, lit<}
 use Rattle.std.proofs.lemmas.Str.Pattern.{strip_prefix_char}
 use Rattle.formula_reader.proofs.Bytes.{read_spells}
 use Rattle.formula_reader.proofs.Cutting.{cuts_of}
@@ -50,8 +50,7 @@ returns-in-Some-2-clause-again g c =
     (g.S.SheetNames.sheets c.args.names.now) c.args.here c.args.text.now c.in-Some.behind.now c.in-Some-2.tokens
     c.formula_of.result
     (begins g (goal.at.returns-in-Some-2-clause-again g c).In-Some)
-    (rw c.in-Some-2.is at found.tokens) c.formula_of.ensures (λ all are. let same = sym c.in-Some-2.is
-    ∙ found.only all are in cc)
+    (rw c.in-Some-2.is at found.tokens) c.formula_of.ensures
 
 pub returns-in-Some-2-clause-tree : goal.returns-in-Some-2-clause-tree
 returns-in-Some-2-clause-tree g c =
@@ -60,8 +59,7 @@ returns-in-Some-2-clause-tree g c =
     (g.S.SheetNames.sheets c.args.names.now) c.args.here c.args.text.now c.in-Some.behind.now c.in-Some-2.tokens
     c.formula_of.result
     (begins g (goal.at.returns-in-Some-2-clause-tree g c).In-Some)
-    (rw c.in-Some-2.is at found.tokens) c.formula_of.ensures (λ all are. let same = sym c.in-Some-2.is
-    ∙ found.only all are in cc)
+    (rw c.in-Some-2.is at found.tokens) c.formula_of.ensures
 
 pub returns-in-Some-2-clause-limits : goal.returns-in-Some-2-clause-limits
 returns-in-Some-2-clause-limits g c =
@@ -70,8 +68,7 @@ returns-in-Some-2-clause-limits g c =
     (g.S.SheetNames.sheets c.args.names.now) c.args.here c.args.text.now c.in-Some.behind.now c.in-Some-2.tokens
     c.formula_of.result
     (begins g (goal.at.returns-in-Some-2-clause-limits g c).In-Some)
-    (rw c.in-Some-2.is at found.tokens) c.formula_of.ensures (λ all are. let same = sym c.in-Some-2.is
-    ∙ found.only all are in cc)
+    (rw c.in-Some-2.is at found.tokens) c.formula_of.ensures
 
 -- no text is behind the = that isn't there
 no_sign : (g : _) (c : In-None g) → (behind : List ℕ) → ¬ (c.args.text.now ≡ 61 ∷ behind)

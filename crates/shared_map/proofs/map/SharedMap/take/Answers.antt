@@ -1,5 +1,5 @@
 use Rattle.std.proofs.Common.{◌≡◌, true, false, not, ap, sym, ◌∙◌, arith, ◌-◌, ◌<◌}
-use Rattle.std.specs.Prelude.{Option, None, is_some}
+use Rattle.std.specs.Prelude.{Option, None, is_some, Result, Ok, Err, OnErr}
 use Rattle.std.specs.FinMap as map
 use Rattle.shared_map.specs.Root.{in_root}
 use Rattle.shared_map.specs.Map.{map_of}
@@ -41,3 +41,14 @@ pub returns-clause-taken : goal.returns-clause-taken
 returns-clause-taken g c =
     taken (in_root c.self.inside.root) (in_root c.take.new.self) c.args.key (omega arith) c.in_ok-item.ensures.taken
     ∙ ap (λ m. map.remove m c.args.key) c.self.view_is
+
+on_err : {A E P : Type 0} (r : Result A E) → P → OnErr r P
+on_err (Ok a) p = tt
+on_err (Err e) p = p
+
+pub returns-in_err-item-clause-held : goal.returns-in_err-item-clause-held
+returns-in_err-item-clause-held g c =
+    let find = in_root c.self.inside.root in
+    let held : is_some (find c.args.key) ≡ true = ap is_some (sym c.get.ensures) ∙ is_some-copied c.get.result ∙ c.is_none.ensures ∙ ap not c.if-is_none.false in
+    let is : is_some (map.get c.args.self.now c.args.key) ≡ true = ap (λ m. is_some (map.get m c.args.key)) (sym c.self.view_is) ∙ ap is_some (get-map_of find c.args.key (omega arith)) ∙ held in
+    on_err c.from_residual.result is

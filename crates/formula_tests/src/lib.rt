@@ -1,0 +1,17 @@
+//! The tests of formulas: their tokens, their trees, and how they are read and printed.
+//!
+//! The time in which a test is proved grows faster than its length: a test goes over a table, which is a
+//! static so that the test doesn't build it, and what it calls for a row answers without `?`. Where memory
+//! runs out an answer is wrong.
+#![tactic(auto)]
+
+#[cfg(test)]
+mod common;
+#[cfg(test)]
+mod formulas;
+#[cfg(test)]
+mod tokens;
+#[cfg(test)]
+mod trees;
+#[cfg(test)]
+mod workbook;

@@ -1,5 +1,0 @@
-use Rattle.link_store.proofs.tests.items_are_put_and_taken.Given as goal
-
--- the ledger of the steps
-abbrev pub ghosts-call_counted : goal.ghosts-call_counted
-ghosts-call_counted g a = record { name = a.blank.name; parts = a.blank.parts }

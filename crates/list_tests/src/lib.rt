@@ -1,0 +1,20 @@
+//! The tests of what a spreadsheet keeps in lists: merges, protected and named ranges, filters and
+//! developer metadata.
+//!
+//! The time in which a test is proved grows faster than its length: a test goes over a table, which is a
+//! static so that the test doesn't build it, and what it calls for a row answers without `?`. Where memory
+//! runs out an answer is wrong.
+#![tactic(auto)]
+
+#[cfg(test)]
+mod common;
+#[cfg(test)]
+mod filters;
+#[cfg(test)]
+mod merges;
+#[cfg(test)]
+mod metadata;
+#[cfg(test)]
+mod names;
+#[cfg(test)]
+mod protections;

@@ -1,0 +1,16 @@
+//! The tests of the program: conversations, how it ends where a read or a write fails, and the reads and
+//! writes of the system.
+//!
+//! The time in which a test is proved grows faster than its length: a test goes over a table, which is a
+//! static so that the test doesn't build it, and what it calls for a row answers without `?`. Where memory
+//! runs out an answer is wrong.
+#![tactic(auto)]
+
+#[cfg(test)]
+mod common;
+#[cfg(test)]
+mod conversations;
+#[cfg(test)]
+mod rows;
+#[cfg(test)]
+mod system;
