@@ -252,12 +252,14 @@ short_bytes read feeds e =
     at_first true y e = refl
     at_first false y e = let w : false ≡ true = e in cc
 
+pub growing_has_few_bytes : (text : List ℕ) (read : ℕ) → head_state_of text read ≡ Growing → read < head_limit
+growing_has_few_bytes text read g = short_bytes read (line_feeds text) (growing_is_short text read g)
+
 -- how a head stands is settled by its first bytes
 pub settled_early : (bytes : List ℕ) (n : ℕ) (how : HeadState) → SettledAt bytes n how → n ≤ head_limit
 settled_early bytes zero how s = omega arith
 settled_early bytes (suc k) how s =
     let growing = s.before k (omega arith) in
-    let short = short_bytes (length (take k bytes)) (line_feeds (skip_breaks (take k bytes)))
-    (growing_is_short (skip_breaks (take k bytes)) (length (take k bytes)) growing) in
+    let short = growing_has_few_bytes (skip_breaks (take k bytes)) (length (take k bytes)) growing in
     let within : suc k ≤ length bytes = s.within in
     omega (arith, short, length-take-le k bytes (omega arith))

@@ -3,6 +3,7 @@ pub mod HeadLemmas
 pub mod GrammarLemmas
 pub mod CallerLemmas
 pub mod ScanLemmas
+pub mod LineLemmas
 pub mod TalkLemmas
 pub mod AnswerLemmas
 pub mod OutputLemmas

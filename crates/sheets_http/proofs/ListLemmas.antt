@@ -1,6 +1,7 @@
 -- Lists cut in two and put together again.
-use Rattle.std.proofs.Common.{◌≡◌, ℕ, zero, suc, ◌+◌, ◌-◌, ◌≤◌, Bool, ◌||◌, List, [], ◌∷◌, ◌++◌, map, length, take, drop, refl, sym, ap, arith}
-use Rattle.std.proofs.lemmas.List.{take_at, drop-drop, take-append-drop, length-take-le, take_rest}
+use Rattle.std.proofs.Common.{◌≡◌, ℕ, zero, suc, ◌+◌, ◌-◌, ◌≤◌, Bool, ◌||◌, List, [], ◌∷◌, ◌++◌, map, length, take, drop, refl, sym, ap, ◌∙◌, arith}
+use Rattle.std.proofs.Math.Seq.{take-append-add}
+use Rattle.std.proofs.lemmas.List.{take_at, take_all, take-take, take-append-le, drop_at, drop-drop, take-append-drop, length-append, length-take-le, take_rest}
 use Rattle.std.specs.List.{list_any}
 
 -- some image passes where some element's image does
@@ -43,3 +44,26 @@ copied_then_rest s source copied buffer start count same few copy =
     let whole = take_rest s start in
     let few' : count ≤ length (drop start s) = rw (← whole, ← same) few in
     rw (copy, same, whole) (copied_front s buffer start count few')
+
+-- a list that was filled up to have room, and grew by the first items of what was read behind it
+pub grown : (old filled all pad read post more after : List ℕ) (held room count size : ℕ) → held ≡ length old
+    → filled ≡ all → all ≡ take room old ++ pad → held ≤ room → count ≤ length read → held + count ≤ size
+    → after ≡ take (held + count) (take size ((take held filled ++ (read ++ post)) ++ more))
+    → after ≡ old ++ take count read
+grown old filled all pad read post more after held room count size long same is_filled low few fits is =
+    let front : take held filled ≡ old =
+    ap (take held) (same ∙ is_filled ∙ ap (λ (t : List ℕ). t ++ pad) (take_all room old (omega (arith, long, low))))
+    ∙ take_at old pad held (sym long) in
+    let within : held + count ≤ length (old ++ (read ++ post)) =
+    omega (arith, length-append old (read ++ post), length-append read post) in
+    is
+    ∙ take-take (held + count) size ((take held filled ++ (read ++ post)) ++ more) fits
+    ∙ ap (λ (t : List ℕ). take (held + count) ((t ++ (read ++ post)) ++ more)) front
+    ∙ take-append-le (held + count) (old ++ (read ++ post)) more within
+    ∙ ap (λ n. take (n + count) (old ++ (read ++ post))) long
+    ∙ take-append-add old (read ++ post) count
+    ∙ ap (λ (t : List ℕ). old ++ t) (take-append-le count read post few)
+
+-- what it grew by
+pub grown_by : (old after t : List ℕ) → after ≡ old ++ t → drop (length old) after ≡ t
+grown_by old after t is = ap (drop (length old)) is ∙ drop_at old t (length old) refl

@@ -1,4 +1,5 @@
-ghost use Rattle.std.specs.Prelude.{◌≡◌, ◌≢◌, ℕ, ◌+◌, ◌-◌, ◌^◌, ◌<◌, ◌≤◌, List, [], ◌++◌, length, take, drop, IfOk, OnErr, IfSome};
+ghost use Rattle.std.specs.Prelude.{◌≡◌, ◌≢◌, ℕ, ◌+◌, ◌-◌, ◌^◌, ◌<◌, ◌≤◌, List, [], ◌++◌, length, take, drop, vec_len, IfOk, OnOk, OnErr, IfSome};
+ghost use Rattle.std.specs.Option.{option_map};
 ghost use Rattle.cell_value.specs.FaultCount.{Rose};
 ghost use Rattle.sheets_http.specs.Outside.{StaysSteady};
 ghost use Rattle.sheets_http.specs.Requests.{stream_of};
@@ -112,19 +113,7 @@ impl Buffer {
         ensures beside { S.beside source.new ≡ S.beside source.old }
     {
         self.compact();
-        let Ok(()) = self.bytes.reserve(PIECE) else {
-            return Err(FillError::NoMemory);
-        };
-        let mut piece = [0; PIECE];
-        match source.read(&mut piece) {
-            Ok(count) => {
-                let Ok(()) = self.bytes.extend_from_slice(&piece[..count]) else {
-                    unreachable!();
-                };
-                Ok(count)
-            }
-            Err(_) => Err(FillError::Failed),
-        }
+        read_behind(source, &mut self.bytes)
     }
 
     /// Moves the bytes that are held to the front.
@@ -136,6 +125,37 @@ impl Buffer {
             self.bytes.copy_within(self.start.., 0);
             self.bytes.truncate(count);
             self.start = 0;
+        }
+    }
+}
+
+/// Reads more bytes behind those that are held, and answers how many.
+fn read_behind<S: Source>(source: &mut S, bytes: &mut Vec<u8>) -> Result<usize, FillError>
+    ensures kept { bytes.new.items ≡ bytes.old.items ++ drop (vec_len bytes.old) bytes.new.items }
+    ensures given { OnOk result (S.left source.old
+        ≡ option_map (λ rest. drop (vec_len bytes.old) bytes.new.items ++ rest) (S.left source.new)) }
+    ensures grown { IfOk result (λ count. vec_len bytes.new ≡ vec_len bytes.old + count) }
+    ensures err { OnErr result (bytes.new.items ≡ bytes.old.items) }
+    ensures err_left { OnErr result (S.left source.old ≡ S.left source.new) }
+    ensures no_more { result ≡ Ok 0 → IfSome (S.left source.new) (λ rest. rest ≡ []) }
+    ensures fault { result ≡ Err FillError.Failed → Rose (S.faults source.old) (S.faults source.new) }
+    ensures later { S.faults source.old ≤ S.faults source.new }
+    ensures steady { StaysSteady (S.steady source.old) (S.steady source.new) (S.faults source.old)
+        (S.faults source.new) }
+    ensures beside { S.beside source.new ≡ S.beside source.old }
+{
+    let held = bytes.len();
+    let Ok(()) = bytes.resize(held + PIECE, 0) else {
+        return Err(FillError::NoMemory);
+    };
+    match source.read(&mut bytes[held..]) {
+        Ok(count) => {
+            bytes.truncate(held + count);
+            Ok(count)
+        }
+        Err(_) => {
+            bytes.truncate(held);
+            Err(FillError::Failed)
         }
     }
 }

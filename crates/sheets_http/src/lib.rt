@@ -35,8 +35,3 @@ pub use routing::route;
 pub use sending::send_all;
 pub use users::Users;
 pub use verb::Verb;
-
-#[cfg(test)]
-mod route_tests;
-#[cfg(test)]
-mod tests;

@@ -19,8 +19,6 @@ use std::alloc::Global;
 /// A failure takes nothing out of the conversation: it may go on after [`Next::ReadFault`] and
 /// [`Next::NoMemory`].
 pub fn next_request<L: Source>(alloc: Global, link: &mut L, buffer: &mut Buffer, most: u64) -> Next
-    requires { 0 < most }
-
     // What the answer says of the stream, where the source tells it.
     ensures answer { IfSome (stream_of buffer.old (L.left link.old))
         (λ bytes. IsAnswer (room_of most buffer.old) bytes (room_of most buffer.new)

@@ -1,4 +1,4 @@
-ghost use Rattle.std.specs.Prelude.{◌≡◌, ◌↔◌, [], map, IfOk, IsTrue, IsUtf8};
+ghost use Rattle.std.specs.Prelude.{◌≡◌, ◌↔◌, [], ◌∷◌, IfOk, IsTrue, IsUtf8, MatchOption};
 ghost use Rattle.percent_encoding.specs.Percent.{percent_decode};
 ghost use Rattle.sheets_http.specs.Table.{line};
 ghost use Rattle.sheets_http.specs.Routes.{FitsSegment, FitSegments, raw_segments, part, path_of, query_of, GivesLast, IsRoute};
@@ -9,7 +9,7 @@ use crate::table::Segment;
 use crate::{Route, RouteFault, Verb};
 use cell_value::{NoMemory, Text};
 use percent_encoding::percent_decode;
-use std::alloc::{AllocError, Global};
+use std::alloc::Global;
 
 /// The call that a request with that method and that target is, with the parts of its path and the
 /// members of its query.
@@ -74,33 +74,42 @@ fn before_verb<'a>(
     }
     match path.strip_suffix(line.verb.as_bytes()) {
         Some(before) => {
-            let raws = segments_of(alloc, before)?;
-            let fits = fit_segments(alloc, line.path, &raws)?;
+            let fits = fit_segments(alloc, line.path, before)?;
             if fits { Ok(Some(before)) } else { Ok(None) }
         }
         None => Ok(None),
     }
 }
 
-/// The segments of a path.
-fn segments_of<'a>(alloc: Global, path: &'a [u8]) -> Result<Vec<&'a [u8]>, AllocError>
-    ensures { IfOk result (λ segments. map (λ s. s.now) segments.items ≡ raw_segments path.now) }
+/// The first segment of a path, and what stands behind its slash.
+fn split_segment(path: &[u8]) -> (&[u8], Option<&[u8]>)
+    ensures { MatchOption result.1 (raw_segments path.now ≡ result.0.now ∷ [])
+        (λ rest. raw_segments path.now ≡ result.0.now ∷ raw_segments rest.now) }
 {
-    path.split(|byte| *byte == b'/').collect(alloc)
+    for (at, byte) in path.iter().enumerate() {
+        if *byte == b'/' {
+            return (&path[..at], Some(&path[at + 1..]));
+        }
+    }
+    (path, None)
 }
 
-/// Whether each segment fits.
-fn fit_segments(alloc: Global, path: &[Segment], raws: &[&[u8]]) -> Result<bool, NoMemory>
-    ensures { IfOk result (λ fit. IsTrue fit ↔ FitSegments path.now (map (λ s. s.now) raws.now)) }
+/// Whether each segment of a path fits.
+fn fit_segments(alloc: Global, segments: &[Segment], path: &[u8]) -> Result<bool, NoMemory>
+    ensures { IfOk result (λ fit. IsTrue fit ↔ FitSegments segments.now (raw_segments path.now)) }
 {
-    match path {
-        [] => Ok(raws.is_empty()),
-        [segment, path @ ..] => match raws {
-            [] => Ok(false),
-            [raw, raws @ ..] => Ok(
-                fits_segment(alloc, *segment, raw)? && fit_segments(alloc, path, raws)?,
-            ),
-        },
+    match segments {
+        [] => Ok(false),
+        [segment, segments @ ..] => {
+            let (raw, rest) = split_segment(path);
+            if !fits_segment(alloc, *segment, raw)? {
+                return Ok(false);
+            }
+            match rest {
+                Some(rest) => fit_segments(alloc, segments, rest),
+                None => Ok(segments.is_empty()),
+            }
+        }
     }
 }
 
@@ -124,9 +133,8 @@ fn route_call(alloc: Global, verb: Verb, before: &[u8], query: &[u8]) -> Result<
     if !fits_query(verb, query.as_slice()) {
         return Err(RouteFault::BadQuery);
     }
-    let raws = segments_of(alloc, before)?;
-    let book = part(alloc, &raws, 3)?;
-    let last = part(alloc, &raws, 5)?;
+    let book = part(alloc, before, 3)?;
+    let last = part(alloc, before, 5)?;
     let none = Text::of(String::new(alloc));
     let (range, id) = split_last(verb, last, none);
     Ok(Route {
@@ -152,14 +160,18 @@ fn split_last(verb: Verb, last: Text, none: Text) -> (Text, Text)
 }
 
 /// The part of a path at a place.
-fn part(alloc: Global, raws: &[&[u8]], place: usize) -> Result<Text, NoMemory>
-    requires { IsUtf8 (part place (map (λ s. s.now) raws.now)) }
-    ensures { IfOk result (λ text. text ≡ part place (map (λ s. s.now) raws.now)) }
+fn part(alloc: Global, path: &[u8], place: usize) -> Result<Text, NoMemory>
+    requires { IsUtf8 (part place (raw_segments path.now)) }
+    ensures { IfOk result (λ text. text ≡ part place (raw_segments path.now)) }
 {
-    if place < raws.len() {
-        decoded(alloc, raws[place])
+    let (raw, rest) = split_segment(path);
+    if place == 0 {
+        decoded(alloc, raw)
     } else {
-        Ok(Text::of(String::new(alloc)))
+        match rest {
+            Some(rest) => part(alloc, rest, place - 1),
+            None => Ok(Text::of(String::new(alloc))),
+        }
     }
 }
 
@@ -168,10 +180,9 @@ fn decoded(alloc: Global, raw: &[u8]) -> Result<Text, NoMemory>
     requires { IsUtf8 (percent_decode raw.now) }
     ensures { IfOk result (λ text. text ≡ percent_decode raw.now) }
 {
-    let mut bytes = Vec::new(alloc);
-    percent_decode(raw).append_to(&mut bytes)?;
-    match String::from_utf8(bytes) {
-        Ok(text) => Ok(Text::of(text)),
+    let decoded = percent_decode(raw).into_cow(alloc)?;
+    match str::from_utf8(&decoded) {
+        Ok(text) => Ok(Text::of(String::from_str(alloc, text)?)),
         Err(_) => unreachable!(),
     }
 }

@@ -1,6 +1,8 @@
-ghost use Rattle.std.specs.Prelude.{◌≡◌, ◌≢◌, ◌+◌, ◌^◌, ◌<◌, ◌≤◌, length, take};
-ghost use Rattle.sheets_http.specs.Heads.{is_break, ends_with_empty_line, line_limit, is_too_long, head_state};
+ghost use Rattle.std.specs.Prelude.{◌≡◌, ◌≢◌, ℕ, ◌+◌, ◌^◌, ◌<◌, ◌≤◌, length, take, slice_index};
+ghost use Rattle.sheets_http.specs.Heads.{is_break, ends_with_empty_line, head_limit, line_limit, is_too_long, head_state};
 ghost use Rattle.sheets_http.specs.Scanning.{IsScan, scan_after};
+
+use memchr::memchr;
 
 /// How many bytes a head has at most, with the empty lines before it.
 const HEAD_LIMIT: usize = 16_384;
@@ -85,6 +87,25 @@ impl HeadScan {
         }
     }
 
+    /// Passes over the bytes of a head that has begun before its next line feed, or before the last one of
+    /// those before `end` and within the limit.
+    fn pass_line(&mut self, bytes: &[u8], end: usize)
+        requires scan { IsScan self.old bytes.now }
+        requires growing { head_state (take self.old.seen bytes.now) ≡ HeadState.Growing }
+        requires short { self.old.seen < head_limit }
+        requires more { self.old.seen < end }
+        requires end { end ≤ length bytes.now }
+        ensures scan { IsScan self.new bytes.now }
+        ensures growing { head_state (take self.new.seen bytes.now) ≡ HeadState.Growing }
+        ensures on { self.old.seen ≤ self.new.seen }
+        ensures more { self.new.seen < end }
+    {
+        if self.skipped < self.seen {
+            let last = end.min(HEAD_LIMIT) - 1;
+            self.seen += line_length(&bytes[self.seen..last]);
+        }
+    }
+
     /// Looks at the bytes that weren't seen yet, before `end`, until they settle how the head stands.
     pub(crate) fn find(&mut self, bytes: &[u8], end: usize) -> HeadState
         requires scan { IsScan self.old bytes.now }
@@ -96,6 +117,7 @@ impl HeadScan {
         ensures settled { result ≢ HeadState.Growing → self.new.seen ≤ end }
     {
         while self.seen < end {
+            self.pass_line(bytes, end);
             let head_state = self.step(bytes);
             if head_state != HeadState::Growing {
                 return head_state;
@@ -110,6 +132,14 @@ pub(crate) fn is_break(byte: u8) -> bool
     ensures { result ≡ is_break byte }
 {
     byte == b'\r' || byte == b'\n'
+}
+
+/// How many bytes stand before the first line feed.
+fn line_length(bytes: &[u8]) -> usize
+    ensures within { result ≤ length bytes.now }
+    ensures no_feed { (k : ℕ) → k < result → slice_index bytes.now k ≢ 10 }
+{
+    memchr(b'\n', bytes).unwrap_or(bytes.len())
 }
 
 /// Whether the bytes end with an empty line.

@@ -1,5 +1,5 @@
-use crate::*;
 use cell_value::{Bytes, Items, NoMemory, Text};
+use sheets_http::*;
 use std::alloc::Global;
 use std::test::Fail;
 
@@ -82,7 +82,7 @@ fn requests_of<S: Source>(alloc: Global, source: &mut S, most: u64) -> Result<St
     let mut buffer = Buffer::new(alloc)?;
     let mut told = String::new(alloc);
     for _ in 0..9 {
-        let next = next_request(alloc, source, &mut buffer, most.max(1));
+        let next = next_request(alloc, source, &mut buffer, most);
         let word = shown(alloc, &next)?;
         told.push_str(word.as_str())?;
         if is_last(&next) {

@@ -1,5 +1,5 @@
-use crate::*;
 use cell_value::{Items, NoMemory, Text};
+use sheets_http::*;
 use std::alloc::Global;
 use std::test::Fail;
 
