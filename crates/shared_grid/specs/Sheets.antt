@@ -1,0 +1,54 @@
+-- How items by the numbers of their lines stand for a sheet. No public clause cites this module.
+use Rattle.std.specs.Prelude.{◌≡◌, ℕ, ◌+◌, ◌<◌, ◌≤◌, List, map, length}
+use Rattle.std.specs.Option.{IsSome}
+use Rattle.std.specs.Ordering.{nat_cmp}
+use Rattle.std.specs.FinMap as fin
+use Rattle.cell_store.specs.Table.{Table, most_lines}
+use Rattle.cell_store.specs.Entries.{table_of}
+use Rattle.shared_grid.specs.declared.order.Order.{Order}
+use Rattle.shared_grid.specs.Orders.{IsOrder, number_of, place_noted}
+use Rattle.shared_grid.specs.Cells.{key_of, line_in, across_in}
+use Rattle.shared_grid.specs.Grid.{NumberedTable}
+
+-- the place of the lines whose numbers are in the key
+abbrev pub place_in : Order → Order → ℕ → ℕ × ℕ
+place_in rows columns key = (place_noted rows (line_in key), place_noted columns (across_in key))
+
+-- the key of the place at a row and a column
+abbrev pub key_at : Order → Order → ℕ → ℕ → ℕ
+key_at rows columns row column = key_of (number_of rows row) (number_of columns column)
+
+module _ {T : Type 0} where
+  -- the items, each with its place
+  abbrev pub placed : Order → Order → fin.FinMap nat_cmp T → List ((ℕ × ℕ) × T)
+  placed rows columns items = map (λ (entry : ℕ × T). (place_in rows columns entry.0, entry.1)) (fin.entries items)
+
+  -- the sheet that the items stand for
+  abbrev pub sheet_of : Order → Order → fin.FinMap nat_cmp T → Table T
+  sheet_of rows columns items = table_of rows.count columns.count (placed rows columns items)
+
+  -- and with it how many numbers its lines have
+  abbrev pub numbered_table : Order → Order → fin.FinMap nat_cmp T → NumberedTable T
+  numbered_table rows columns items = record {
+    table = sheet_of rows columns items;
+    row_numbers = length rows.numbers.items;
+    column_numbers = length columns.numbers.items;
+  }
+
+-- the key has the numbers of a row and of a column
+pub record IsOnLines (rows columns : Order) (key : ℕ) : Type 0 where
+  pub row : ℕ
+  pub column : ℕ
+  pub there : (row < rows.count) × (column < columns.count)
+  pub is : key ≡ key_at rows columns row column
+
+-- each item is on a row and a column
+pub record AreOnLines {T : Type 0} (rows columns : Order) (items : fin.FinMap nat_cmp T) : Type 0 where
+  pub each : (key : ℕ) → IsSome (fin.get items key) → IsOnLines rows columns key
+
+-- the items stand for a sheet
+pub record IsSheet {T : Type 0} (rows columns : Order) (items : fin.FinMap nat_cmp T) : Type 0 where
+  pub rows_are : IsOrder rows
+  pub columns_are : IsOrder columns
+  pub lines : AreOnLines rows columns items
+  pub size : rows.count + columns.count ≤ most_lines

@@ -1,0 +1,127 @@
+ghost use Rattle.std.specs.Prelude.{◌≡◌, IfOk, OnOk, OnErr, IfErr};
+ghost use Rattle.std.specs.Option.{option_copied, IsSome};
+ghost use Rattle.std.specs.FinMap as map;
+ghost use Rattle.shared_grid.specs.Cells.{key_of};
+
+use cell_value::{Duplicate, NoMemory};
+use shared_map::SharedMap;
+use std::alloc::Global;
+use std::marker::Model;
+
+/// Tells that the place of a column and a row holds an item.
+#[derive(Clone, Copy)]
+pub(crate) struct Mark;
+
+impl Duplicate for Mark {
+    fn duplicate(&self) -> Result<Mark, NoMemory> {
+        Ok(Mark)
+    }
+}
+
+/// The items of a sheet by the numbers of their rows and columns. Contracts see the map of the items by
+/// row and column.
+///
+/// Where memory ended within a call a mark may stand where no item is.
+#[derive(Drop)]
+pub(crate) struct Cells<T: Duplicate + Drop> {
+    items: SharedMap<T>,
+    marks: SharedMap<Mark>,
+}
+
+impl<T: Duplicate + Drop> Model for Cells<T> {
+    ghost use Rattle.std.specs.Ordering.{nat_cmp};
+    ghost use Rattle.std.specs.Coded.{coded_ℕ};
+    ghost use Rattle.std.specs.FinMap as map;
+    ghost use Rattle.shared_grid.specs.Cells.{HasMarks};
+
+    ghost Value = { map.FinMap nat_cmp T };
+
+    ghost coded = { map.code coded_ℕ T.code };
+
+    ghost view = { λ c. c.items };
+
+    ghost invariant = { λ c. HasMarks c.items c.marks };
+}
+
+impl<T: Duplicate + Drop> Cells<T> {
+    /// No items.
+    ///
+    /// # Errors
+    ///
+    /// [`NoMemory`] where memory runs out.
+    pub(crate) fn new(alloc: Global) -> Result<Cells<T>, NoMemory>
+        ensures { IfOk result (λ cells. cells ≡ map.empty) }
+    {
+        let items = SharedMap::new(alloc)?;
+        let marks = SharedMap::new(alloc)?;
+        Ok(Cells { items, marks })
+    }
+
+    /// How many items there are.
+    pub(crate) fn count(&self) -> u64
+        ensures { result ≡ map.len self.now }
+    {
+        self.items.count()
+    }
+
+    /// The item at the place, lent.
+    pub(crate) fn get(&self, row: u32, column: u32) -> Option<&T>
+        ensures { option_copied result ≡ map.get self.now (key_of row column) }
+    {
+        self.items.get(key(row, column))
+    }
+
+    /// Puts the item at the place, and gives the one that was there.
+    ///
+    /// # Errors
+    ///
+    /// [`NoMemory`] with the item where memory runs out; the items are as they were.
+    pub(crate) fn put(&mut self, row: u32, column: u32, item: T) -> Result<Option<T>, (T, NoMemory)>
+        ensures old { IfOk result (λ old. old ≡ map.get self.old (key_of row column)) }
+        ensures put { OnOk result (self.new ≡ map.insert self.old (key_of row column) item) }
+        ensures back { IfErr result (λ refused. refused.0 ≡ item) }
+        ensures unchanged { OnErr result (self.new ≡ self.old) }
+    {
+        match self.marks.put(key(column, row), Mark) {
+            Ok(_) => self.items.put(key(row, column), item),
+            Err((_, no_memory)) => Err((item, no_memory)),
+        }
+    }
+
+    /// Takes the item out of the place; None where it holds none.
+    ///
+    /// # Errors
+    ///
+    /// [`NoMemory`] where memory runs out, and the place holds an item; the items are as they were.
+    pub(crate) fn take(&mut self, row: u32, column: u32) -> Result<Option<T>, NoMemory>
+        ensures item { IfOk result (λ item. item ≡ map.get self.old (key_of row column)) }
+        ensures taken { OnOk result (self.new ≡ map.remove self.old (key_of row column)) }
+        ensures unchanged { OnErr result (self.new ≡ self.old) }
+        ensures held { OnErr result (IsSome (map.get self.old (key_of row column))) }
+    {
+        let item = self.items.take(key(row, column))?;
+        drop(self.marks.take(key(column, row)));
+        Ok(item)
+    }
+
+    /// Other cells with the same items, none of which is copied.
+    ///
+    /// # Errors
+    ///
+    /// [`NoMemory`] where memory runs out.
+    pub(crate) fn copy(&self) -> Result<Cells<T>, NoMemory>
+        ensures { IfOk result (λ copy. copy ≡ self.now) }
+    {
+        Ok(Cells {
+            items: self.items.copy()?,
+            marks: self.marks.copy()?,
+        })
+    }
+}
+
+/// The key of a place: the number of its line, and that of the line across it.
+fn key(line: u32, across: u32) -> u64
+    ensures { result ≡ key_of line across }
+{
+    u64::from(line) * 4_294_967_296 + u64::from(across)
+}

@@ -1,0 +1,9 @@
+//! The cells of a sheet whose copy copies no cell: versions of it share what they have in common.
+#![tactic(auto)]
+
+mod cells;
+mod grid;
+mod held;
+mod order;
+
+pub use grid::SharedGrid;

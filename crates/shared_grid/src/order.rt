@@ -1,0 +1,162 @@
+ghost use Rattle.std.specs.Prelude.{◌≡◌, ℕ, ◌<◌, ◌≤◌, length, max, slice_index, slice_set, IfOk};
+ghost use Rattle.grid_range.specs.Change.{Fits, count_after};
+ghost use Rattle.cell_store.specs.Table.{most_lines};
+ghost use Rattle.shared_grid.specs.Orders.{AreMoved, AreNumbers, IsOrder};
+ghost use Rattle.shared_grid.specs.Orders.{number_of, parts_of, place_noted, source};
+
+use cell_value::NoMemory;
+use grid_range::{Change, places_stay_apart, places_stay_below};
+use std::alloc::Global;
+
+/// The lines of one axis in their order, each by a number that no change of lines alters.
+#[derive(Drop)]
+pub(crate) struct Order {
+    /// The numbers of the lines in order, and behind them those of no line, for lines to come.
+    numbers: Vec<u32>,
+    /// The place of each line, by its number.
+    places: Vec<u32>,
+    pub(crate) count: u32,
+}
+
+impl Order {
+    /// So many lines.
+    ///
+    /// # Errors
+    ///
+    /// [`NoMemory`] where memory runs out.
+    pub(crate) fn new(alloc: Global, count: u32) -> Result<Order, NoMemory>
+        requires { count ≤ most_lines }
+        ensures order { IfOk result IsOrder }
+        ensures count { IfOk result (λ order. order.count ≡ count) }
+        ensures numbers { IfOk result (λ order. length order.numbers.items ≡ count) }
+    {
+        let mut numbers = Vec::with_capacity(alloc, count as usize)?;
+        for number in 0..count {
+            numbers.push(number)?;
+        }
+        Order::of(alloc, numbers, count)
+    }
+
+    /// The lines with the first of these numbers.
+    ///
+    /// # Errors
+    ///
+    /// [`NoMemory`] where memory runs out.
+    fn of(alloc: Global, numbers: Vec<u32>, count: u32) -> Result<Order, NoMemory>
+        requires count { count ≤ length numbers.items }
+        requires most { length numbers.items ≤ most_lines }
+        requires each { AreNumbers numbers.items }
+        ensures order { IfOk result IsOrder }
+        ensures numbers { IfOk result (λ order. order.numbers.items ≡ numbers.items) }
+        ensures count { IfOk result (λ order. order.count ≡ count) }
+    {
+        let mut places = vec![in alloc; 0; numbers.len()]?;
+        for line in 0..count {
+            note(&mut places, numbers[line as usize], line);
+        }
+        Ok(Order {
+            numbers,
+            places,
+            count,
+        })
+    }
+
+    /// The lines after the change, in which each line that stays has its number.
+    ///
+    /// # Errors
+    ///
+    /// [`NoMemory`] where memory runs out.
+    pub(crate) fn changed(&self, alloc: Global, change: &Change) -> Result<Order, NoMemory>
+        requires order { IsOrder self.now }
+        requires fits { Fits change.now self.now.count }
+        requires room { count_after change.now self.now.count ≤ most_lines }
+        ensures order { IfOk result IsOrder }
+        ensures moved { IfOk result (AreMoved change.now self.now) }
+        ensures numbers { IfOk result (λ order. length order.numbers.items
+            ≤ max (length self.now.numbers.items) (count_after change.now self.now.count)) }
+    {
+        places_stay_apart();
+        places_stay_below();
+        let count = change.lines_after(self.count);
+        let mut numbers = self.numbers_for(count)?;
+        let (start, middle, end) = parts_of(change, self.count);
+        turn(&mut numbers, start, middle, end);
+        let order = Order::of(alloc, numbers, count)?;
+        Ok(order)
+    }
+
+    /// The numbers, and behind them as many as so many lines need.
+    fn numbers_for(&self, count: u32) -> Result<Vec<u32>, NoMemory>
+        requires order { IsOrder self.now }
+        requires most { count ≤ most_lines }
+        ensures each { IfOk result (λ numbers. AreNumbers numbers.items) }
+        ensures first { IfOk result (λ numbers. (index : ℕ) → index < length self.now.numbers.items
+            → slice_index numbers.items index ≡ number_of self.now index) }
+        ensures long { IfOk result (λ numbers. length numbers.items ≡ max (length self.now.numbers.items) count) }
+    {
+        let mut numbers = self.numbers.clone()?;
+        for number in self.numbers.len() as u32..count {
+            numbers.push(number)?;
+        }
+        Ok(numbers)
+    }
+
+    /// The number of the line.
+    pub(crate) fn number(&self, line: u32) -> u32
+        requires order { IsOrder self.now }
+        requires there { line < self.now.count }
+        ensures { result ≡ number_of self.now line }
+    {
+        self.numbers[line as usize]
+    }
+
+    /// The place of the line with the number.
+    pub(crate) fn place(&self, number: u32) -> u32
+        requires { number < length self.now.places.items }
+        ensures { result ≡ place_noted self.now number }
+    {
+        self.places[number as usize]
+    }
+}
+
+fn note(places: &mut Vec<u32>, number: u32, line: u32)
+    requires { number < length places.old.items }
+    ensures { places.new.items ≡ slice_set places.old.items number line }
+{
+    places[number as usize] = line;
+}
+
+/// The two parts of the numbers of so many lines that change places: where the first begins, and where
+/// it and the second end.
+fn parts_of(change: &Change, count: u32) -> (u32, u32, u32)
+    requires { Fits change.now count }
+    ensures { result ≡ parts_of change.now count }
+{
+    match *change {
+        Change::Insert {
+            at,
+            count: inserted,
+        } => (at, count, count + inserted),
+        Change::Delete { start, end } => (start, end, count),
+        Change::Move { start, end, to } => {
+            if to < start {
+                (to, start, end)
+            } else if end < to {
+                (start, end, to)
+            } else {
+                (0, 0, 0)
+            }
+        }
+    }
+}
+
+/// Puts the part of the numbers from `middle` to `end` before the one from `start` to `middle`.
+fn turn(numbers: &mut Vec<u32>, start: u32, middle: u32, end: u32)
+    requires order { (start ≤ middle) × (middle ≤ end) }
+    requires end { end ≤ length numbers.old.items }
+    ensures long { length numbers.new.items ≡ length numbers.old.items }
+    ensures order { (index : ℕ) → index < length numbers.old.items
+        → slice_index numbers.new.items index ≡ slice_index numbers.old.items (source start middle end index) }
+{
+    numbers[start as usize..end as usize].rotate_left((middle - start) as usize);
+}
