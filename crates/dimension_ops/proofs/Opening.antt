@@ -45,4 +45,6 @@ opening_sound id title owner = record {
   titles = λ i j d below there. absurd (let no : ⊥ = omega (arith, below, there) in no);
   visible = refl;
   sheets = All-push (IsSheetSound (opening_sheet ∷ [])) [] opening_sheet (All-nil (IsSheetSound (opening_sheet ∷ []))) (sheet_sound (opening_sheet ∷ []));
+  few_sheets = omega arith;
+  few_places = omega arith;
 }

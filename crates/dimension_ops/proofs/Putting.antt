@@ -1,13 +1,17 @@
--- One sheet of a list is written: the one that has the id.
-use Rattle.std.proofs.Common.{◌≡◌, ◌≢◌, ℕ, ◌<◌, refl, sym, ap, subst, ◌∙◌, List, length, get_or, set, cond, Bool, true, false, arith, inl, inr}
+-- One item of a list is changed: the sheet that has an id is written.
+use Rattle.std.proofs.Common.{◌≡◌, ◌≢◌, ℕ, ◌<◌, ◌≤◌, refl, sym, ap, subst, ◌∙◌, List, length, get_or, set, cond, Bool, true, false, arith, inl, inr}
 use Rattle.std.specs.Prelude.{Option, map, ◌==◌}
 use Rattle.std.specs.List.{AllPairs}
 use Rattle.std.proofs.lemmas.Bool.{cases_order, cond-true, cond-false, eqb-true, false_from_ne_true}
 use Rattle.std.proofs.Common.{[], ◌∷◌}
 use Rattle.std.proofs.Math.Seq.{map-set_same}
 use Rattle.std.proofs.lemmas.List.{map-set, length-map, get_or-map, length-set, get_or-set_same, get_or-set_other, ext_get_or}
+use Rattle.std.proofs.lemmas.List.Sums.{get_or-le-sum_by}
+use Rattle.cell_store.specs.Table.{filled_places, most_filled}
 use Rattle.ref_rewrite.specs.declared.cell_content.Content.{Content}
+use Rattle.world_model.specs.Counts.{filled_of}
 use Rattle.world_model.specs.Sheet.{PlaceSheet}
+use Rattle.world_model.specs.Sound.{most_places}
 use Rattle.world_model.specs.Writing.{sheet_put, table_written}
 use Rattle.dimension_ops.proofs.Finding.{IsFoundAt}
 
@@ -15,6 +19,42 @@ use Rattle.dimension_ops.proofs.Finding.{IsFoundAt}
 abbrev pub IdsDiffer : List PlaceSheet → Type 0
 IdsDiffer sheets = AllPairs (λ one other. one.id ≢ other.id) sheets
 
+-- the one item that passes a test is changed at its place
+module _ {X : Type 0} (test : X → Bool) (change : X → X) (xs : List X) (place : ℕ) (found : IsFoundAt test xs place)
+    (others : (i : ℕ) (d : X) → i < length xs → i ≢ place → test (get_or xs i d) ≡ false) where
+  abbrev changed : X → X
+  changed x = cond (test x) (change x) x
+
+  at_place : (i : ℕ) (d : X) → i < length xs
+      → get_or (set xs place (change (get_or xs place d))) i d ≡ changed (get_or xs i d)
+  at_place i d there = elim (cases_order i place) [
+    | inl same ↦ here i same
+    | inr which ↦ elim which [
+      | inl below ↦ elsewhere (let lt = below in λ e. let no : ⊥ = omega (arith, lt, e) in no)
+      | inr above ↦ elsewhere (let lt = above in λ e. let no : ⊥ = omega (arith, lt, e) in no)
+    ]
+  ]
+    where
+      here : (i : ℕ) → i ≡ place
+          → get_or (set xs place (change (get_or xs place d))) i d ≡ changed (get_or xs i d)
+      here i same =
+          subst (λ k. get_or (set xs place (change (get_or xs place d))) k d ≡ changed (get_or xs k d)) (sym same)
+          (get_or-set_same xs place (change (get_or xs place d)) d found.there
+          ∙ sym (cond-true (test (get_or xs place d)) (change (get_or xs place d)) (get_or xs place d)
+          (found.passes d)))
+
+      elsewhere : i ≢ place → get_or (set xs place (change (get_or xs place d))) i d ≡ changed (get_or xs i d)
+      elsewhere apart = get_or-set_other xs place i (change (get_or xs place d)) d apart
+          ∙ sym (cond-false (test (get_or xs i d)) (change (get_or xs i d)) (get_or xs i d) (others i d there apart))
+
+  pub changed_at_place : (d : X) → set xs place (change (get_or xs place d)) ≡ map changed xs
+  changed_at_place d = ext_get_or d (set xs place (change (get_or xs place d))) (map changed xs)
+      (length-set xs place (change (get_or xs place d)) ∙ sym (length-map xs changed))
+      (λ i below.
+      let there : i < length xs = subst (λ n. i < n) (length-set xs place (change (get_or xs place d))) below in
+      at_place i d there ∙ sym (get_or-map changed xs i d d there))
+
+-- the list with that sheet written is the list of all sheets written by their ids
 module _ (sheets : List PlaceSheet) (id row col : ℕ) (content : Option Content) (place : ℕ)
     (distinct : IdsDiffer sheets) (found : IsFoundAt (λ sheet. sheet.id == id) sheets place) where
   abbrev written : PlaceSheet → PlaceSheet
@@ -33,38 +73,16 @@ module _ (sheets : List PlaceSheet) (id row col : ℕ) (content : Option Content
         ]
       ])
 
-  at_place : (i : ℕ) (d : PlaceSheet) → i < length sheets
-      → get_or (set sheets place (written (get_or sheets place d))) i d
-      ≡ sheet_put id row col content (get_or sheets i d)
-  at_place i d there = elim (cases_order i place) [
-    | inl same ↦ here i same
-    | inr which ↦ elim which [
-      | inl below ↦ elsewhere (let lt = below in λ e. let no : ⊥ = omega (arith, lt, e) in no)
-      | inr above ↦ elsewhere (let lt = above in λ e. let no : ⊥ = omega (arith, lt, e) in no)
-    ]
-  ]
-    where
-      here : (i : ℕ) → i ≡ place → get_or (set sheets place (written (get_or sheets place d))) i d
-          ≡ sheet_put id row col content (get_or sheets i d)
-      here i same = subst (λ k. get_or (set sheets place (written (get_or sheets place d))) k d
-          ≡ sheet_put id row col content (get_or sheets k d)) (sym same)
-          (get_or-set_same sheets place (written (get_or sheets place d)) d found.there
-          ∙ sym (cond-true ((get_or sheets place d).id == id) (written (get_or sheets place d)) (get_or sheets place d)
-          (found.passes d)))
-
-      elsewhere : i ≢ place → get_or (set sheets place (written (get_or sheets place d))) i d
-          ≡ sheet_put id row col content (get_or sheets i d)
-      elsewhere apart = get_or-set_other sheets place i (written (get_or sheets place d)) d apart
-          ∙ sym (cond-false ((get_or sheets i d).id == id) (written (get_or sheets i d)) (get_or sheets i d)
-          (others i d there apart))
-
-  -- the list with that sheet written is the list of all sheets written by their ids
   pub put_at_place : (d : PlaceSheet)
       → set sheets place (written (get_or sheets place d)) ≡ map (sheet_put id row col content) sheets
-  put_at_place d = ext_get_or d (set sheets place (written (get_or sheets place d))) (map (sheet_put id row col content) sheets)
-      (length-set sheets place (written (get_or sheets place d)) ∙ sym (length-map sheets (sheet_put id row col content)))
-      (λ i below. let there : i < length sheets = subst (λ n. i < n) (length-set sheets place (written (get_or sheets place d))) below in
-      at_place i d there ∙ sym (get_or-map (sheet_put id row col content) sheets i d d there))
+  put_at_place d = changed_at_place (λ sheet. sheet.id == id) written sheets place found others d
+
+-- no sheet of a spreadsheet with so few cells is full
+pub room_at : (sheets : List PlaceSheet) (place : ℕ) (d : PlaceSheet) → filled_of sheets ≤ most_places
+    → place < length sheets → d ≡ get_or sheets place d → filled_places d.table < most_filled
+room_at sheets place d few there is =
+    let here = get_or-le-sum_by (λ (sheet : PlaceSheet). filled_places sheet.table) sheets place d there in
+    subst (λ (sheet : PlaceSheet). filled_places sheet.table < most_filled) (sym is) (omega (arith, few, here))
 
 -- a write keeps the ids
 ids_stay : (id row col : ℕ) (content : Option Content) (sheets : List PlaceSheet)

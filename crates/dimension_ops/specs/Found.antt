@@ -16,7 +16,3 @@ content_at id row col sheets = option_and_then (λ sheet. item_at sheet.table ro
 abbrev pub ArePlacesOf : Area → List PlaceSheet → List (ℕ × ℕ) → Type 0
 ArePlacesOf area sheets places =
     MatchOption (place_sheet_with area.sheet sheets) (places ≡ []) (λ sheet. AreFilledPlaces area sheet.table places)
-
--- how many sheets a spreadsheet can have
-abbrev pub most_sheets : ℕ
-most_sheets = 200

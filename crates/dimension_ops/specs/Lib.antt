@@ -1,4 +1,6 @@
 pub mod Coded
 pub mod Found
+pub mod Titles
 pub mod ByName
 pub mod World
+pub mod Rules

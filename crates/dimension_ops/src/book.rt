@@ -1,12 +1,14 @@
-ghost use Rattle.std.specs.Prelude.{◌≡◌, ◌==◌, ◌∷◌, [], map, length, IfOk, IfSome, IsSomeAnd, OnOk, OnErr};
+ghost use Rattle.std.specs.Prelude.{◌≡◌, ◌==◌, ◌<◌, ◌≤◌, ◌∷◌, [], map, length, IfErr, IfOk, IfSome, IsSomeAnd, OnOk, OnErr};
 ghost use Rattle.std.specs.List.{position_from};
 ghost use Rattle.std.specs.Option.{option_copied};
-ghost use Rattle.cell_store.specs.Table.{HasPlace};
-ghost use Rattle.world_model.specs.Sound.{IsContentWithin, place_sheet_with};
+ghost use Rattle.cell_store.specs.Table.{HasPlace, filled_places, most_filled};
+ghost use Rattle.world_model.specs.Counts.{filled_of, formulas_of};
+ghost use Rattle.world_model.specs.Sound.{IsContentWithin, IsSound, most_places, place_sheet_with};
 ghost use Rattle.world_model.specs.Writing.{book_put, table_written};
 ghost use Rattle.std.specs.Arc.{arc_value};
 ghost use Rattle.dimension_ops.specs.Found.{ArePlacesOf, content_at};
 ghost use Rattle.dimension_ops.specs.ByName.{WritesByName};
+ghost use Rattle.dimension_ops.specs.Titles.{sheet_titled, first_visible};
 ghost use Rattle.dimension_ops.specs.World.{opening_book};
 
 use crate::sheet::Sheet;
@@ -19,7 +21,7 @@ use ref_rewrite::Content;
 use std::alloc::{AllocError, Global};
 use std::marker::Model;
 use std::sync::Arc;
-use world_model::{writes_follow, writes_stay_sound};
+use world_model::{filled_within_places, formulas_counted, writes_follow, writes_stay_sound};
 
 /// A spreadsheet: its sheets in their order, named ranges, protected ranges and metadata (Sheets API v4
 /// reference, Spreadsheet). A copy shares the sheets that it doesn't write to.
@@ -37,12 +39,11 @@ pub struct Book {
 }
 
 impl Model for Book {
-    ghost use Rattle.std.specs.Prelude.{◌≡◌, ◌≤◌, [], map, length};
+    ghost use Rattle.std.specs.Prelude.{◌≡◌, [], map};
     ghost use Rattle.std.specs.Arc.{arc_value};
     ghost use Rattle.world_model.specs.Book.{PlaceBook};
     ghost use Rattle.world_model.specs.Sound.{IsSound};
     ghost use Rattle.dimension_ops.specs.Coded.{book_code};
-    ghost use Rattle.dimension_ops.specs.Found.{most_sheets};
 
     ghost Value = { PlaceBook };
 
@@ -51,7 +52,7 @@ impl Model for Book {
     ghost view = { λ b. record { id = b.id; title = b.title; owner = b.owner; sheets = map arc_value b.sheets.items } };
 
     ghost invariant = { λ b. IsSound (record { id = b.id; title = b.title; owner = b.owner; sheets = map arc_value b.sheets.items })
-        × (b.ids ≡ map (λ sheet. sheet.id) (map arc_value b.sheets.items)) × (length b.sheets.items ≤ most_sheets)
+        × (b.ids ≡ map (λ sheet. sheet.id) (map arc_value b.sheets.items))
         × (b.names ≡ []) × (b.protections ≡ []) × (b.metadata ≡ []) };
 }
 
@@ -79,6 +80,13 @@ impl Book {
             protections: Protections::new(alloc),
             metadata: Metadata::new(alloc),
         })
+    }
+
+    /// What always holds of a spreadsheet.
+    pub fn stays_sound(&self)
+        ensures { IsSound self.now }
+    {
+        let _ = &self.alloc;
     }
 
     /// The spreadsheet's id, lent.
@@ -114,6 +122,30 @@ impl Book {
         ensures { option_copied result ≡ place_sheet_with id self.now.sheets }
     {
         match self.sheets.iter().find(|sheet| sheet.id() == id) {
+            Some(sheet) => Some(sheet),
+            None => None,
+        }
+    }
+
+    /// The sheet with the title, whatever the case of its ASCII letters, lent; None where there is none.
+    pub fn titled(&self, title: &str) -> Option<&Sheet>
+        ensures { option_copied result ≡ sheet_titled title.now self.now.sheets }
+    {
+        match self
+            .sheets
+            .iter()
+            .find(|sheet| sheet.title().as_str().eq_ignore_ascii_case(title))
+        {
+            Some(sheet) => Some(sheet),
+            None => None,
+        }
+    }
+
+    /// The first sheet that isn't hidden, lent.
+    pub fn visible(&self) -> Option<&Sheet>
+        ensures { option_copied result ≡ first_visible self.now.sheets }
+    {
+        match self.sheets.iter().find(|sheet| !sheet.hidden()) {
             Some(sheet) => Some(sheet),
             None => None,
         }
@@ -162,6 +194,48 @@ impl Book {
         }
     }
 
+    /// How many cells are stored.
+    pub fn filled(&self) -> u64
+        ensures filled { result ≡ filled_of self.now.sheets }
+        ensures within { result ≤ most_places }
+    {
+        filled_within_places();
+        let mut filled = 0;
+        for sheet in &self.sheets {
+            filled += sheet.filled();
+        }
+        filled
+    }
+
+    /// How many cells hold a formula.
+    pub fn formulas(&self) -> u64
+        ensures formulas { result ≡ formulas_of self.now.sheets }
+        ensures within { result ≤ filled_of self.now.sheets }
+    {
+        filled_within_places();
+        formulas_counted();
+        let mut formulas = 0;
+        for sheet in &self.sheets {
+            formulas += sheet.formulas();
+        }
+        formulas
+    }
+
+    /// The spreadsheet as copies of a world share it.
+    ///
+    /// # Errors
+    ///
+    /// The spreadsheet, and [`NoMemory`] where memory runs out.
+    pub(crate) fn shared(self) -> Result<Arc<Book>, (Book, NoMemory)>
+        ensures shared { IfOk result (λ shared. arc_value shared ≡ self) }
+        ensures back { IfErr result (λ refused. refused.0 ≡ self) }
+    {
+        match Arc::new(self.alloc, self) {
+            Ok(shared) => Ok(shared),
+            Err(failed) => Err((failed.value, NoMemory)),
+        }
+    }
+
     /// Stores the content at the place of the sheet with the id, or empties it; all else stays. Lines are
     /// counted from 0. The sheet is copied first where another copy of the spreadsheet shares it.
     ///
@@ -183,6 +257,7 @@ impl Book {
     {
         writes_stay_sound();
         writes_follow();
+        filled_within_places();
         if let Some(place) = place_of(&self.sheets, sheet) {
             put_shared(&mut self.sheets[place], row, column, content)?;
         }
@@ -199,6 +274,7 @@ fn put_shared(
     content: Option<Content>,
 ) -> Result<(), NoMemory>
     requires inside { HasPlace (arc_value sheet.old).table row column }
+    requires room { filled_places (arc_value sheet.old).table < most_filled }
     ensures put { OnOk result (arc_value sheet.new ≡ record (arc_value sheet.old)
         { table = table_written row column content (arc_value sheet.old).table }) }
     ensures unchanged { OnErr result (arc_value sheet.new ≡ arc_value sheet.old) }

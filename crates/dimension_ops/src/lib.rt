@@ -2,12 +2,13 @@
 #![tactic(auto)]
 
 mod book;
+mod laws;
+mod rule;
 mod sheet;
 mod world;
 
 pub use book::Book;
+pub use laws::opening_stands;
+pub use rule::{Limit, Rule, RuleOr};
 pub use sheet::Sheet;
 pub use world::World;
-
-#[cfg(test)]
-mod tests;

@@ -2,16 +2,18 @@ ghost use Rattle.std.specs.Prelude.{◌≡◌, [], None, IfOk, OnOk, OnErr, ◌+
 ghost use Rattle.std.specs.Option.{option_copied};
 ghost use Rattle.cell_store.specs.Places.{AreFilledPlaces};
 ghost use Rattle.cell_store.specs.Table.{item_at, filled_places, empty_table, most_filled, most_lines, HasPlace, HasItemsInside};
+ghost use Rattle.world_model.specs.Counts.{formulas_at, formulas_in};
 ghost use Rattle.world_model.specs.Writing.{table_written};
 
 use basic_filter::Filter;
-use cell_store::{CellStore, MOST_FILLED, TreeGrid};
+use cell_store::{CellStore, TreeGrid};
 use cell_value::{Duplicate, Items, NoMemory, Text};
 use grid_range::Area;
 use merge_ranges::Merges;
 use ref_rewrite::Content;
 use std::alloc::{AllocError, Global};
 use std::marker::Model;
+use world_model::formulas_counted;
 
 /// What the cells of a sheet stand in.
 type Cells = TreeGrid<Content>;
@@ -23,12 +25,14 @@ pub struct Sheet {
     title: Text,
     hidden: bool,
     cells: Cells,
+    formulas: u64,
     merges: Merges,
     filter: Option<Filter>,
 }
 
 impl Model for Sheet {
     ghost use Rattle.std.specs.Prelude.{◌≡◌, [], None};
+    ghost use Rattle.world_model.specs.Counts.{formulas_in};
     ghost use Rattle.world_model.specs.Sheet.{PlaceSheet};
     ghost use Rattle.dimension_ops.specs.Coded.{sheet_code};
 
@@ -38,7 +42,7 @@ impl Model for Sheet {
 
     ghost view = { λ s. record { id = s.id; title = s.title; hidden = s.hidden; table = s.cells } };
 
-    ghost invariant = { λ s. (s.merges ≡ []) × (s.filter ≡ None) };
+    ghost invariant = { λ s. (s.formulas ≡ formulas_in s.cells) × (s.merges ≡ []) × (s.filter ≡ None) };
 }
 
 impl Sheet {
@@ -47,11 +51,13 @@ impl Sheet {
         requires { rows + cols ≤ most_lines }
         ensures { result ≡ record { id = id; title = title; hidden = Rattle.std.specs.Prelude.false; table = empty_table rows cols } }
     {
+        formulas_counted();
         Sheet {
             id,
             title,
             hidden: false,
             cells: TreeGrid::new(alloc, rows, cols),
+            formulas: 0,
             merges: Merges::new(alloc),
             filter: None,
         }
@@ -132,12 +138,18 @@ impl Sheet {
         self.cells.filled()
     }
 
+    /// How many cells hold a formula.
+    pub fn formulas(&self) -> u64
+        ensures { result ≡ formulas_in self.now.table }
+    {
+        self.formulas
+    }
+
     /// Stores the content at the place, or empties it.
     ///
     /// # Errors
     ///
-    /// [`NoMemory`] where memory runs out, and where the cells hold as much as they can; the sheet is as
-    /// it was.
+    /// [`NoMemory`] where memory runs out; the sheet is as it was.
     pub(crate) fn put(
         &mut self,
         row: u32,
@@ -145,22 +157,50 @@ impl Sheet {
         content: Option<Content>,
     ) -> Result<(), NoMemory>
         requires inside { HasPlace self.old.table row column }
+        requires room { filled_places self.old.table < most_filled }
         ensures put { OnOk result (self.new ≡ record self.old { table = table_written row column content self.old.table }) }
         ensures unchanged { OnErr result (self.new ≡ self.old) }
     {
-        match content {
-            Some(content) if self.cells.filled() < MOST_FILLED => {
-                match self.cells.put(row, column, content) {
-                    Ok(_) => Ok(()),
-                    Err(_) => Err(NoMemory),
-                }
-            }
-            Some(_) => Err(NoMemory),
-            None => {
-                self.cells.take(row, column)?;
-                Ok(())
-            }
-        }
+        formulas_counted();
+        let added = formulas_at(&content);
+        let old = exchange(&mut self.cells, row, column, content)?;
+        self.formulas = self.formulas + added - formulas_at(&old);
+        Ok(())
+    }
+}
+
+/// One where what a place holds is a formula, or else none.
+fn formulas_at(held: &Option<Content>) -> u64
+    ensures { result ≡ formulas_at held.now }
+{
+    match held {
+        Some(content) => match content {
+            Content::Formula(_) => 1,
+            _ => 0,
+        },
+        None => 0,
+    }
+}
+
+/// Stores the content at the place of the cells, or empties it, and gives what was there.
+fn exchange(
+    cells: &mut Cells,
+    row: u32,
+    column: u32,
+    content: Option<Content>,
+) -> Result<Option<Content>, NoMemory>
+    requires inside { HasPlace cells.old row column }
+    requires room { filled_places cells.old < most_filled }
+    ensures old { IfOk result (λ old. old ≡ item_at cells.old row column) }
+    ensures put { OnOk result (cells.new ≡ table_written row column content cells.old) }
+    ensures unchanged { OnErr result (cells.new ≡ cells.old) }
+{
+    match content {
+        Some(content) => match cells.put(row, column, content) {
+            Ok(old) => Ok(old),
+            Err(_) => Err(NoMemory),
+        },
+        None => Ok(cells.take(row, column)?),
     }
 }
 
@@ -171,6 +211,7 @@ impl Duplicate for Sheet {
             title: self.title.duplicate()?,
             hidden: self.hidden,
             cells: self.cells.copy()?,
+            formulas: self.formulas,
             merges: self.merges.duplicate()?,
             filter: None,
         })

@@ -1,6 +1,11 @@
-ghost use Rattle.std.specs.Prelude.{◌≡◌, ◌∷◌, [], map, length, slice_get, IfOk};
+ghost use Rattle.std.specs.Prelude.{◌≡◌, ◌∷◌, [], map, length, slice_get, IfErr, IfOk, OnErr, OnOk};
 ghost use Rattle.std.specs.Arc.{arc_value};
-ghost use Rattle.std.specs.Option.{option_copied};
+ghost use Rattle.std.specs.List.{position_from};
+ghost use Rattle.std.specs.Option.{option_copied, IsSome};
+ghost use Rattle.std.specs.Str.{bytes_eq};
+ghost use Rattle.world_model.specs.Counts.{filled_in};
+ghost use Rattle.world_model.specs.World.{book_replaced};
+ghost use Rattle.dimension_ops.specs.ByName.{ReplacesByName};
 ghost use Rattle.dimension_ops.specs.World.{book_with, opening_book};
 
 use crate::book::Book;
@@ -8,6 +13,7 @@ use cell_value::{Duplicate, NoMemory};
 use std::alloc::Global;
 use std::marker::Model;
 use std::sync::Arc;
+use world_model::replacements_follow;
 
 /// The spreadsheets of a server, in the order in which they were made. A copy shares those that it
 /// doesn't write to.
@@ -17,17 +23,20 @@ pub struct World {
 }
 
 impl Model for World {
-    ghost use Rattle.std.specs.Prelude.{List, map};
+    ghost use Rattle.std.specs.Prelude.{List, ◌≤◌, length, map};
     ghost use Rattle.std.specs.Arc.{arc_value};
     ghost use Rattle.std.specs.Coded.{coded_list};
     ghost use Rattle.world_model.specs.Book.{PlaceBook};
     ghost use Rattle.dimension_ops.specs.Coded.{book_code};
+    ghost use Rattle.dimension_ops.specs.World.{AreNumbered, most_books};
 
     ghost Value = { List PlaceBook };
 
     ghost coded = { coded_list book_code };
 
     ghost view = { λ w. map arc_value w.books.items };
+
+    ghost invariant = { λ w. AreNumbered (map arc_value w.books.items) × (length w.books.items ≤ most_books) };
 }
 
 impl World {
@@ -64,6 +73,49 @@ impl World {
             None => None,
         }
     }
+
+    /// How many cells are stored in all spreadsheets.
+    pub fn filled(&self) -> u64
+        ensures { result ≡ filled_in self.now }
+    {
+        let mut filled = 0;
+        for book in &self.books {
+            filled += book.filled();
+        }
+        filled
+    }
+
+    /// Puts the spreadsheet in the place of the one that has its id; all others stay.
+    ///
+    /// # Errors
+    ///
+    /// The spreadsheet, and [`NoMemory`] where memory runs out for what copies of the world share it by; the
+    /// world is as it was.
+    pub fn replace(&mut self, book: Book) -> Result<(), (Book, NoMemory)>
+        requires there { IsSome (book_with book.id self.old) }
+        ensures replaced { OnOk result (self.new ≡ book_replaced book self.old) }
+        ensures names { OnOk result (ReplacesByName book self.old self.new) }
+        ensures back { IfErr result (λ refused. refused.0 ≡ book) }
+        ensures unchanged { OnErr result (self.new ≡ self.old) }
+    {
+        replacements_follow();
+        match book.shared() {
+            Ok(shared) => {
+                if let Some(place) = place_of(&self.books, shared.id().as_str()) {
+                    self.books[place] = shared;
+                }
+                Ok(())
+            }
+            Err(refused) => Err(refused),
+        }
+    }
+}
+
+/// The place of the spreadsheet with the id among those.
+fn place_of(books: &[Arc<Book>], id: &str) -> Option<usize>
+    ensures { result ≡ position_from (λ book. bytes_eq book.id id.now) 0 (map arc_value books.now) }
+{
+    books.iter().position(|book| book.id().as_str() == id)
 }
 
 /// The same spreadsheets once more: nothing in them is copied.

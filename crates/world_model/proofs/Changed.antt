@@ -1,5 +1,5 @@
 -- A change of lines by places stands for the change by names.
-use Rattle.std.proofs.Common.{◌≡◌, ℕ, ◌<◌, refl, sym, ap, subst, ◌∙◌, List, [], ◌∷◌, cond, Bool, true, false, length, ◌&&◌, arith, suc}
+use Rattle.std.proofs.Common.{◌≡◌, ℕ, ◌<◌, ◌≤◌, refl, sym, ap, subst, ◌∙◌, List, [], ◌∷◌, cond, Bool, true, false, length, ◌&&◌, arith, suc}
 use Rattle.std.specs.Prelude.{Option, None, Some, IfSome, map, slice_get, ◌==◌, Contains}
 use Rattle.std.specs.List.{All, AllZip}
 use Rattle.std.specs.Option.{option_map}
@@ -21,11 +21,12 @@ use Rattle.cell_store.specs.Table.{Table, item_at}
 use Rattle.ref_rewrite.specs.declared.cell_content.Content.{Content}
 use Rattle.world_model.specs.Area.{Orders, band_named}
 use Rattle.world_model.specs.Book.{NameBook, PlaceBook, orders_of, sheet_with}
+use Rattle.world_model.specs.Counts.{grid_places}
 use Rattle.world_model.specs.Content.{content_named}
 use Rattle.world_model.specs.LineChange.{LineChange, line_change, sheet_followed, book_changed, name_content_followed}
 use Rattle.world_model.specs.PlaceChange.{SheetChanged, BookChanged}
 use Rattle.world_model.specs.Sheet.{NameSheet, PlaceSheet, lines_of}
-use Rattle.world_model.specs.Sound.{IsSheetSound, IsLineCount, IsContentWithin, place_sheet_with}
+use Rattle.world_model.specs.Sound.{IsSheetSound, IsLineCount, IsContentWithin, most_places, place_sheet_with}
 use Rattle.world_model.specs.StandsFor.{SheetStandsFor, BookStandsFor}
 use Rattle.world_model.proofs.Areas.{FollowsOn, area_follows, other_axis}
 use Rattle.world_model.proofs.Bands.{band_follows}
@@ -241,14 +242,14 @@ module _ (tracks : TracksAll) (places : PlacesAll) (orders_stay : OrdersStay) (w
       (fresh order : List ℕ) → BookStandsFor before names
       → Fits change count → IsLineCount axis (count_after change count)
       → Changes change count (orders_of names.sheets id axis) fresh order
-      → BookChanged id axis count change before after
+      → BookChanged id axis count change before after → grid_places after.sheets ≤ most_places
       → BookStandsFor after (book_changed id axis (order_change change fresh) names)
-  changes_follow before after names id axis count change fresh order stands fits room changes changed = record {
+  changes_follow before after names id axis count change fresh order stands fits room changes changed few = record {
     sound = changes_stay_sound within below before after id axis count change stands.sound fits room
         (subst (λ n. IfSome (place_sheet_with id before.sheets)
         (λ sheet. lines_on axis sheet.table.rows sheet.table.cols ≡ n)) changes.long
         (lines_if_found before.sheets names.sheets id axis stands.sheets))
-        changed;
+        changed few;
     id = changed.id ∙ stands.id;
     title = changed.title ∙ stands.title;
     owner = changed.owner ∙ stands.owner;

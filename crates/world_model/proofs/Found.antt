@@ -1,7 +1,7 @@
 -- A sheet that is found by its id, among those that a program keeps and among those that these stand for.
 use Rattle.std.proofs.Common.{◌≡◌, ◌≢◌, ℕ, ◌<◌, zero, suc, refl, sym, ap, ◌∙◌, List, [], ◌∷◌, cond, Bool, true, false, length, get_or, arith}
 use Rattle.std.specs.Prelude.{Option, Some, IfSome, IsSomeAnd, ◌==◌}
-use Rattle.std.specs.List.{All, AllPairs, AllZip}
+use Rattle.std.specs.List.{All, AllPairs, AllZip, find}
 use Rattle.std.proofs.lemmas.Bool.{eqb-true, eq-eqb, false≢true, false_from_ne_true}
 use Rattle.grid_range.specs.Order.{IsOrder}
 use Rattle.grid_range.specs.declared.axis.Axis.{Axis}
@@ -17,25 +17,33 @@ use Rattle.world_model.proofs.Lines.{lines_there}
 abbrev pub IsOwn : List NameSheet → NameSheet → Type 0
 IsOwn sheets sheet = sheet_with sheet.id sheets ≡ Some sheet
 
-found_here : (b : Bool) (sheet : NameSheet) (rest : Option NameSheet) → b ≡ true → cond b (Some sheet) rest ≡ Some sheet
-found_here true sheet rest is = refl
-found_here false sheet rest is = absurd (false≢true is)
+-- among things with numbers of which no two are one, each is found by its own
+module _ {A : Type 0} (number : A → ℕ) where
+  found_here : (b : Bool) (thing : A) (rest : Option A) → b ≡ true → cond b (Some thing) rest ≡ Some thing
+  found_here true thing rest is = refl
+  found_here false thing rest is = absurd (false≢true is)
 
-found_behind : (b : Bool) (first sheet : NameSheet) (rest : Option NameSheet) → b ≡ false → rest ≡ Some sheet
-    → cond b (Some first) rest ≡ Some sheet
-found_behind true first sheet rest is found = absurd (false≢true (sym is))
-found_behind false first sheet rest is found = found
+  found_behind : (b : Bool) (first thing : A) (rest : Option A) → b ≡ false → rest ≡ Some thing
+      → cond b (Some first) rest ≡ Some thing
+  found_behind true first thing rest is found = absurd (false≢true (sym is))
+  found_behind false first thing rest is found = found
+
+  pub each_found : (things : List A) → AllPairs (λ one other. number one ≢ number other) things
+      → All (λ thing. find (λ other. number other == number thing) things ≡ Some thing) things
+  each_found [] distinct k d there = absurd (omega arith)
+  each_found (t ∷ ts) distinct zero d there =
+      found_here (number t == number t) t (find (λ other. number other == number t) ts) (eq-eqb (number t) (number t) refl)
+  each_found (t ∷ ts) distinct (suc k) d there =
+      let thing = get_or ts k d in
+      found_behind (number t == number thing) t thing (find (λ other. number other == number thing) ts)
+      (false_from_ne_true (number t == number thing) (λ is.
+      distinct 0 (suc k) d (omega arith) there (eqb-true (number t) (number thing) is)))
+      (each_found ts (λ i j e below inside. distinct (suc i) (suc j) e (omega arith) (omega arith)) k d (omega arith))
 
 -- where no two have one id, each is found
 pub each_own : (sheets : List NameSheet) → AllPairs (λ one other. one.id ≢ other.id) sheets
     → All (IsOwn sheets) sheets
-each_own [] distinct k d there = absurd (omega arith)
-each_own (s ∷ ss) distinct zero d there = found_here (s.id == s.id) s (sheet_with s.id ss) (eq-eqb s.id s.id refl)
-each_own (s ∷ ss) distinct (suc k) d there =
-    let sheet = get_or ss k d in
-    found_behind (s.id == sheet.id) s sheet (sheet_with sheet.id ss)
-    (false_from_ne_true (s.id == sheet.id) (λ is. distinct 0 (suc k) d (omega arith) there (eqb-true s.id sheet.id is)))
-    (each_own ss (λ i j e below inside. distinct (suc i) (suc j) e (omega arith) (omega arith)) k d (omega arith))
+each_own sheets distinct = each_found (λ (sheet : NameSheet). sheet.id) sheets distinct
 
 -- a sheet that is found by places, and the one that it stands for
 pub record FoundByName (sheets : List NameSheet) (P : PlaceSheet → Type 0) (found : Option NameSheet) : Type 0 where

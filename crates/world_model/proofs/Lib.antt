@@ -4,6 +4,7 @@ pub mod Found
 pub mod Puts
 pub mod WrittenSound
 pub mod Written
+pub mod Updated
 pub mod Bands
 pub mod Areas
 pub mod MovedCells
@@ -18,3 +19,6 @@ pub mod Called
 pub mod BandsApart
 pub mod ContentsApart
 pub mod Apart
+pub mod Filled
+pub mod Replaced
+pub mod Formulas

@@ -13,7 +13,7 @@ use Rattle.ref_rewrite.specs.declared.cell_content.Content.{Content}
 use Rattle.world_model.specs.Sheet.{PlaceSheet}
 use Rattle.world_model.specs.Writing.{table_written}
 
-by_rows_total : IsTotalOrder by_rows
+pub by_rows_total : IsTotalOrder by_rows
 by_rows_total = then_total (on_total (λ (p : ℕ × ℕ). p.0) nat_cmp_total) (on_total (λ (p : ℕ × ℕ). p.1) nat_cmp_total)
 
 -- what a table holds after a write

@@ -1,5 +1,5 @@
 -- What always holds of a spreadsheet holds after a change of lines.
-use Rattle.std.proofs.Common.{◌≡◌, ◌≢◌, ℕ, ◌<◌, zero, suc, refl, sym, ap, subst, ◌∙◌, List, [], ◌∷◌, cond, Bool, true, false, length, get_or, arith}
+use Rattle.std.proofs.Common.{◌≡◌, ◌≢◌, ℕ, ◌<◌, ◌≤◌, zero, suc, refl, sym, ap, subst, ◌∙◌, List, [], ◌∷◌, cond, Bool, true, false, length, get_or, arith}
 use Rattle.std.specs.Prelude.{Option, None, Some, IfSome, IsSomeAnd, is_some, map, ◌==◌}
 use Rattle.std.specs.List.{All, AllPairs, AllZip}
 use Rattle.std.specs.Option.{option_map, option_map_or}
@@ -24,12 +24,13 @@ use Rattle.ref_rewrite.specs.declared.pieces.Piece.{Piece}
 use Rattle.ref_rewrite.specs.declared.pieces.Piece.TheVariants as piece
 use Rattle.ref_rewrite.specs.declared.reference.Ref.{Ref as Reference}
 use Rattle.world_model.specs.Book.{PlaceBook}
+use Rattle.world_model.specs.Counts.{grid_places}
 use Rattle.world_model.specs.PlaceChange.{SheetChanged, BookChanged, content_followed}
 use Rattle.world_model.specs.Sheet.{PlaceSheet}
-use Rattle.world_model.specs.Sound.{IsSheetSound, IsSound, IsLineCount, HasNotation, IsContentWithin, IsPieceWithin, IsAreaWithin, place_sheet_with}
+use Rattle.world_model.specs.Sound.{IsSheetSound, IsSound, IsLineCount, HasNotation, IsContentWithin, IsPieceWithin, IsAreaWithin, most_places, most_sheets, place_sheet_with}
 use Rattle.world_model.proofs.Areas.{other_axis}
 use Rattle.world_model.proofs.Forms.{notation_kept}
-use Rattle.world_model.proofs.Kept.{KeepsTitle, only_one, found_both, found_too, still_found, visible_stays, distinct_stay, titles_stay, there_before}
+use Rattle.world_model.proofs.Kept.{KeepsTitle, only_one, found_both, found_too, still_found, visible_stays, distinct_stay, titles_stay, there_before, same_length}
 use Rattle.world_model.proofs.MovedTables.{row_came, col_came, same_size, size_moved, holds_where_moved}
 use Rattle.world_model.proofs.Orders.{on_both}
 
@@ -312,11 +313,15 @@ module _ (within : TracksStayWithin) (below : PlacesStayBelow) (befores afters :
 pub changes_stay_sound : TracksStayWithin → PlacesStayBelow → (before after : PlaceBook) (id : ℕ) (axis : Axis) (count : ℕ)
     (change : Change) → IsSound before → Fits change count → IsLineCount axis (count_after change count)
     → IfSome (place_sheet_with id before.sheets) (λ sheet. lines_on axis sheet.table.rows sheet.table.cols ≡ count)
-    → BookChanged id axis count change before after → IsSound after
-changes_stay_sound within below before after id axis count change sound fits room long changed = record {
+    → BookChanged id axis count change before after → grid_places after.sheets ≤ most_places → IsSound after
+changes_stay_sound within below before after id axis count change sound fits room long changed few = record {
   distinct = distinct_stay (SheetChanged id axis count change) (goes_keeps id axis count change) before.sheets after.sheets changed.sheets sound.distinct;
   titles = titles_stay (SheetChanged id axis count change) (goes_keeps id axis count change) before.sheets after.sheets changed.sheets sound.titles;
   visible = visible_stays (SheetChanged id axis count change) (goes_keeps id axis count change) before.sheets after.sheets changed.sheets ∙ sound.visible;
   sheets = sheets_stay within below before.sheets after.sheets id axis count change fits changed.sheets sound.distinct long
       room sound.sheets;
+  few_sheets = subst (λ n. n ≤ most_sheets)
+      (same_length (SheetChanged id axis count change) (goes_keeps id axis count change) before.sheets after.sheets
+      changed.sheets) sound.few_sheets;
+  few_places = few;
 }

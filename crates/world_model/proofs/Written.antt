@@ -47,24 +47,24 @@ moved_over f false true content held held' same is = absurd (false≢true (sym s
 moved_over f false false content held held' same is = is
 
 -- the cells of a sheet that may be written
-cells_chosen : (b : Bool) (names : NameSheet) (cells : ℕ → ℕ → Option NameContent) (r c : ℕ)
+pub cells_chosen : (b : Bool) (names : NameSheet) (cells : ℕ → ℕ → Option NameContent) (r c : ℕ)
     → (cond b (record names { cells = cells }) names).cells r c ≡ cond b (cells r c) (names.cells r c)
 cells_chosen true names cells r c = refl
 cells_chosen false names cells r c = refl
 
-record SameNames (one other : NameSheet) : Type 0 where
-  id : one.id ≡ other.id
-  title : one.title ≡ other.title
-  hidden : one.hidden ≡ other.hidden
-  rows : one.rows ≡ other.rows
-  cols : one.cols ≡ other.cols
+pub record SameNames (one other : NameSheet) : Type 0 where
+  pub id : one.id ≡ other.id
+  pub title : one.title ≡ other.title
+  pub hidden : one.hidden ≡ other.hidden
+  pub rows : one.rows ≡ other.rows
+  pub cols : one.cols ≡ other.cols
 
-written_is_same : (b : Bool) (names : NameSheet) (cells : ℕ → ℕ → Option NameContent)
+pub written_is_same : (b : Bool) (names : NameSheet) (cells : ℕ → ℕ → Option NameContent)
     → SameNames (cond b (record names { cells = cells }) names) names
 written_is_same true names cells = record { id = refl; title = refl; hidden = refl; rows = refl; cols = refl }
 written_is_same false names cells = record { id = refl; title = refl; hidden = refl; rows = refl; cols = refl }
 
-same_lines : (one other : NameSheet) (axis : Axis) → SameNames one other → lines_of one axis ≡ lines_of other axis
+pub same_lines : (one other : NameSheet) (axis : Axis) → SameNames one other → lines_of one axis ≡ lines_of other axis
 same_lines one other Rows same = same.rows
 same_lines one other Columns same = same.cols
 

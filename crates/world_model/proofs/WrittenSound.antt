@@ -1,9 +1,10 @@
 -- What always holds of a spreadsheet holds after a write.
-use Rattle.std.proofs.Common.{◌≡◌, ℕ, refl, sym, ap, subst, ◌∙◌, ◌<◌, List, [], ◌∷◌, cond, Bool, true, false, length, get_or}
+use Rattle.std.proofs.Common.{◌≡◌, ℕ, refl, sym, ap, subst, ◌∙◌, ◌+◌, ◌*◌, ◌<◌, ◌≤◌, List, [], ◌∷◌, cond, Bool, true, false, length, get_or}
 use Rattle.std.specs.Prelude.{Option, None, Some, IfSome, is_some, map, ◌==◌, ◌&&◌}
 use Rattle.std.specs.List.{AllZip}
 use Rattle.std.proofs.lemmas.Bool.{eqb-true, and_parts}
 use Rattle.std.proofs.lemmas.List.Elements.{AllZip-get_or}
+use Rattle.std.proofs.lemmas.List.Sums.{sum_by-cons}
 use Rattle.grid_range.specs.Area.{AreaWithin}
 use Rattle.grid_range.specs.Band.{Within}
 use Rattle.grid_range.specs.declared.area.Area.{Area}
@@ -14,10 +15,11 @@ use Rattle.ref_rewrite.specs.declared.cell_content.Content.TheVariants as conten
 use Rattle.ref_rewrite.specs.declared.pieces.Piece.{Piece}
 use Rattle.ref_rewrite.specs.declared.pieces.Piece.TheVariants as piece
 use Rattle.world_model.specs.Book.{PlaceBook}
+use Rattle.world_model.specs.Counts.{grid_places}
 use Rattle.world_model.specs.Sheet.{PlaceSheet}
-use Rattle.world_model.specs.Sound.{IsSheetSound, IsSound, IsLineCount, IsContentWithin, IsPieceWithin, IsAreaWithin, place_sheet_with}
+use Rattle.world_model.specs.Sound.{IsSheetSound, IsSound, IsLineCount, IsContentWithin, IsPieceWithin, IsAreaWithin, most_places, most_sheets, place_sheet_with}
 use Rattle.world_model.specs.Writing.{table_written, sheet_put, book_put}
-use Rattle.world_model.proofs.Kept.{KeepsTitle, still_found, only_one, visible_stays, distinct_stay, titles_stay, there_before}
+use Rattle.world_model.proofs.Kept.{KeepsTitle, still_found, only_one, visible_stays, distinct_stay, titles_stay, there_before, same_length}
 use Rattle.world_model.proofs.Puts.{SameSheet, put_is_same, item_written, item_chosen, same_place}
 
 -- what is within some sheets is within others if each area is
@@ -57,7 +59,7 @@ module _ (id row col : ℕ) (item : Option Content) where
   abbrev put : PlaceSheet → PlaceSheet
   put = sheet_put id row col item
 
-  put_same : (sheet : PlaceSheet) → SameSheet (put sheet) sheet
+  pub put_same : (sheet : PlaceSheet) → SameSheet (put sheet) sheet
   put_same sheet = put_is_same (sheet.id == id) row col item sheet
 
   abbrev IsPut : PlaceSheet → PlaceSheet → Type 0
@@ -73,7 +75,7 @@ module _ (id row col : ℕ) (item : Option Content) where
   all_put (s ∷ ss) = (refl, all_put ss)
 
   -- what stands at a place of the sheet afterwards
-  item_put : (sheet : PlaceSheet) (row' col' : ℕ) → item_at (put sheet).table row' col'
+  pub item_put : (sheet : PlaceSheet) (row' col' : ℕ) → item_at (put sheet).table row' col'
       ≡ cond (sheet.id == id) (cond (row' == row && col' == col) item (item_at sheet.table row' col'))
       (item_at sheet.table row' col')
   item_put sheet row' col' =
@@ -82,6 +84,16 @@ module _ (id row col : ℕ) (item : Option Content) where
       (item_written row col item sheet.table row' col')
       ∙ ap (λ b. cond (sheet.id == id) (cond b item (item_at sheet.table row' col')) (item_at sheet.table row' col'))
       (same_place row col row' col')
+
+  -- no sheet gets another size
+  places_stay : (sheets : List PlaceSheet) → grid_places (map put sheets) ≡ grid_places sheets
+  places_stay [] = refl
+  places_stay (s ∷ ss) =
+      sum_by-cons (λ sheet. sheet.table.rows * sheet.table.cols) (put s) (map put ss)
+      ∙ ap (λ n. n * (put s).table.cols + grid_places (map put ss)) (put_same s).rows
+      ∙ ap (λ n. s.table.rows * n + grid_places (map put ss)) (put_same s).cols
+      ∙ ap (λ n. s.table.rows * s.table.cols + n) (places_stay ss)
+      ∙ sym (sum_by-cons (λ sheet. sheet.table.rows * sheet.table.cols) s ss)
 
   module _ (sheets : List PlaceSheet) where
     area_within : (area : Area) → IsAreaWithin sheets area → IsAreaWithin (map put sheets) area
@@ -149,4 +161,6 @@ module _ (id row col : ℕ) (item : Option Content) where
       titles = titles_stay IsPut put_keeps book.sheets after all sound.titles;
       visible = visible_stays IsPut put_keeps book.sheets after all ∙ sound.visible;
       sheets = λ k d below. stays k d (there_before IsPut put_keeps book.sheets after all k below);
+      few_sheets = subst (λ n. n ≤ most_sheets) (same_length IsPut put_keeps book.sheets after all) sound.few_sheets;
+      few_places = subst (λ n. n ≤ most_places) (sym (places_stay book.sheets)) sound.few_places;
     }

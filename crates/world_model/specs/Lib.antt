@@ -1,10 +1,13 @@
 pub mod Area
 pub mod Content
 pub mod Sheet
+pub mod Counts
 pub mod Book
 pub mod Sound
 pub mod StandsFor
+pub mod World
 pub mod Writing
+pub mod Updating
 pub mod LineChange
 pub mod PlaceChange
 pub mod Laws

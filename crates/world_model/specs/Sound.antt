@@ -1,6 +1,6 @@
 -- What always holds of a spreadsheet: it has a visible sheet, no two sheets have one id or one title, a sheet has a
 -- row and a column, its items stand in it, and each reference of a formula is to a sheet that is there, to lines
--- that this has, and of a form that A1 notation has.
+-- that this has, and of a form that A1 notation has. Its sheets and their places are within the limits.
 use Rattle.std.specs.Prelude.{◌≡◌, ◌≢◌, ◌<◌, ◌≤◌, ℕ, false, List, length, Option, ◌==◌, IsSomeAnd, IfSome, ⊤}
 use Rattle.std.specs.List.{All, AllPairs, find, list_all}
 use Rattle.std.specs.Str.{str_eq_ignore_ascii_case}
@@ -16,6 +16,7 @@ use Rattle.ref_rewrite.specs.declared.cell_content.Content.TheVariants as conten
 use Rattle.ref_rewrite.specs.declared.pieces.Piece.{Piece}
 use Rattle.ref_rewrite.specs.declared.pieces.Piece.TheVariants as piece
 use Rattle.world_model.specs.Book.{PlaceBook}
+use Rattle.world_model.specs.Counts.{grid_places}
 use Rattle.world_model.specs.Sheet.{PlaceSheet}
 
 -- the sheet with the id
@@ -56,6 +57,14 @@ most_on Columns = 18278
 abbrev pub IsLineCount : Axis → ℕ → Type 0
 IsLineCount axis lines = (0 < lines) × (lines ≤ most_on axis)
 
+-- how many sheets a spreadsheet can have (Google Drive help, files you can store: 200)
+abbrev pub most_sheets : ℕ
+most_sheets = 200
+
+-- how many places its sheets can have together (Google Drive help, files you can store: 10 million cells)
+abbrev pub most_places : ℕ
+most_places = 10000000
+
 -- the sheet has a title, a row and a column, each item stands in it, and its references are within
 pub record IsSheetSound (sheets : List PlaceSheet) (sheet : PlaceSheet) : Type 0 where
   pub titled : 0 < length sheet.title
@@ -70,3 +79,5 @@ pub record IsSound (book : PlaceBook) : Type 0 where
   pub titles : AllPairs (λ one other. str_eq_ignore_ascii_case one.title other.title ≡ false) book.sheets
   pub visible : list_all (λ sheet. sheet.hidden) book.sheets ≡ false
   pub sheets : All (IsSheetSound book.sheets) book.sheets
+  pub few_sheets : length book.sheets ≤ most_sheets
+  pub few_places : grid_places book.sheets ≤ most_places

@@ -1,6 +1,7 @@
 //! Laws of spreadsheets: each function does nothing of its own, and its contract is the law.
 
-ghost use Rattle.world_model.specs.Laws.{WritesFollow, WritesStaySound, ChangesFollow, ChangesStaySound, StandsForSome, StandsForApart};
+ghost use Rattle.world_model.specs.Laws.{WritesFollow, WritesStaySound, ChangesFollow, ChangesStaySound, StandsForSome, StandsForApart, FilledWithinPlaces, ReplacementsFollow, FormulasCounted};
+ghost use Rattle.world_model.specs.Laws.{UpdatesFollow, UpdatesAreWrites, IdsFind};
 
 use cell_store::tables_by_items;
 use grid_range::{orders_stay, places_all, places_stay_below, tracks_all, tracks_stay_within};
@@ -46,3 +47,33 @@ pub fn stands_for_apart()
 {
     tables_by_items::<Content>();
 }
+
+/// A spreadsheet stores no more cells than it has places.
+pub fn filled_within_places()
+    ensures { FilledWithinPlaces }
+{}
+
+/// A world in which a spreadsheet takes the place of the one that has its id stands for the world in which it does.
+pub fn replacements_follow()
+    ensures { ReplacementsFollow }
+{}
+
+/// A write changes the number of formulas by what it puts at its place and what it takes from there.
+pub fn formulas_counted()
+    ensures { FormulasCounted }
+{}
+
+/// An update of many cells by places stands for the update by names.
+pub fn updates_follow()
+    ensures { UpdatesFollow }
+{}
+
+/// An update of many cells is so many writes, one after another.
+pub fn updates_are_writes()
+    ensures { UpdatesAreWrites }
+{}
+
+/// Each sheet of a spreadsheet is the one that is found by its id.
+pub fn ids_find()
+    ensures { IdsFind }
+{}

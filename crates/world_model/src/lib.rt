@@ -5,6 +5,7 @@
 mod laws;
 
 pub use laws::{
-    changes_follow, changes_stay_sound, stands_for_apart, stands_for_some, writes_follow,
-    writes_stay_sound,
+    changes_follow, changes_stay_sound, filled_within_places, formulas_counted, ids_find,
+    replacements_follow, stands_for_apart, stands_for_some, updates_are_writes, updates_follow,
+    writes_follow, writes_stay_sound,
 };

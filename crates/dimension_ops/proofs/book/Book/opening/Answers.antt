@@ -1,7 +1,6 @@
-use Rattle.std.proofs.Common.{◌≡◌, ℕ, sym, ap, subst, ◌∙◌, List, [], ◌∷◌, ◌++◌, length, arith}
+use Rattle.std.proofs.Common.{◌≡◌, ℕ, sym, ap, subst, ◌∙◌, List, [], ◌∷◌, ◌++◌}
 use Rattle.std.specs.Prelude.{map}
 use Rattle.std.specs.Arc.{arc_value}
-use Rattle.std.proofs.lemmas.List.{length-map}
 use Rattle.std.proofs.Common.{false}
 use Rattle.cell_store.specs.Table.{empty_table}
 use Rattle.world_model.specs.Sheet.{PlaceSheet}
@@ -16,13 +15,12 @@ titled title = record { id = 0; title = title; hidden = false; table = empty_tab
 pub invariant_of-result : goal.invariant_of-result
 invariant_of-result c =
     let one : map arc_value c.in_ok-sheets.sheets.items ≡ opening_sheet ∷ [] =
-    c.in_ok-sheets.ensures ∙ ap (λ (sheet : PlaceSheet). sheet ∷ []) (c.empty.ensures ∙ ap titled (c.of-title.ensures ∙ c.in_ok-from_str.ensures.ok)) in
-    let long : length c.in_ok-sheets.sheets.items ≡ 1 = sym (length-map c.in_ok-sheets.sheets.items arc_value) ∙ ap length one in (
+    c.in_ok-sheets.ensures
+    ∙ ap (λ (sheet : PlaceSheet). sheet ∷ []) (c.empty.ensures ∙ ap titled (c.of-title.ensures ∙ c.in_ok-from_str.ensures.ok)) in (
       subst (λ sheets. IsSound (record { id = c.of.result; title = c.of-2.result; owner = c.of-3.result; sheets = sheets })) (sym one)
           (opening_sound c.of.result c.of-2.result c.of-3.result),
       c.of-4.ensures ∙ c.in_ok-push.ensures.items ∙ ap (λ list. list ++ (0 ∷ [])) c.new-ids.ensures.items
           ∙ sym (ap (map (λ (sheet : PlaceSheet). sheet.id)) one),
-      omega (arith, long),
       c.new.ensures,
       c.new-2.ensures,
       c.new-3.ensures,

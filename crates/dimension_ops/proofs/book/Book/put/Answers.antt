@@ -1,4 +1,4 @@
-use Rattle.std.proofs.Common.{◌≡◌, ◌≤◌, ℕ, refl, sym, ap, subst, ◌∙◌, List, length, set, get_or, arith, Some, None, Option}
+use Rattle.std.proofs.Common.{◌≡◌, le_trans, ℕ, refl, sym, ap, subst, ◌∙◌, List, length, set, get_or, arith, Some, None, Option}
 use Rattle.std.specs.Prelude.{map, ◌==◌, IsSomeAnd, IfSome}
 use Rattle.std.specs.Arc.{arc_value}
 use Rattle.std.specs.declared.sync.Arc.{Arc}
@@ -6,7 +6,6 @@ use Rattle.std.specs.Option.{option_map}
 use Rattle.std.proofs.Common.{Global, Ok, Err}
 use Rattle.std.specs.Prelude.{OnErr}
 use Rattle.std.specs.List.{position_from}
-use Rattle.std.proofs.lemmas.List.{length-set}
 use Rattle.cell_store.specs.Table.{HasPlace}
 use Rattle.world_model.specs.Book.{PlaceBook, orders_of}
 use Rattle.world_model.specs.Content.{content_named}
@@ -14,11 +13,14 @@ use Rattle.world_model.specs.StandsFor.{BookStandsFor}
 use Rattle.world_model.specs.Sheet.{PlaceSheet}
 use Rattle.world_model.specs.Sound.{IsSound, IsContentWithin, place_sheet_with}
 use Rattle.world_model.specs.Writing.{book_put, book_written, sheet_put}
-use Rattle.dimension_ops.specs.Found.{most_sheets}
 use Rattle.dimension_ops.proofs.Finding.{IsFoundAt, found_at, there_seen, none_from}
-use Rattle.dimension_ops.proofs.Putting.{seen_stands, seen_written, seen_kept, seen_ids}
+use Rattle.dimension_ops.proofs.Putting.{seen_stands, seen_written, seen_kept, seen_ids, room_at}
 use Rattle.dimension_ops.proofs.book.Book.put.Goals.{In_ok-put_shared, After-from_residual, Joined-content}
 use Rattle.dimension_ops.proofs.book.Book.put.Goals as goal
+
+-- the spreadsheet of these sheets
+abbrev as_book : List ℕ → List ℕ → List ℕ → List PlaceSheet → PlaceBook
+as_book id title owner sheets = record { id = id; title = title; owner = owner; sheets = sheets }
 
 found : (slice items : List (Arc PlaceSheet Global)) (id place : ℕ) → slice ≡ items
     → Some place ≡ position_from (λ (sheet : PlaceSheet). sheet.id == id) 0 (map arc_value slice)
@@ -57,11 +59,14 @@ put_shared-requires c =
           (sym c.self.view_is) c.requires.there)
           (seen_stands arc_value c.self.inside.sheets.items c.in-Some.place c.index_mut.result.now c.index_mut.result.now
           c.index_mut.ensures.value at.there);
+      room = room_at (map arc_value c.self.inside.sheets.items) c.in-Some.place (arc_value c.index_mut.result.now)
+          (le_trans (c.filled_within_places.ensures.book
+          (as_book c.self.inside.id c.self.inside.title c.self.inside.owner (map arc_value c.self.inside.sheets.items))
+          c.self.invariant.0) c.self.invariant.0.few_places)
+          at.there
+          (seen_stands arc_value c.self.inside.sheets.items c.in-Some.place c.index_mut.result.now c.index_mut.result.now
+          c.index_mut.ensures.value at.there);
     }
-
--- the spreadsheet of these sheets
-abbrev as_book : List ℕ → List ℕ → List ℕ → List PlaceSheet → PlaceBook
-as_book id title owner sheets = record { id = id; title = title; owner = owner; sheets = sheets }
 
 -- the sheets after the write
 written : (c : In_ok-put_shared) → map arc_value (set c.self.inside.sheets.items c.in-Some.place c.put_shared.new.sheet)
@@ -84,10 +89,9 @@ invariant_of-self c = (
       (sym c.self.view_is) c.requires.there))),
   seen_ids arc_value c.self.inside.sheets.items c.in-Some.place c.index_mut.result.now c.put_shared.new.sheet
       c.index_mut.ensures.value c.args.sheet c.args.row c.args.column c.args.content c.self.inside.ids (written c) c.self.invariant.1,
-  subst (λ n. n ≤ most_sheets) (sym (length-set c.self.inside.sheets.items c.in-Some.place c.put_shared.new.sheet)) c.self.invariant.2,
+  c.self.invariant.2,
   c.self.invariant.3,
   c.self.invariant.4,
-  c.self.invariant.5,
 )
 
 -- the sheets as they were
@@ -101,10 +105,9 @@ invariant_of-self-in_err-put_shared c = (
   subst (λ sheets. IsSound (record { id = c.self.inside.id; title = c.self.inside.title; owner = c.self.inside.owner; sheets = sheets }))
       (sym (kept c)) c.self.invariant.0,
   c.self.invariant.1 ∙ sym (ap (map (λ (sheet : PlaceSheet). sheet.id)) (kept c)),
-  subst (λ n. n ≤ most_sheets) (sym (length-set c.self.inside.sheets.items c.in-Some.place c.put_shared.new.sheet)) c.self.invariant.2,
+  c.self.invariant.2,
   c.self.invariant.3,
   c.self.invariant.4,
-  c.self.invariant.5,
 )
 
 pub returns-in_err-put_shared-clause-unchanged : goal.returns-in_err-put_shared-clause-unchanged

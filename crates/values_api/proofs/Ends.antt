@@ -1,0 +1,258 @@
+-- The ends of the lines that a read goes over.
+use Rattle.std.proofs.Common.{◌≡◌, ℕ, ◌+◌, ◌-◌, ◌<◌, ◌≤◌, List, [], length, get_or, max, cond, Bool, true, false, refl, sym, subst, ap, ◌∙◌, arith, inl, inr}
+use Rattle.std.specs.Prelude.{Option, Some, None, ◌==◌}
+use Rattle.std.specs.Option.{IsSome}
+use Rattle.std.proofs.lemmas.Bool.{cases_Bool, cases_order, eqb-true, false≢true}
+use Rattle.std.proofs.lemmas.List.Elements.{Contains-get_or}
+use Rattle.std.proofs.lemmas.List.{get_or_default}
+use Rattle.grid_range.specs.Area.{Holds}
+use Rattle.grid_range.specs.Band.{HasLine, Within, first_line, end_line}
+use Rattle.grid_range.specs.declared.area.Area.{Area}
+use Rattle.grid_range.specs.declared.band.Band.{Band}
+use Rattle.grid_range.specs.declared.band.Band.TheVariants.{Whole, From, Span}
+use Rattle.cell_store.specs.Places.{AreFilledPlaces}
+use Rattle.cell_store.specs.Table.{item_at}
+use Rattle.ref_rewrite.specs.declared.cell_content.Content.{Content}
+use Rattle.world_model.specs.Sheet.{PlaceSheet}
+use Rattle.world_model.specs.Sound.{IsSheetSound}
+use Rattle.values_api.specs.declared.shown.Reading.{Reading}
+use Rattle.values_api.specs.Reading.{IsReadOfSheet, AreEnds, lines_read, length_read}
+use Rattle.values_api.specs.Sheets.{formula_sheets}
+use Rattle.values_api.specs.Shown.{shows_nothing, cell_shown, cell_of, cell_along, height, width, lines_of, line_length}
+use Rattle.values_api.proofs.Finding.{holds_of_found}
+
+-- ---- bands
+
+from_first : (band : Band) (line : ℕ) → HasLine band line → first_line band ≤ line
+from_first Whole line has = omega arith
+from_first (From start) line has = has
+from_first (Span start end) line has = has.0
+
+before_end : (band : Band) (line count : ℕ) → HasLine band line → line < count
+    → line - first_line band < end_line band count - first_line band
+before_end Whole line count has there = omega (arith, there)
+before_end (From start) line count has there = omega (arith, has, there)
+before_end (Span start end) line count has there = omega (arith, has.0, has.1)
+
+end_small : (band : Band) (count : ℕ) → Within band count → end_line band count ≤ count
+end_small Whole count within = omega arith
+end_small (From start) count within = omega arith
+end_small (Span start end) count within = within.1
+
+has_line_behind : (band : Band) (count line : ℕ) → Within band count → line < end_line band count - first_line band
+    → HasLine band (first_line band + line)
+has_line_behind Whole count line within short = tt
+has_line_behind (From start) count line within short = omega arith
+has_line_behind (Span start end) count line within short = (omega arith, omega (arith, short))
+
+-- ---- a read
+
+-- the line of a place, and its place there
+abbrev pub along : Reading → ℕ × ℕ → ℕ × ℕ
+along reading place =
+    cond reading.columns_first
+    (place.1 - first_line reading.area.now.cols, place.0 - first_line reading.area.now.rows)
+    (place.0 - first_line reading.area.now.rows, place.1 - first_line reading.area.now.cols)
+
+-- the first places stand before the ends of their lines
+pub record AreEndsSoFar (reading : Reading) (places : List (ℕ × ℕ)) (count : ℕ) (ends : List ℕ) : Type 0 where
+  pub few : length ends ≤ lines_read reading
+  pub short : (line : ℕ) → get_or ends line 0 ≤ length_read reading
+  pub covers : (k : ℕ) → k < count
+      → (along reading (get_or places k (0, 0))).1 < get_or ends (along reading (get_or places k (0, 0))).0 0
+
+pub none_ended : (reading : Reading) (places : List (ℕ × ℕ)) → AreEndsSoFar reading places 0 []
+none_ended reading places = record {
+  few = omega arith;
+  short = λ line. omega arith;
+  covers = λ k below. absurd (omega (arith, below));
+}
+
+-- where a place stands in the area
+pub record IsPlaced (area : Area) (sheet : PlaceSheet) (place : ℕ × ℕ) : Type 0 where
+  pub row_from : first_line area.rows ≤ place.0
+  pub col_from : first_line area.cols ≤ place.1
+  pub row_to : place.0 - first_line area.rows < height area sheet
+  pub col_to : place.1 - first_line area.cols < width area sheet
+
+module _ (reading : Reading) (is : IsReadOfSheet reading) where
+  abbrev sheet : PlaceSheet
+  sheet = reading.sheet.now
+
+  abbrev area : Area
+  area = reading.area.now
+
+  pub own : IsSheetSound reading.names.book.now.sheets sheet
+  own = holds_of_found (IsSheetSound reading.names.book.now.sheets) (λ (one : PlaceSheet). one.id == area.sheet)
+      reading.names.book.now.sheets sheet is.sound.sheets is.there
+
+  pub small_height : height area sheet ≤ 1000000
+  small_height = let end = end_small area.rows sheet.table.rows is.within.0 in omega (arith, end, own.rows.1)
+
+  pub small_width : width area sheet ≤ 18278
+  small_width = let end = end_small area.cols sheet.table.cols is.within.1 in omega (arith, end, own.cols.1)
+
+  pub row_small : (row : ℕ) → row < height area sheet → first_line area.rows + row < 1000000
+  row_small row below = let end = end_small area.rows sheet.table.rows is.within.0 in omega (arith, below, end, own.rows.1)
+
+  pub col_small : (col : ℕ) → col < width area sheet → first_line area.cols + col < 18278
+  col_small col below = let end = end_small area.cols sheet.table.cols is.within.1 in omega (arith, below, end, own.cols.1)
+
+  module _ (places : List (ℕ × ℕ)) (filled : AreFilledPlaces area sheet.table places) where
+    pub placed : (k : ℕ) → k < length places → IsPlaced area sheet (get_or places k (0, 0))
+    placed k there =
+        let place = get_or places k (0, 0) in
+        let held = (filled.exactly place.0 place.1).0 (Contains-get_or places k (0, 0) there) in
+        let inside = own.inside place.0 place.1 held.1 in
+        record {
+          row_from = from_first area.rows place.0 held.0.0;
+          col_from = from_first area.cols place.1 held.0.1;
+          row_to = before_end area.rows place.0 sheet.table.rows held.0.0 inside.0;
+          col_to = before_end area.cols place.1 sheet.table.cols held.0.1 inside.1;
+        }
+
+    -- an end that is reached
+    reached : (b : Bool) (old place : ℕ) → old ≤ cond b (max old (place + 1)) old
+    reached true old place = omega arith
+    reached false old place = omega arith
+
+    reached_short : (b : Bool) (old place most : ℕ) → old ≤ most → place < most → cond b (max old (place + 1)) old ≤ most
+    reached_short true old place most few below = omega (arith, few, below)
+    reached_short false old place most few below = few
+
+    reached_here : (b : Bool) (old place : ℕ) → b ≡ true → place < cond b (max old (place + 1)) old
+    reached_here true old place here = omega arith
+    reached_here false old place here = absurd (false≢true here)
+
+    pub next_end : (k line place : ℕ) (ends ends' : List ℕ) → AreEndsSoFar reading places k ends
+        → along reading (get_or places k (0, 0)) ≡ (line, place)
+        → ((other : ℕ) → get_or ends' other 0 ≡ cond (other == line) (max (get_or ends other 0) (place + 1)) (get_or ends other 0))
+        → length ends' ≡ max (length ends) (line + 1) → line < lines_read reading → place < length_read reading
+        → AreEndsSoFar reading places (k + 1) ends'
+    next_end k line place ends ends' so_far along_is each long few short = record {
+      few = omega (arith, so_far.few, long, few);
+      short = λ other. subst (λ n. n ≤ length_read reading) (sym (each other))
+          (reached_short (other == line) (get_or ends other 0) place (length_read reading) (so_far.short other) short);
+      covers = λ j below. elim (cases_order j k) [
+        | inl same ↦ subst (λ n. (along reading (get_or places n (0, 0))).1
+            < get_or ends' (along reading (get_or places n (0, 0))).0 0) (sym same) here
+        | inr apart ↦ elim apart [
+          | inl before ↦ earlier j before
+          | inr behind ↦ absurd (omega (arith, below, behind))
+        ]
+      ];
+    }
+      where
+        here : (along reading (get_or places k (0, 0))).1 < get_or ends' (along reading (get_or places k (0, 0))).0 0
+        here = subst (λ (p : ℕ × ℕ). p.1 < get_or ends' p.0 0) (sym along_is)
+            (subst (λ n. place < n) (sym (each line))
+            (reached_here (line == line) (get_or ends line 0) place (eq_same line)))
+          where
+            eq_same : (n : ℕ) → (n == n) ≡ true
+            eq_same n = Rattle.std.proofs.lemmas.Bool.eq-eqb n n refl
+
+        earlier : (j : ℕ) → j < k → (along reading (get_or places j (0, 0))).1
+            < get_or ends' (along reading (get_or places j (0, 0))).0 0
+        earlier j before =
+            let old = so_far.covers j before in
+            let at = (along reading (get_or places j (0, 0))).0 in
+            let more = reached (at == line) (get_or ends at 0) place in
+            let now = each at in
+            omega (arith, old, more, now)
+
+    abbrev along_by : Bool → ℕ × ℕ → ℕ × ℕ
+    along_by turned place =
+        cond turned (place.1 - first_line area.cols, place.0 - first_line area.rows)
+        (place.0 - first_line area.rows, place.1 - first_line area.cols)
+
+    -- the same where lines are columns, and where they are rows
+    pub next_column_end : (k row col : ℕ) (ends ends' : List ℕ) → reading.columns_first ≡ true → k < length places
+        → row ≡ (get_or places k (0, 0)).0 - first_line area.rows → col ≡ (get_or places k (0, 0)).1 - first_line area.cols
+        → AreEndsSoFar reading places k ends
+        → ((other : ℕ) → get_or ends' other 0 ≡ cond (other == col) (max (get_or ends other 0) (row + 1)) (get_or ends other 0))
+        → length ends' ≡ max (length ends) (col + 1) → AreEndsSoFar reading places (k + 1) ends'
+    next_column_end k row col ends ends' turned there row_is col_is so_far each long =
+        let place = get_or places k (0, 0) in
+        let at = placed k there in
+        next_end k col row ends ends' so_far
+        (ap (λ b. along_by b place) turned ∙ ap (λ n. (n, place.0 - first_line area.rows)) (sym col_is)
+        ∙ ap (λ n. (col, n)) (sym row_is)) each long
+        (subst (λ b. col < lines_of b area sheet) (sym turned) (subst (λ n. n < width area sheet) (sym col_is) at.col_to))
+        (subst (λ b. row < line_length b area sheet) (sym turned) (subst (λ n. n < height area sheet) (sym row_is) at.row_to))
+
+    pub next_row_end : (k row col : ℕ) (ends ends' : List ℕ) → reading.columns_first ≡ false → k < length places
+        → row ≡ (get_or places k (0, 0)).0 - first_line area.rows → col ≡ (get_or places k (0, 0)).1 - first_line area.cols
+        → AreEndsSoFar reading places k ends
+        → ((other : ℕ) → get_or ends' other 0 ≡ cond (other == row) (max (get_or ends other 0) (col + 1)) (get_or ends other 0))
+        → length ends' ≡ max (length ends) (row + 1) → AreEndsSoFar reading places (k + 1) ends'
+    next_row_end k row col ends ends' plain there row_is col_is so_far each long =
+        let place = get_or places k (0, 0) in
+        let at = placed k there in
+        next_end k row col ends ends' so_far
+        (ap (λ b. along_by b place) plain ∙ ap (λ n. (n, place.1 - first_line area.cols)) (sym row_is)
+        ∙ ap (λ n. (row, n)) (sym col_is)) each long
+        (subst (λ b. row < lines_of b area sheet) (sym plain) (subst (λ n. n < height area sheet) (sym row_is) at.row_to))
+        (subst (λ b. col < line_length b area sheet) (sym plain) (subst (λ n. n < width area sheet) (sym col_is) at.col_to))
+
+    -- a cell at which nothing stands shows nothing
+    abbrev cell_at : Bool → ℕ → ℕ → ℕ × ℕ
+    cell_at turned line place =
+        (first_line area.rows + cond turned place line, first_line area.cols + cond turned line place)
+
+    abbrev item : Bool → ℕ → ℕ → Option Content
+    item turned line place = item_at sheet.table (cell_at turned line place).0 (cell_at turned line place).1
+
+    along_back : (turned : Bool) (line place : ℕ) → along_by turned (cell_at turned line place) ≡ (line, place)
+    along_back true line place =
+        let one : first_line area.cols + line - first_line area.cols ≡ line = omega arith in
+        let other : first_line area.rows + place - first_line area.rows ≡ place = omega arith in
+        ap (λ n. (n, first_line area.rows + place - first_line area.rows)) one ∙ ap (λ n. (line, n)) other
+    along_back false line place =
+        let one : first_line area.rows + line - first_line area.rows ≡ line = omega arith in
+        let other : first_line area.cols + place - first_line area.cols ≡ place = omega arith in
+        ap (λ n. (n, first_line area.cols + place - first_line area.cols)) one ∙ ap (λ n. (line, n)) other
+
+    cell_holds : (turned : Bool) (line place : ℕ) → line < lines_of turned area sheet → place < line_length turned area sheet
+        → Holds area (cell_at turned line place).0 (cell_at turned line place).1
+    cell_holds true line place few short = (
+      has_line_behind area.rows sheet.table.rows place is.within.0 short,
+      has_line_behind area.cols sheet.table.cols line is.within.1 few,
+    )
+    cell_holds false line place few short = (
+      has_line_behind area.rows sheet.table.rows line is.within.0 few,
+      has_line_behind area.cols sheet.table.cols place is.within.1 short,
+    )
+
+    shown_cell : (turned : Bool) (line place : ℕ) → item turned line place ≡ None
+        → shows_nothing (cell_along turned (cell_of (formula_sheets reading.names.book.now.sheets) reading.render area sheet) line place)
+        ≡ true
+    shown_cell true line place none =
+        ap (λ held. shows_nothing (cell_shown (formula_sheets reading.names.book.now.sheets) reading.render held)) none
+    shown_cell false line place none =
+        ap (λ held. shows_nothing (cell_shown (formula_sheets reading.names.book.now.sheets) reading.render held)) none
+
+    -- an item of the area stands before the end of its line
+    none_behind : (ends : List ℕ) → AreEndsSoFar reading places (length places) ends
+        → (line place : ℕ) → line < lines_read reading → place < length_read reading → get_or ends line 0 ≤ place
+        → (held : Option Content) → item reading.columns_first line place ≡ held → held ≡ None
+    none_behind ends so_far line place few short behind None is_held = refl
+    none_behind ends so_far line place few short behind (Some content) is_held =
+        let at = cell_at reading.columns_first line place in
+        let (k, there, same) = (filled.exactly at.0 at.1).1
+        (cell_holds reading.columns_first line place few short, subst IsSome (sym is_held) refl) in
+        let there_is : get_or places k (0, 0) ≡ at = get_or_default places k (0, 0) at there ∙ same in
+        let covered = so_far.covers k there in
+        let along_is : along reading (get_or places k (0, 0)) ≡ (line, place) =
+        ap (along reading) there_is ∙ along_back reading.columns_first line place in
+        let before : place < get_or ends line 0 =
+        subst (λ (p : ℕ × ℕ). p.1 < get_or ends p.0 0) along_is covered in
+        absurd (omega (arith, before, behind))
+
+    pub all_ended : (ends : List ℕ) → AreEndsSoFar reading places (length places) ends → AreEnds reading ends
+    all_ended ends so_far = record {
+      few = so_far.few;
+      short = so_far.short;
+      empty = λ line place few short behind.
+          shown_cell reading.columns_first line place
+          (none_behind ends so_far line place few short behind (item reading.columns_first line place) refl);
+    }

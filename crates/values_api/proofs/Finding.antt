@@ -1,0 +1,84 @@
+-- Sheets that are found, and what a range text names on them.
+use Rattle.std.proofs.Common.{◌≡◌, ℕ, suc, List, [], ◌∷◌, refl, sym, subst, ap, ◌∙◌, cond, Bool, true, false, arith, inl, inr}
+use Rattle.std.specs.Prelude.{Option, Some, None, IsSomeAnd, Result, Ok, Err, IfOk}
+use Rattle.std.specs.List.{All, find}
+use Rattle.grid_range.specs.Area.{AreaWithin}
+use Rattle.grid_range.specs.declared.area.Area.{Area}
+use Rattle.a1_notation.specs.Range.{Names, IsUnlessNoMemory as IsReadUnlessNoMemory}
+use Rattle.a1_notation.specs.declared.a1.A1.{A1}
+use Rattle.a1_notation.specs.declared.a1.A1Fault.{A1Fault}
+use Rattle.a1_notation.specs.declared.a1.A1Fault.TheVariants.{NotA1, PastZZZ, NoMemory}
+use Rattle.world_model.specs.Sheet.{PlaceSheet}
+use Rattle.world_model.specs.Sound.{place_sheet_with}
+use Rattle.dimension_ops.specs.Rules.{IsUnlessNoMemory}
+use Rattle.dimension_ops.specs.declared.rule.Rule.{Rule}
+use Rattle.values_api.specs.Ranges.{FoundArea, IsOf, IsThere, Resolves, unnamed, unread}
+
+-- what holds of all holds of the one that is found
+module _ {A : Type 0} (P : A → Type 0) (test : A → Bool) where
+  first_holds : (b : Bool) (x y : A) (rest : Option A) → P x → (rest ≡ Some y → P y) → cond b (Some x) rest ≡ Some y → P y
+  first_holds true x y rest holds behind is = subst P (same x y is) holds
+    where
+      same : (x y : A) → Some x ≡ Some y → x ≡ y
+      same x y e = cc
+  first_holds false x y rest holds behind is = behind is
+
+  pub holds_of_found : (xs : List A) (y : A) → All P xs → find test xs ≡ Some y → P y
+  holds_of_found [] y all is = absurd (none_some y is)
+    where
+      none_some : (y : A) → None ≡ Some y → ⊥
+      none_some y e = cc
+  holds_of_found (x ∷ xs) y all is =
+      first_holds (test x) x y (find test xs) (all 0 x (omega arith))
+      (holds_of_found xs y (λ k d there. all (suc k) d (omega arith))) is
+
+-- the thing that is there
+pub some_and : {A : Type 0} (P : A → Type 0) (found : Option A) → IsSomeAnd found P → (x : A) × (found ≡ Some x) × P x
+some_and P None holds = absurd holds
+some_and P (Some x) holds = (x, refl, holds)
+
+-- an area of a sheet that was looked for is of one that is found by its id
+pub of_found : (test : PlaceSheet → Bool) (sheets : List PlaceSheet) (area : Area)
+    → All (λ sheet. place_sheet_with sheet.id sheets ≡ Some sheet) sheets → IsOf area (find test sheets)
+    → IsThere sheets area
+of_found test sheets area own of =
+    let (sheet, is, both) = some_and (λ (sheet : PlaceSheet). (area.sheet ≡ sheet.id)
+    × AreaWithin area sheet.table.rows sheet.table.cols) (find test sheets) of in
+    let found = holds_of_found (λ (sheet : PlaceSheet). place_sheet_with sheet.id sheets ≡ Some sheet) test sheets sheet own is in
+    subst (λ one. IsSomeAnd one (λ (sheet : PlaceSheet). AreaWithin area sheet.table.rows sheet.table.cols))
+    (sym (ap (λ n. place_sheet_with n sheets) both.0 ∙ found)) both.1
+
+pub answer_there : (test : PlaceSheet → Bool) (sheets : List PlaceSheet) (found : Option PlaceSheet)
+    (answer : Result FoundArea Rule) → All (λ sheet. place_sheet_with sheet.id sheets ≡ Some sheet) sheets
+    → found ≡ find test sheets → IfOk answer (λ one. IsOf one.0 found) → IfOk answer (λ one. IsThere sheets one.0)
+answer_there test sheets found (Ok one) own is of =
+    of_found test sheets one.0 own (subst (IsOf one.0) is of)
+answer_there test sheets found (Err rule) own is of = tt
+
+-- a text that isn't read names nothing
+abbrev unread_for : A1Fault → Result A1 A1Fault
+unread_for fault = Err fault
+
+nothing_named : (text : List ℕ) (fault : A1Fault)
+    → ((range : A1) → Names 3 text range → IsReadUnlessNoMemory (unread_for fault) (Ok range))
+    → ¬ (unread_for fault ≡ unread_for NoMemory) → (range : A1) → ¬ (Names 3 text range)
+nothing_named text fault named other range names = elim (named range names) [
+  | inl read ↦ not_read fault range read
+  | inr none ↦ other none
+]
+  where
+    not_read : (fault : A1Fault) (range : A1) → unread_for fault ≡ Ok range → ⊥
+    not_read fault range e = cc
+
+not_memory : unread_for NotA1 ≡ unread_for NoMemory → ⊥
+not_memory e = cc
+
+not_memory_too : unread_for PastZZZ ≡ unread_for NoMemory → ⊥
+not_memory_too e = cc
+
+pub right_refusal : (text : List ℕ) (sheets : List PlaceSheet) (fault : A1Fault)
+    → ((range : A1) → Names 3 text range → IsReadUnlessNoMemory (unread_for fault) (Ok range))
+    → IsUnlessNoMemory (Resolves text sheets) (Err (unread fault))
+right_refusal text sheets NotA1 named = unnamed (nothing_named text NotA1 named not_memory) refl
+right_refusal text sheets PastZZZ named = unnamed (nothing_named text PastZZZ named not_memory_too) refl
+right_refusal text sheets NoMemory named = tt

@@ -1,0 +1,5 @@
+pub mod Ranges
+pub mod Sheets
+pub mod Shown
+pub mod Reading
+pub mod Updates

@@ -1,0 +1,193 @@
+use crate::common::{Written, check, opening, write};
+use cell_value::{Cell, Items, Render};
+use dimension_ops::Book;
+use std::alloc::Global;
+use values_api::{clear_values, read_values, resolve};
+
+/// What a cell shows.
+#[derive(Clone, Copy, Debug)]
+enum Shown {
+    Text(&'static str),
+    Number(i64),
+    Truth(bool),
+}
+
+/// A range, whether it is read by columns, how its cells are shown, and what they show, line by line.
+struct Read {
+    range: &'static str,
+    columns_first: bool,
+    render: Render,
+    lines: &'static [&'static [Shown]],
+}
+
+/// Reads of a sheet with the number 1 in A1, the text `x` in B1, TRUE in A2 and the number 5 in D4.
+static READS: [Read; 8] = [
+    Read {
+        range: "Sheet1!A1:B2",
+        columns_first: false,
+        render: Render::Formatted,
+        lines: &[
+            &[Shown::Text("1"), Shown::Text("x")],
+            &[Shown::Text("TRUE")],
+        ],
+    },
+    Read {
+        range: "A1:B2",
+        columns_first: true,
+        render: Render::Formatted,
+        lines: &[
+            &[Shown::Text("1"), Shown::Text("TRUE")],
+            &[Shown::Text("x")],
+        ],
+    },
+    Read {
+        range: "A1:B2",
+        columns_first: false,
+        render: Render::Unformatted,
+        lines: &[&[Shown::Number(1), Shown::Text("x")], &[Shown::Truth(true)]],
+    },
+    Read {
+        range: "Sheet1",
+        columns_first: false,
+        render: Render::Formula,
+        lines: &[
+            &[Shown::Number(1), Shown::Text("x")],
+            &[Shown::Truth(true)],
+            &[],
+            &[
+                Shown::Text(""),
+                Shown::Text(""),
+                Shown::Text(""),
+                Shown::Number(5),
+            ],
+        ],
+    },
+    Read {
+        range: "B:D",
+        columns_first: true,
+        render: Render::Formatted,
+        lines: &[
+            &[Shown::Text("x")],
+            &[],
+            &[
+                Shown::Text(""),
+                Shown::Text(""),
+                Shown::Text(""),
+                Shown::Text("5"),
+            ],
+        ],
+    },
+    Read {
+        range: "A3:D3",
+        columns_first: false,
+        render: Render::Formatted,
+        lines: &[],
+    },
+    Read {
+        range: "C4:Z",
+        columns_first: false,
+        render: Render::Unformatted,
+        lines: &[&[Shown::Text(""), Shown::Number(5)]],
+    },
+    Read {
+        range: "D4",
+        columns_first: true,
+        render: Render::Formatted,
+        lines: &[&[Shown::Text("5")]],
+    },
+];
+
+/// What stands in the sheet that is read.
+static STORED: [(u32, u32, Written); 4] = [
+    (0, 0, Written::Number(1)),
+    (0, 1, Written::Text("x")),
+    (1, 0, Written::Truth(true)),
+    (3, 3, Written::Number(5)),
+];
+
+/// That sheet in the spreadsheet of the beginning, or None where memory runs out.
+fn stored(alloc: Global) -> Option<Book> {
+    let mut book = opening(alloc)?;
+    for cell in &STORED {
+        if !write(&mut book, alloc, cell.0, cell.1, cell.2) {
+            return None;
+        }
+    }
+    Some(book)
+}
+
+/// Whether the range is read so.
+fn is_read(alloc: Global, book: &Book, read: &Read) -> bool {
+    match resolve(alloc, book, read.range) {
+        Ok(found) => match read_values(alloc, book, &found.0, read.columns_first, read.render) {
+            Ok(shown) => are_lines(shown.values.as_slice(), read.lines),
+            Err(_) => false,
+        },
+        Err(_) => false,
+    }
+}
+
+/// Whether the lines show just that.
+fn are_lines(lines: &[Items<Cell>], wanted: &[&[Shown]]) -> bool {
+    lines.len() == wanted.len()
+        && lines
+            .iter()
+            .zip(wanted)
+            .all(|(line, wanted)| are_cells(line.as_slice(), wanted))
+}
+
+/// Whether the cells show just that.
+fn are_cells(cells: &[Cell], wanted: &[Shown]) -> bool {
+    cells.len() == wanted.len()
+        && cells
+            .iter()
+            .zip(wanted)
+            .all(|(cell, wanted)| is_cell(cell, wanted))
+}
+
+/// Whether the cell shows that.
+fn is_cell(cell: &Cell, wanted: &Shown) -> bool {
+    match cell {
+        Cell::Text(text) => matches!(wanted, Shown::Text(wanted) if text.as_str() == *wanted),
+        Cell::Number(number) => matches!(wanted, Shown::Number(wanted) if number == wanted),
+        Cell::Truth(truth) => matches!(wanted, Shown::Truth(wanted) if truth == wanted),
+    }
+}
+
+#[test]
+fn areas_are_read(rt: HostRuntime) {
+    let Some(book) = stored(rt.alloc()) else {
+        return check(&rt, &"memory", false);
+    };
+    for read in &READS {
+        check(&rt, &read.range, is_read(rt.alloc(), &book, read));
+    }
+}
+
+/// Ranges that are cleared one after another, and how many cells are stored then.
+static CLEARED: [(&str, u64); 5] = [
+    ("A1:B1", 2),
+    ("C:C", 2),
+    ("E5:Z", 2),
+    ("Sheet1!2:2", 1),
+    ("Sheet1", 0),
+];
+
+/// Clears the range. False where memory runs out.
+fn clear(alloc: Global, book: &mut Book, range: &str) -> bool {
+    match resolve(alloc, book, range) {
+        Ok(found) => clear_values(book, "owner", &found.0).is_ok(),
+        Err(_) => false,
+    }
+}
+
+#[test]
+fn areas_are_cleared(rt: HostRuntime) {
+    let Some(mut book) = stored(rt.alloc()) else {
+        return check(&rt, &"memory", false);
+    };
+    for row in &CLEARED {
+        check(&rt, row, clear(rt.alloc(), &mut book, row.0));
+        check(&rt, row, book.filled() == row.1);
+    }
+}
