@@ -10,17 +10,17 @@ use Rattle.sheets_http.specs.declared.request.HeadFault.TheVariants.{NoLength, B
 use Rattle.sheets_http.specs.declared.request.Next.TheVariants as next
 use Rattle.sheets_http.specs.declared.summary.HeadSummary.{HeadSummary}
 use Rattle.sheets_http.specs.declared.scanned.Scanned.TheVariants as scanned
-use Rattle.cell_value.specs.FaultCount.{Rose}
+use Rattle.cell_value.specs.FaultCount.{last_count, Rose}
 use Rattle.sheets_http.specs.Heads.{head_limit, skip_breaks}
 use Rattle.sheets_http.specs.Fields.{Fields, fields_of, has_field}
 use Rattle.sheets_http.specs.BodyLengths.{sends_body, content_length, body_limit, framed, body_length}
 use Rattle.sheets_http.specs.declared.request.Next.{Next}
 use Rattle.sheets_http.specs.declared.scan.HeadState.TheVariants.{Whole}
 use Rattle.sheets_http.specs.Framing.{refused_message, incomplete_message, BeginsWith, wire_of, end_of, ended, closed, truncated, long_talk, IsNext, StreamNext, request_and_rest, talk_end}
-use Rattle.sheets_http.specs.Requests.{Buffered, room_of, stream_of, IsAnswer, IsAnswerOf, IsExact, answers, no_memory, source_failed}
+use Rattle.sheets_http.specs.Requests.{Buffered, room_of, stream_of, HoldsMessage, IsAnswer, IsAnswerOf, IsExact, answers, no_memory, source_failed}
 use Rattle.sheets_http.specs.Buffering.{IsScanned, end_answer}
 use Rattle.sheets_http.proofs.HeadLemmas.{settled_early}
-use Rattle.sheets_http.proofs.LawLemmas.{one_next}
+use Rattle.sheets_http.proofs.LawLemmas.{one_first, one_next}
 use Rattle.sheets_http.proofs.TalkLemmas.{next_refused, next_whole, unfinished_body, next_long, next_end, stands_with_more}
 
 -- what is answered, where the source tells
@@ -166,8 +166,22 @@ pub body_is_open : (near : List ℕ) (n : ℕ) (summary : HeadSummary) → IsSca
 body_is_open near n summary (h, stands, reads, has) short =
     unfinished_body near n summary.length h stands reads has.length_is short
 
+-- where no message is whole, what is held doesn't tell what comes next
+pub untold : (most : ℕ) (held : Buffered) → BeginsWith (take (room_of most held) held.pending) incomplete_message
+    → ¬ (HoldsMessage most held)
+untold most held is (message, begins, whole) =
+    whole (one_first (take (room_of most held) held.pending) message incomplete_message begins is)
+
+-- nor where the body of a request isn't
+pub body_untold : (most : ℕ) (old mid : Buffered) (n : ℕ) (summary : HeadSummary) → mid ≡ old
+    → IsScanned (take (room_of most old) mid.pending) (Ok (scanned.Head summary n))
+    → length (take (room_of most old) mid.pending) < n + summary.length → ¬ (HoldsMessage most old)
+body_untold most old mid n summary same is short =
+    untold most old (subst (λ (held : Buffered). BeginsWith (take (room_of most old) held.pending) incomplete_message)
+    same (body_is_open (take (room_of most old) mid.pending) n summary is short))
+
 -- the stream that was read on is the one from the start, and so is the bound
-on_stream : (most : ℕ) (old mid : Buffered) (left left_mid : Option (List ℕ)) (room_after : ℕ)
+pub on_stream : (most : ℕ) (old mid : Buffered) (left left_mid : Option (List ℕ)) (room_after : ℕ)
     (stream_after : Option (List ℕ)) (answer : Next) → stream_of old left ≡ stream_of mid left_mid → mid.used ≡ old.used
     → Answers most mid left_mid room_after stream_after answer → Answers most old left room_after stream_after answer
 on_stream most old mid left left_mid room_after stream_after answer stream used is =
@@ -233,6 +247,11 @@ body_cut most old mid after left left_mid stream_after room_after n summary stre
     subst (λ (t : List ℕ). Answers most old left room_after stream_after (end_answer (skip_breaks t))) (sym same) ends
 
 -- ---- exactly what comes next
+
+-- the count of a steady source doesn't rise
+pub not_risen : (before after : ℕ) → before < last_count → after ≡ before → ¬ (Rose before after)
+not_risen before after low same (inl more) = omega (arith, same, more)
+not_risen before after low same (inr last) = omega (arith, low, same, last)
 
 -- what is answered is what comes next, since there is one such thing
 exact_there : (room : ℕ) (bytes : List ℕ) (room_after : ℕ) (stream_after : Option (List ℕ)) (faults faults_after : ℕ)

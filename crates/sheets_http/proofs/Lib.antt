@@ -10,4 +10,5 @@ pub mod OutputLemmas
 pub mod LawLemmas
 pub mod PartLemmas
 pub mod RouteLemmas
+pub mod QueryLemmas
 pub mod OneCall

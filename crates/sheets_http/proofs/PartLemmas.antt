@@ -63,7 +63,7 @@ passed_over (b ∷ bytes) = go (is_break b) refl (passed_over bytes)
     go false e found = ([], refl, rw e refl)
 
 -- a whole head has bytes
-whole_has_bytes : (bytes : List ℕ) → head_state bytes ≡ Whole → 0 < length bytes
+pub whole_has_bytes : (bytes : List ℕ) → head_state bytes ≡ Whole → 0 < length bytes
 unfolding is_too_long
 whole_has_bytes [] e = let wrong : Growing ≡ Whole = e in cc
 whole_has_bytes (b ∷ bytes) e = omega arith

@@ -1,16 +1,19 @@
 -- Parts of paths, and the call that a request is.
-use Rattle.std.proofs.Common.{◌≡◌, ◌≢◌, ℕ, zero, suc, ◌+◌, ◌-◌, ◌<◌, ◌≤◌, ◌==◌, true, false, List, [], ◌∷◌, ◌++◌, length, take, drop, get_or, refl, sym, ap, ◌∙◌, subst, arith, drop-cons}
-use Rattle.std.specs.List.{All}
-use Rattle.std.specs.Prelude.{◌↔◌, IsTrue, IsUtf8}
-use Rattle.std.proofs.lemmas.List.{take-append-drop, length-take-le, get_or-take, take_rest}
-use Rattle.std.proofs.lemmas.List.Elements.{All-from_get_or}
-use Rattle.std.proofs.lemmas.List.Splits.{slice_split_none, slice_split_at, length-slice_split}
-use Rattle.percent_encoding.specs.Percent.{percent_decode}
+use Rattle.std.proofs.Common.{◌≡◌, ◌≢◌, ℕ, zero, suc, ◌<◌, ◌≤◌, ◌==◌, Bool, true, false, List, [], ◌∷◌, ◌++◌, length, refl, sym, ap, ◌∙◌, subst, arith}
+use Rattle.std.specs.List.{All, position_or_len}
+use Rattle.std.specs.Borrow.{Bor}
+use Rattle.std.specs.Prelude.{◌↔◌, IsTrue, IsUtf8, Option, Some, None, MatchOption, MatchBool}
+use Rattle.std.specs.Str.Pattern.{FindsChar, HasMatch, FindsTextSuffix, StripsSuffix}
+use Rattle.std.proofs.lemmas.List.Elements.{All-from_get_or, All-head, All-tail}
+use Rattle.std.proofs.lemmas.List.Splits.{slice_split_none, length-slice_split}
+use Rattle.std.proofs.lemmas.List.Sums.{fails_before_first}
+use Rattle.std.proofs.lemmas.Str.Pattern.{contains_char}
+use Rattle.percent_encoding.proofs.PercentLemmas.{percent_decode-nil, percent_decode_not_percent}
+use Rattle.percent_encoding.specs.Percent.{percent_sign, percent_decode}
 use Rattle.sheets_http.specs.declared.verb.Verb.{Verb}
 use Rattle.sheets_http.specs.declared.table.Segment.{Segment}
 use Rattle.sheets_http.specs.Table.{line}
-use Rattle.sheets_http.proofs.LineLemmas.{unequal}
-use Rattle.sheets_http.specs.Routes.{FitsSegment, FitSegments, slash, raw_segments, IsCall, part}
+use Rattle.sheets_http.specs.Routes.{FitSegments, slash, raw_segments, IsCall, part}
 
 -- nothing decodes to nothing, which is UTF-8
 nothing_is_utf8 : IsUtf8 (percent_decode [])
@@ -26,28 +29,31 @@ part_is_utf8 (segment ∷ path) [] place fits = absurd fits
 part_is_utf8 (segment ∷ path) (raw ∷ raws) zero fits = fits.0.utf8
 part_is_utf8 (segment ∷ path) (raw ∷ raws) (suc place) fits = part_is_utf8 path raws place fits.1
 
--- ---- the first segment of a path
+-- ---- a segment
 
-pub cut_segment : (path : List ℕ) (at : ℕ) → at < length path → get_or path at 0 ≡ slash
-    → ((k : ℕ) → k < at → get_or path k 0 ≢ slash)
-    → raw_segments path ≡ take at path ∷ raw_segments (take (length path - (at + 1)) (drop (at + 1) path))
-cut_segment path at within here before =
-    let next : suc at ≡ at + 1 = omega arith in
-    let cut : path ≡ take at path ++ get_or path at 0 ∷ drop (suc at) path =
-    sym (take-append-drop at path) ∙ ap (λ (t : List ℕ). take at path ++ t) (drop-cons path at 0 within) in
-    let none : All (λ b. (b == slash) ≡ false) (take at path) =
-    All-from_get_or (λ b. (b == slash) ≡ false) (take at path) 0 (λ i inside.
-    let below : i < at = omega (arith, inside, length-take-le at path (omega (arith, within))) in
-    ap (λ b. b == slash) (get_or-take at path i 0 below) ∙ unequal (get_or path i 0) slash (before i below)) in
-    ap raw_segments cut
-    ∙ slice_split_at (λ b. b == slash) (take at path) (get_or path at 0) (drop (suc at) path) none
-    (ap (λ b. b == slash) here)
-    ∙ ap (λ (t : List ℕ). take at path ∷ raw_segments t) (ap (λ n. drop n path) next ∙ sym (take_rest path (at + 1)))
+-- what has no escape decodes to itself
+pub no_escape : (raw : List ℕ) → All (λ b. b ≢ percent_sign) raw → percent_decode raw ≡ raw
+no_escape [] none = percent_decode-nil
+no_escape (b ∷ raw) none =
+    percent_decode_not_percent b raw (All-head (λ b. b ≢ percent_sign) b raw none)
+    ∙ ap (λ (t : List ℕ). b ∷ t) (no_escape raw (All-tail (λ b. b ≢ percent_sign) b raw none))
 
-pub no_slash : (path : List ℕ) → ((k : ℕ) → k < length path → get_or path k 0 ≢ slash) → raw_segments path ≡ path ∷ []
+-- nor is there one where no percent sign is found
+pub no_escape_found : (raw : List ℕ) (found : Bool)
+    → MatchBool found (HasMatch (FindsChar percent_sign) raw) (FindsChar percent_sign raw None) → found ≡ false
+    → percent_decode raw ≡ raw
+no_escape_found raw found cases none =
+    let find = contains_char percent_sign raw found cases (omega arith) in
+    no_escape raw (All-from_get_or (λ b. b ≢ percent_sign) raw 0 (λ i inside here.
+    let some : found ≡ true = find.1 i inside here in
+    cc))
+
+-- a path without a slash is one segment
+pub no_slash : (path : List ℕ) → position_or_len (λ b. b == slash) path ≡ length path → raw_segments path ≡ path ∷ []
 no_slash path none =
     slice_split_none (λ b. b == slash) path
-    (All-from_get_or (λ b. (b == slash) ≡ false) path 0 (λ i inside. unequal (get_or path i 0) slash (none i inside)))
+    (All-from_get_or (λ b. (b == slash) ≡ false) path 0 (λ i inside.
+    fails_before_first (λ b. b == slash) path i 0 (omega (arith, inside, none))))
 
 -- ---- segments behind the last one
 
@@ -71,6 +77,14 @@ no_part raws raw zero begins later = absurd (later refl)
 no_part raws raw (suc n) begins later = sym (ap (part (suc n)) begins)
 
 -- ---- the call
+
+-- what stands before a text that a path ends with, where it does
+pub stripped : (end path : List ℕ) (found : Option (Bor (List ℕ)))
+    → MatchOption found (FindsTextSuffix end path None) (λ front. StripsSuffix (FindsTextSuffix end) path front.now)
+    → MatchOption found ((front : List ℕ) → path ≢ front ++ end) (λ front. path ≡ front.now ++ end)
+stripped end path None none = none
+stripped end path (Some front) (n, finds, is, long) =
+    finds.1 ∙ ap (λ (t : List ℕ). t ++ end) (sym is)
 
 -- what a request is by its parts as the code has them
 pub is_call : (verb : Verb) (before method path text : List ℕ) (segments : List Segment)

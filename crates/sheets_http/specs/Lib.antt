@@ -15,4 +15,5 @@ pub mod Queries
 pub mod Routes
 pub mod Routing
 pub mod Users
+pub mod Faults
 pub mod Laws

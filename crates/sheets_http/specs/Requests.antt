@@ -1,10 +1,10 @@
 -- What is answered for the next request of a conversation, of which some bytes were read already.
-use Rattle.std.specs.Prelude.{◌≡◌, ℕ, ◌-◌, List, ◌++◌, length, Option, Some, ⊤}
+use Rattle.std.specs.Prelude.{◌≡◌, ◌≢◌, ℕ, ◌-◌, List, ◌++◌, length, take, Option, Some, ⊤}
 use Rattle.std.specs.Option.{option_map}
 use Rattle.sheets_http.specs.declared.request.Next.{Next}
 use Rattle.sheets_http.specs.declared.request.Next.TheVariants as next
 use Rattle.cell_value.specs.FaultCount.{Rose}
-use Rattle.sheets_http.specs.Framing.{StreamNext, request_and_rest, talk_end, ended, asked, closed, truncated, long_talk, IsNext}
+use Rattle.sheets_http.specs.Framing.{FirstMessage, incomplete_message, BeginsWith, StreamNext, request_and_rest, talk_end, ended, asked, closed, truncated, long_talk, IsNext}
 
 -- the bytes that were read and not used yet, and how many were used
 pub record Buffered : Type 0 where
@@ -18,6 +18,12 @@ room_of most held = most - held.used
 -- what is left of the stream where the source tells it: the bytes that are held, then those to be read
 abbrev pub stream_of : Buffered → Option (List ℕ) → Option (List ℕ)
 stream_of held left = option_map (λ rest. held.pending ++ rest) left
+
+-- the bytes that are held tell what comes next: a whole request, or one that is refused
+abbrev pub HoldsMessage : ℕ → Buffered → Type 0
+HoldsMessage most held =
+    (message : FirstMessage) × BeginsWith (take (room_of most held) held.pending) message
+    × (message ≢ incomplete_message)
 
 -- a whole request was answered
 abbrev pub IsRequest : Next → Type 0

@@ -2,7 +2,7 @@ ghost use Rattle.std.specs.Prelude.{◌≡◌, ◌≢◌, IsTrue, ◌+◌, ◌^�
 ghost use Rattle.cell_value.specs.FaultCount.{Rose};
 ghost use Rattle.sheets_http.specs.Outside.{StaysSteady};
 ghost use Rattle.sheets_http.specs.Heads.{skip_breaks};
-ghost use Rattle.sheets_http.specs.Requests.{room_of, stream_of, IsRequest, IsAnswer, IsExact};
+ghost use Rattle.sheets_http.specs.Requests.{room_of, stream_of, HoldsMessage, IsRequest, IsAnswer, IsExact};
 ghost use Rattle.sheets_http.specs.Buffering.{end_answer, IsScanned, IsProgress, AnswersNoRequest, IsBody};
 
 use crate::buffer::{Buffer, FillError};
@@ -35,6 +35,9 @@ pub fn next_request<L: Source>(alloc: Global, link: &mut L, buffer: &mut Buffer,
     ensures stream { ¬ (IsRequest result)
         → stream_of buffer.old (L.left link.old) ≡ stream_of buffer.new (L.left link.new) }
     ensures bound { ¬ (IsRequest result) → room_of most buffer.new ≡ room_of most buffer.old }
+
+    // Nothing is read where what is held tells what comes next.
+    ensures held { HoldsMessage most buffer.old → link.new ≡ link.old }
 
     // It doesn't give up by itself.
     ensures fault { result ≡ Next.ReadFault → Rose (L.faults link.old) (L.faults link.new) }
@@ -71,6 +74,7 @@ fn read_once<L: Source>(alloc: Global, link: &mut L, buffer: &mut Buffer, most: 
     ensures progress { IsProgress most buffer.old buffer.new (stream_of buffer.old (L.left link.old))
         (stream_of buffer.new (L.left link.new)) result }
     ensures no_request { AnswersNoRequest result }
+    ensures held { HoldsMessage most buffer.old → (link.new ≡ link.old) × (result ≢ Progress.More) }
     ensures stream { stream_of buffer.old (L.left link.old) ≡ stream_of buffer.new (L.left link.new) }
     ensures used { buffer.new.used ≡ buffer.old.used }
     ensures fault { result ≡ Progress.Answer Next.ReadFault → Rose (L.faults link.old) (L.faults link.new) }
@@ -112,6 +116,7 @@ fn next_body<L: Source>(
         (λ bytes. IsAnswer (room_of most buffer.old) bytes (room_of most buffer.new)
         (stream_of buffer.new (L.left link.new)) result) }
     ensures shrinks { IsRequest result → room_of most buffer.new < room_of most buffer.old }
+    ensures held { HoldsMessage most buffer.old → link.new ≡ link.old }
     ensures stream { ¬ (IsRequest result)
         → stream_of buffer.old (L.left link.old) ≡ stream_of buffer.new (L.left link.new) }
     ensures bound { ¬ (IsRequest result) → room_of most buffer.new ≡ room_of most buffer.old }
@@ -142,6 +147,7 @@ fn wait_for_body<L: Source>(
     ensures body { IsBody most buffer.old buffer.new (stream_of buffer.old (L.left link.old))
         (stream_of buffer.new (L.left link.new)) summary.now end result }
     ensures no_request { IfSome result (λ next. ¬ (IsRequest next)) }
+    ensures held { HoldsMessage most buffer.old → link.new ≡ link.old }
     ensures stream { stream_of buffer.old (L.left link.old) ≡ stream_of buffer.new (L.left link.new) }
     ensures used { buffer.new.used ≡ buffer.old.used }
     ensures fault { result ≡ Some Next.ReadFault → Rose (L.faults link.old) (L.faults link.new) }

@@ -17,6 +17,11 @@ pub enum SinkFault {
 }
 
 impl fmt::Display for SinkFault {
+    ghost use Rattle.std.specs.Prelude.{Some};
+    ghost use Rattle.sheets_http.specs.Faults.{sink_fault_text};
+
+    ghost output = { λ fault. Some (sink_fault_text fault) };
+
     fn fmt<W: fmt::Write>(&self, f: &mut fmt::Formatter<W>) -> fmt::Result {
         f.write_str(match self {
             SinkFault::Failed => "failed",

@@ -1,4 +1,4 @@
-ghost use Rattle.std.specs.Prelude.{◌≡◌, IfOk};
+ghost use Rattle.std.specs.Prelude.{◌≡◌, IfOk, IfSome};
 ghost use Rattle.std.specs.List.{list_any, list_all};
 ghost use Rattle.sheets_http.specs.Table.{name_of};
 ghost use Rattle.sheets_http.specs.Queries.{form_text, members_of, is_named, is_admitted, takes_member, has_no_name_twice, has_required, fits_query};
@@ -7,6 +7,7 @@ use crate::Verb;
 use crate::table::{COMMON, Member};
 use cell_value::{Items, NoMemory, Text};
 use form_urlencoded::{decode, raw_pairs};
+use memchr::memchr2;
 use std::alloc::Global;
 
 /// The names and the values of a query's members, in order.
@@ -27,9 +28,24 @@ pub(crate) fn members_of(alloc: Global, query: &[u8]) -> Result<Items<(Text, Tex
 fn form_text(alloc: Global, raw: &[u8]) -> Result<Text, NoMemory>
     ensures { IfOk result (λ text. text ≡ form_text raw.now) }
 {
-    let text = decode(alloc, raw)?;
-    let text = text.into_owned(alloc)?;
+    let text = match plain_text(raw) {
+        Some(text) => String::from_str(alloc, text)?,
+        None => decode(alloc, raw)?.into_owned(alloc)?,
+    };
     Ok(Text::of(text))
+}
+
+/// A name or a value that stands for itself, as most do: it is UTF-8, and has no `+` and no `%`.
+fn plain_text(raw: &[u8]) -> Option<&str>
+    ensures { IfSome result (λ text. text.now ≡ form_text raw.now) }
+{
+    if memchr2(b'+', b'%', raw).is_some() {
+        return None;
+    }
+    match str::from_utf8(raw) {
+        Ok(text) => Some(text),
+        Err(_) => None,
+    }
 }
 
 /// Whether a call takes a query with these members.

@@ -35,6 +35,11 @@ pub enum HeadFault {
 }
 
 impl fmt::Display for HeadFault {
+    ghost use Rattle.std.specs.Prelude.{Some};
+    ghost use Rattle.sheets_http.specs.Faults.{head_fault_text};
+
+    ghost output = { λ fault. Some (head_fault_text fault) };
+
     fn fmt<W: fmt::Write>(&self, f: &mut fmt::Formatter<W>) -> fmt::Result {
         f.write_str(match self {
             HeadFault::HeadLong => "the head is too long",

@@ -32,6 +32,11 @@ pub enum RouteFault {
 }
 
 impl fmt::Display for RouteFault {
+    ghost use Rattle.std.specs.Prelude.{Some};
+    ghost use Rattle.sheets_http.specs.Faults.{route_fault_text};
+
+    ghost output = { λ fault. Some (route_fault_text fault) };
+
     fn fmt<W: fmt::Write>(&self, f: &mut fmt::Formatter<W>) -> fmt::Result {
         f.write_str(match self {
             RouteFault::NoRoute => "no call has the method and the path",

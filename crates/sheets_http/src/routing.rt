@@ -1,4 +1,5 @@
-ghost use Rattle.std.specs.Prelude.{◌≡◌, ◌↔◌, [], ◌∷◌, IfOk, IsTrue, IsUtf8, MatchOption};
+ghost use Rattle.std.specs.Prelude.{◌≡◌, ◌↔◌, [], ◌∷◌, IfOk, IsTrue, IsUtf8, MatchOption, OnSome};
+ghost use Rattle.std.specs.Cow.{cow_str_bytes};
 ghost use Rattle.percent_encoding.specs.Percent.{percent_decode};
 ghost use Rattle.sheets_http.specs.Table.{line};
 ghost use Rattle.sheets_http.specs.Routes.{FitsSegment, FitSegments, raw_segments, part, path_of, query_of, GivesLast, IsRoute};
@@ -8,8 +9,9 @@ use crate::query::{fits_query, members_of};
 use crate::table::Segment;
 use crate::{Route, RouteFault, Verb};
 use cell_value::{NoMemory, Text};
-use percent_encoding::percent_decode;
+use percent_encoding::{DecodeError, percent_decode_str};
 use std::alloc::Global;
+use std::borrow::CowStr;
 
 /// The call that a request with that method and that target is, with the parts of its path and the
 /// members of its query.
@@ -31,13 +33,13 @@ pub fn route(alloc: Global, method: &str, target: &str) -> Result<Route, RouteFa
 }
 
 /// The path and the query of a target.
-fn split_target(target: &str) -> (&[u8], &[u8])
+fn split_target(target: &str) -> (&str, &str)
     ensures path { result.0.now ≡ path_of target.now }
     ensures query { result.1.now ≡ query_of target.now }
 {
     match target.split_once('?') {
-        Some((path, query)) => (path.as_bytes(), query.as_bytes()),
-        None => (target.as_bytes(), b""),
+        Some((path, query)) => (path, query),
+        None => (target, ""),
     }
 }
 
@@ -46,8 +48,8 @@ fn call_of<'a>(
     alloc: Global,
     verbs: &[Verb],
     method: &str,
-    path: &'a [u8],
-) -> Result<Option<(Verb, &'a [u8])>, NoMemory>
+    path: &'a str,
+) -> Result<Option<(Verb, &'a str)>, NoMemory>
     ensures { IfOk result (λ found. FindsCall verbs.now method.now path.now found) }
 {
     match verbs {
@@ -64,15 +66,15 @@ fn before_verb<'a>(
     alloc: Global,
     verb: Verb,
     method: &str,
-    path: &'a [u8],
-) -> Result<Option<&'a [u8]>, NoMemory>
+    path: &'a str,
+) -> Result<Option<&'a str>, NoMemory>
     ensures { IfOk result (λ found. IsBefore verb method.now path.now found) }
 {
     let line = verb.line();
     if method != line.method {
         return Ok(None);
     }
-    match path.strip_suffix(line.verb.as_bytes()) {
+    match path.strip_suffix(line.verb) {
         Some(before) => {
             let fits = fit_segments(alloc, line.path, before)?;
             if fits { Ok(Some(before)) } else { Ok(None) }
@@ -82,20 +84,18 @@ fn before_verb<'a>(
 }
 
 /// The first segment of a path, and what stands behind its slash.
-fn split_segment(path: &[u8]) -> (&[u8], Option<&[u8]>)
+fn split_segment(path: &str) -> (&str, Option<&str>)
     ensures { MatchOption result.1 (raw_segments path.now ≡ result.0.now ∷ [])
         (λ rest. raw_segments path.now ≡ result.0.now ∷ raw_segments rest.now) }
 {
-    for (at, byte) in path.iter().enumerate() {
-        if *byte == b'/' {
-            return (&path[..at], Some(&path[at + 1..]));
-        }
+    match path.split_once('/') {
+        Some((segment, rest)) => (segment, Some(rest)),
+        None => (path, None),
     }
-    (path, None)
 }
 
 /// Whether each segment of a path fits.
-fn fit_segments(alloc: Global, segments: &[Segment], path: &[u8]) -> Result<bool, NoMemory>
+fn fit_segments(alloc: Global, segments: &[Segment], path: &str) -> Result<bool, NoMemory>
     ensures { IfOk result (λ fit. IsTrue fit ↔ FitSegments segments.now (raw_segments path.now)) }
 {
     match segments {
@@ -114,22 +114,37 @@ fn fit_segments(alloc: Global, segments: &[Segment], path: &[u8]) -> Result<bool
 }
 
 /// Whether a raw segment fits. It takes memory only where the segment has escapes.
-fn fits_segment(alloc: Global, segment: Segment, raw: &[u8]) -> Result<bool, NoMemory>
+fn fits_segment(alloc: Global, segment: Segment, raw: &str) -> Result<bool, NoMemory>
     ensures { IfOk result (λ fits. IsTrue fits ↔ FitsSegment segment raw.now) }
 {
-    let bytes = percent_decode(raw).into_cow(alloc)?;
-    match str::from_utf8(&bytes) {
-        Ok(text) => Ok(segment.fits(text)),
-        Err(_) => Ok(false),
+    match decoded(alloc, raw)? {
+        Some(text) => Ok(segment.fits(text.as_str())),
+        None => Ok(false),
+    }
+}
+
+/// A raw segment, decoded, where that is UTF-8. It takes memory only where the segment has escapes.
+fn decoded(alloc: Global, raw: &str) -> Result<Option<CowStr<'_, Global>>, NoMemory>
+    ensures text { IfOk result (λ found. MatchOption found (¬ (IsUtf8 (percent_decode raw.now)))
+        (λ text. cow_str_bytes text ≡ percent_decode raw.now)) }
+    ensures utf8 { IfOk result (λ found. OnSome found (IsUtf8 (percent_decode raw.now))) }
+{
+    if !raw.contains('%') {
+        return Ok(Some(CowStr::Borrowed(raw)));
+    }
+    match percent_decode_str(raw).decode_utf8(alloc) {
+        Ok(text) => Ok(Some(text)),
+        Err(DecodeError::Utf8(_)) => Ok(None),
+        Err(DecodeError::OutOfMemory) => Err(NoMemory),
     }
 }
 
 /// The route of a call, with the path before its verb.
-fn route_call(alloc: Global, verb: Verb, before: &[u8], query: &[u8]) -> Result<Route, RouteFault>
+fn route_call(alloc: Global, verb: Verb, before: &str, query: &str) -> Result<Route, RouteFault>
     requires { FitSegments (line verb).path (raw_segments before.now) }
     ensures { RoutesCall verb before.now query.now result }
 {
-    let query = members_of(alloc, query)?;
+    let query = members_of(alloc, query.as_bytes())?;
     if !fits_query(verb, query.as_slice()) {
         return Err(RouteFault::BadQuery);
     }
@@ -160,13 +175,13 @@ fn split_last(verb: Verb, last: Text, none: Text) -> (Text, Text)
 }
 
 /// The part of a path at a place.
-fn part(alloc: Global, path: &[u8], place: usize) -> Result<Text, NoMemory>
+fn part(alloc: Global, path: &str, place: usize) -> Result<Text, NoMemory>
     requires { IsUtf8 (part place (raw_segments path.now)) }
     ensures { IfOk result (λ text. text ≡ part place (raw_segments path.now)) }
 {
     let (raw, rest) = split_segment(path);
     if place == 0 {
-        decoded(alloc, raw)
+        decoded_text(alloc, raw)
     } else {
         match rest {
             Some(rest) => part(alloc, rest, place - 1),
@@ -175,14 +190,13 @@ fn part(alloc: Global, path: &[u8], place: usize) -> Result<Text, NoMemory>
     }
 }
 
-/// A segment, decoded.
-fn decoded(alloc: Global, raw: &[u8]) -> Result<Text, NoMemory>
+/// A segment that is UTF-8 where it is decoded, decoded.
+fn decoded_text(alloc: Global, raw: &str) -> Result<Text, NoMemory>
     requires { IsUtf8 (percent_decode raw.now) }
     ensures { IfOk result (λ text. text ≡ percent_decode raw.now) }
 {
-    let decoded = percent_decode(raw).into_cow(alloc)?;
-    match str::from_utf8(&decoded) {
-        Ok(text) => Ok(Text::of(String::from_str(alloc, text)?)),
-        Err(_) => unreachable!(),
+    match decoded(alloc, raw)? {
+        Some(text) => Ok(Text::of(text.into_owned(alloc)?)),
+        None => unreachable!(),
     }
 }

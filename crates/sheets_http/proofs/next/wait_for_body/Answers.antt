@@ -4,7 +4,7 @@ use Rattle.sheets_http.specs.declared.request.Next.{Next}
 use Rattle.sheets_http.specs.Heads.{skip_breaks}
 use Rattle.sheets_http.specs.Requests.{room_of, stream_of}
 use Rattle.sheets_http.specs.Buffering.{end_answer}
-use Rattle.sheets_http.proofs.AnswerLemmas.{Answers, room_is, few_bytes, scanned_with_more, body_too_long, body_cut}
+use Rattle.sheets_http.proofs.AnswerLemmas.{Answers, room_is, few_bytes, scanned_with_more, body_untold, body_too_long, body_cut}
 use Rattle.sheets_http.proofs.next.wait_for_body.Goals as goal
 
 pub overflow_add-whole : goal.overflow_add-whole
@@ -61,12 +61,70 @@ returns-in-Ok-eq0-clause-body g c =
     (room_of c.args.most c.fill.new.self) (stream_of c.fill.new.self (g.L.Source.left c.fill.new.source)) a)
     (sym told) cut
 
+pub returns-in-Ok-eq0-clause-held : goal.returns-in-Ok-eq0-clause-held
+returns-in-Ok-eq0-clause-held g c holds =
+    let room = room_is c.args.most c.saturating_sub-room.result c.used.result c.args.buffer.now
+    c.saturating_sub-room.ensures c.used.ensures in
+    absurd (body_untold c.args.most c.args.buffer.now c.body.buffer c.args.end c.args.summary.now
+    (c.body.invariant.held holds).1 c.body.invariant.head
+    (omega (
+      arith,
+      room,
+      length-take (room_of c.args.most c.args.buffer.now) c.body.buffer.pending,
+      c.min.ensures,
+      c.if-whole-min.false,
+      ap length c.pending.ensures,
+    )) holds)
+
+pub returns-in-Err-Failed-clause-held : goal.returns-in-Err-Failed-clause-held
+returns-in-Err-Failed-clause-held g c holds =
+    let room = room_is c.args.most c.saturating_sub-room.result c.used.result c.args.buffer.now
+    c.saturating_sub-room.ensures c.used.ensures in
+    absurd (body_untold c.args.most c.args.buffer.now c.body.buffer c.args.end c.args.summary.now
+    (c.body.invariant.held holds).1 c.body.invariant.head
+    (omega (
+      arith,
+      room,
+      length-take (room_of c.args.most c.args.buffer.now) c.body.buffer.pending,
+      c.min.ensures,
+      c.if-whole-min.false,
+      ap length c.pending.ensures,
+    )) holds)
+
+pub returns-in-Err-NoMemory-clause-held : goal.returns-in-Err-NoMemory-clause-held
+returns-in-Err-NoMemory-clause-held g c holds =
+    let room = room_is c.args.most c.saturating_sub-room.result c.used.result c.args.buffer.now
+    c.saturating_sub-room.ensures c.used.ensures in
+    absurd (body_untold c.args.most c.args.buffer.now c.body.buffer c.args.end c.args.summary.now
+    (c.body.invariant.held holds).1 c.body.invariant.head
+    (omega (
+      arith,
+      room,
+      length-take (room_of c.args.most c.args.buffer.now) c.body.buffer.pending,
+      c.min.ensures,
+      c.if-whole-min.false,
+      ap length c.pending.ensures,
+    )) holds)
+
 pub body-preserved : goal.body-preserved
 body-preserved g c = record {
   stream = c.body.invariant.stream ∙ c.fill.ensures.stream;
   used = c.fill.ensures.used ∙ c.body.invariant.used;
   head = scanned_with_more (room_of c.args.most c.args.buffer.now) c.body.buffer.pending c.fill.new.self.pending
       c.args.end c.args.summary.now c.fill.ensures.kept c.body.invariant.head;
+  held = λ holds.
+      let room = room_is c.args.most c.saturating_sub-room.result c.used.result c.args.buffer.now
+      c.saturating_sub-room.ensures c.used.ensures in
+      absurd (body_untold c.args.most c.args.buffer.now c.body.buffer c.args.end c.args.summary.now
+      (c.body.invariant.held holds).1 c.body.invariant.head
+      (omega (
+        arith,
+        room,
+        length-take (room_of c.args.most c.args.buffer.now) c.body.buffer.pending,
+        c.min.ensures,
+        c.if-whole-min.false,
+        ap length c.pending.ensures,
+      )) holds);
   later = omega (arith, c.body.invariant.later, c.fill.ensures.later);
   steady = λ s.
       let before = c.body.invariant.steady s in

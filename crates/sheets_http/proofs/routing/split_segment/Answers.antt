@@ -1,12 +1,13 @@
-use Rattle.std.proofs.Common.{arith}
-use Rattle.sheets_http.proofs.RouteLemmas.{cut_segment, no_slash}
+use Rattle.std.proofs.Common.{◌==◌, arith}
+use Rattle.std.proofs.lemmas.List.Splits.{slice_split_first}
+use Rattle.sheets_http.specs.Routes.{slash}
+use Rattle.sheets_http.proofs.RouteLemmas.{no_slash}
 use Rattle.sheets_http.proofs.routing.split_segment.Goals as goal
 
-pub returns-then-byte-eq47 : goal.returns-then-byte-eq47
-returns-then-byte-eq47 c =
-    cut_segment c.args.path.now c.loop-at.at c.loop-at-test.true c.if-byte-eq47.true c.loop-at.invariant
+pub returns-in-Some : goal.returns-in-Some
+returns-in-Some c =
+    let parts = c.in-Some.ensures.byte (omega arith) (λ word found is. is) in
+    rw (parts.0, parts.1) (slice_split_first (λ b. b == slash) c.args.path.now 0 parts.2)
 
-pub returns : goal.returns
-returns c =
-    no_slash c.args.path.now
-    (λ k below. c.loop-at.invariant k (omega (arith, below, c.loop-at-test.false, c.loop-at.auto.at-end)))
+pub returns-in-None : goal.returns-in-None
+returns-in-None c = no_slash c.args.path.now (c.in-None.ensures.byte (omega arith) (λ word found is. is))
