@@ -13,7 +13,17 @@ use Rattle.sheets_json.specs.declared.answer.ShownRange.{ShownRange}
 use Rattle.sheets_json.specs.declared.answer.Update.{Update}
 use Rattle.sheets_json.specs.declared.answer.Answer.{Answer}
 use Rattle.sheets_json.specs.declared.answer.Answer.TheVariants as answer
-use Rattle.sheets_json.specs.Answers.{put_given, dimension_data, cell_data, list_data, text_data, range_data, update_data, append_data, answer_data}
+use Rattle.grid_range.specs.declared.band.Band.{Band}
+use Rattle.grid_range.specs.declared.band.Band.TheVariants.{Whole, From, Span}
+use Rattle.grid_range.specs.declared.area.Area.{Area}
+use Rattle.sheets_json.specs.declared.spreadsheet.ShownProperties.{ShownProperties}
+use Rattle.sheets_json.specs.declared.spreadsheet.ShownSheet.{ShownSheet}
+use Rattle.sheets_json.specs.declared.spreadsheet.Spreadsheet.{Spreadsheet}
+use Rattle.sheets_json.specs.declared.spreadsheet.Reply.{Reply}
+use Rattle.sheets_json.specs.declared.spreadsheet.Reply.TheVariants as reply
+use Rattle.sheets_json.specs.Written.{put_given, put_true, list_data, text_data}
+use Rattle.sheets_json.specs.Spreadsheets.{area_data, grid_properties_data, place_members, properties_data, sheet_data, spreadsheet_data, reply_data}
+use Rattle.sheets_json.specs.Answers.{dimension_data, cell_data, range_data, update_data, append_data, answer_data}
 use Rattle.sheets_json.specs.Refusals.{refusal_data}
 
 or_false : (a b : Bool) → a ≡ false → b ≡ false → a || b ≡ false
@@ -67,7 +77,58 @@ append_whole : (id : List ℕ) (table : Option (List ℕ)) (updates : Update)
 append_whole id None updates = refl
 append_whole id (Some range) updates = refl
 
+-- an area, whatever its bands are
+bands_whole : (sheet : ℕ) (rows cols : Band) → has_float (area_data (record { sheet = sheet; rows = rows; cols = cols })) ≡ false
+bands_whole sheet Whole Whole = refl
+bands_whole sheet Whole (From start) = refl
+bands_whole sheet Whole (Span start end) = refl
+bands_whole sheet (From first) Whole = refl
+bands_whole sheet (From first) (From start) = refl
+bands_whole sheet (From first) (Span start end) = refl
+bands_whole sheet (Span first last) Whole = refl
+bands_whole sheet (Span first last) (From start) = refl
+bands_whole sheet (Span first last) (Span start end) = refl
+
+area_whole : (area : Area) → has_float (area_data area) ≡ false
+area_whole area = bands_whole area.sheet area.rows area.cols
+
+-- the properties of a sheet, whether it is hidden or not
+hidden_whole : (properties : ShownProperties) (hidden : Bool)
+    → members_have_float (put (codes "gridProperties") (grid_properties_data properties)
+    (put_true (codes "hidden") hidden (place_members properties))) ≡ false
+hidden_whole properties true = refl
+hidden_whole properties false = refl
+
+properties_whole : (properties : ShownProperties) → has_float (properties_data properties) ≡ false
+properties_whole properties = hidden_whole properties properties.hidden
+
+merges_whole : (merges : Option (List Area)) (properties : ShownProperties)
+    → members_have_float (put_given (codes "merges") (list_data area_data) merges
+    (put (codes "properties") (properties_data properties) no_members)) ≡ false
+merges_whole None properties = or_false (has_float (properties_data properties)) false (properties_whole properties) refl
+merges_whole (Some areas) properties =
+    or_false (any_float area_data areas) (has_float (properties_data properties) || false)
+    (list_whole area_data area_whole areas)
+    (or_false (has_float (properties_data properties)) false (properties_whole properties) refl)
+
+sheet_whole : (sheet : ShownSheet) → has_float (sheet_data sheet) ≡ false
+sheet_whole sheet = merges_whole sheet.merges sheet.properties
+
+spreadsheet_whole : (spreadsheet : Spreadsheet) → has_float (spreadsheet_data spreadsheet) ≡ false
+spreadsheet_whole spreadsheet =
+    or_false (any_float sheet_data spreadsheet.sheets) false (list_whole sheet_data sheet_whole spreadsheet.sheets) refl
+
+reply_whole : (replied : Reply) → has_float (reply_data replied) ≡ false
+reply_whole reply.Empty = refl
+reply_whole (reply.AddSheet properties) =
+    or_false (has_float (properties_data properties) || false) false
+    (or_false (has_float (properties_data properties)) false (properties_whole properties) refl) refl
+
 pub answer_whole : (given : Answer) → has_float (answer_data given) ≡ false
+answer_whole (answer.Create spreadsheet) = spreadsheet_whole spreadsheet
+answer_whole (answer.Get spreadsheet) = spreadsheet_whole spreadsheet
+answer_whole (answer.Batch replies id) =
+    or_false (any_float reply_data replies) false (list_whole reply_data reply_whole replies) refl
 answer_whole (answer.Read shown) = range_whole shown
 answer_whole (answer.Write update) = update_whole update
 answer_whole (answer.Append id table updates) = append_whole id table updates

@@ -1,10 +1,9 @@
--- Answers as JSON values (Google Sheets API v4 reference, ValueRange, UpdateValuesResponse,
+-- Answers as JSON values (Google Sheets API v4 reference, Spreadsheet, ValueRange, UpdateValuesResponse,
 -- AppendValuesResponse, ClearValuesResponse, and the responses of batchGet, batchUpdate and batchClear).
 -- Members are put into an object in the order of their names.
-use Rattle.std.specs.Prelude.{ℕ, List, codes, map, Option, None, Some}
-use Rattle.serde_json.specs.Data.{Data, unsigned, boolean, number, string, array, object, Members, no_members, put}
+use Rattle.std.specs.Prelude.{ℕ, List, codes, Option}
+use Rattle.serde_json.specs.Data.{Data, boolean, number, string, object, no_members, put}
 use Rattle.serde_json.specs.Find.{of_integer}
-use Rattle.serde_json.specs.View.{items_of}
 use Rattle.grid_range.specs.declared.axis.Axis.{Axis}
 use Rattle.grid_range.specs.declared.axis.Axis.TheVariants.{Rows, Columns}
 use Rattle.cell_value.specs.declared.cell.Cell.{Cell}
@@ -13,20 +12,8 @@ use Rattle.sheets_json.specs.declared.answer.ShownRange.{ShownRange}
 use Rattle.sheets_json.specs.declared.answer.Update.{Update}
 use Rattle.sheets_json.specs.declared.answer.Answer.{Answer}
 use Rattle.sheets_json.specs.declared.answer.Answer.TheVariants as answer
-
-abbrev pub text_data : List ℕ → Data
-text_data text = string text
-
-abbrev pub count_data : ℕ → Data
-count_data count = number (unsigned count)
-
-abbrev pub list_data : {A : Type 0} → (A → Data) → List A → Data
-list_data meaning items = array (items_of (map meaning items))
-
--- a member that may be absent
-abbrev pub put_given : {A : Type 0} → List ℕ → (A → Data) → Option A → Members → Members
-put_given name meaning None members = members
-put_given name meaning (Some value) members = put name (meaning value) members
+use Rattle.sheets_json.specs.Written.{text_data, count_data, list_data, put_given}
+use Rattle.sheets_json.specs.Spreadsheets.{spreadsheet_data, batch_data}
 
 -- ---- ranges
 
@@ -88,6 +75,9 @@ write_many_data responses id cells columns rows sheets = object (
     put (codes "totalUpdatedSheets") (count_data sheets) no_members))))))
 
 abbrev pub answer_data : Answer → Data
+answer_data (answer.Create spreadsheet) = spreadsheet_data spreadsheet
+answer_data (answer.Get spreadsheet) = spreadsheet_data spreadsheet
+answer_data (answer.Batch replies id) = batch_data replies id
 answer_data (answer.Read shown) = range_data shown
 answer_data (answer.Write update) = update_data update
 answer_data (answer.Append id table updates) = append_data id table updates

@@ -9,8 +9,8 @@ use Rattle.cell_value.specs.declared.entered.Mode.{Mode}
 use Rattle.sheets_json.specs.declared.call.CallFault.{CallFault}
 use Rattle.sheets_json.specs.declared.call.CallFault.TheVariants.{BadBody}
 use Rattle.sheets_json.specs.declared.call.RangeBlock.{RangeBlock}
-use Rattle.sheets_json.specs.Reading.{Reading, Shape, made}
-use Rattle.sheets_json.specs.Members.{Taken, Fields, optional, required, also, making, object_of}
+use Rattle.sheets_json.specs.Reading.{Reading, Shape}
+use Rattle.sheets_json.specs.Members.{Fields, optional, required, also, making, object_of}
 use Rattle.sheets_json.specs.Shapes.{text, word, kept, list_of, only_false, anything}
 use Rattle.sheets_json.specs.Words.{mode_named, render_named}
 use Rattle.sheets_json.specs.ValueRanges.{range_block}

@@ -1,5 +1,5 @@
 -- What a request asks for: its call, by its route and its body (Google Sheets API v4 reference).
-use Rattle.std.specs.Prelude.{ℕ, Bool, List, [], ◌∷◌, codes, Option, None, Some, unwrap_or, Result, Ok, Err}
+use Rattle.std.specs.Prelude.{ℕ, List, [], ◌∷◌, codes, Option, unwrap_or, Result, Ok, Err}
 use Rattle.grid_range.specs.declared.axis.Axis.{Axis}
 use Rattle.cell_value.specs.declared.cell.Render.{Render}
 use Rattle.cell_value.specs.declared.entered.Mode.{Mode}

@@ -1,5 +1,5 @@
 -- DimensionRange (Google Sheets API v4 reference), and the requests for rows and columns.
-use Rattle.std.specs.Prelude.{ℕ, Bool, List, codes, Option, None, Some, unwrap_or}
+use Rattle.std.specs.Prelude.{ℕ, Bool, codes, Option, Some, unwrap_or}
 use Rattle.grid_range.specs.declared.axis.Axis.{Axis}
 use Rattle.sheets_json.specs.declared.request.DimensionRange.{DimensionRange}
 use Rattle.sheets_json.specs.declared.request.Request.{Request}

@@ -1,3 +1,4 @@
+pub mod Faults
 pub mod Reading
 pub mod Members
 pub mod Shapes
@@ -5,10 +6,16 @@ pub mod Words
 pub mod ValueRanges
 pub mod Bodies
 pub mod Calls
+pub mod Written
+pub mod Spreadsheets
 pub mod Answers
 pub mod Refusals
 pub mod Scalars
 pub mod Sheets
+pub mod Masks
+pub mod SheetUpdates
+pub mod Areas
+pub mod Cells
 pub mod Dimensions
 pub mod Requests
 pub mod Creations

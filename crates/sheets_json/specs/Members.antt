@@ -1,5 +1,5 @@
 -- The members of a JSON object. A member that is null counts as absent.
-use Rattle.std.specs.Prelude.{ℕ, Bool, true, false, ◌&&◌, List, if◌then◌else◌, Option, None, Some, option_and_then, Ok, Err, ⊤}
+use Rattle.std.specs.Prelude.{ℕ, Bool, true, false, ◌&&◌, List, if◌then◌else◌, Option, None, Some, option_and_then, option_map, Ok, Err, ⊤}
 use Rattle.std.specs.Str.{bytes_eq}
 use Rattle.serde_json.specs.Data.{Data, null, boolean, number, string, array, object, Members, no_members, member}
 use Rattle.serde_json.specs.Find.{get_member}
@@ -50,6 +50,38 @@ optional name shape members = record { read = if_given shape (given name members
 -- a member that may not
 abbrev pub required : {A : Type 0} → List ℕ → Shape A → Fields A
 required name shape members = record { read = demanded shape (given name members); left = without name members }
+
+-- what is read of one of several members, if it is given
+pub record Found (A : Type 0) : Type 0 where
+  pub found : Option (Reading A)
+  pub left : Members
+
+abbrev pub Ways : Type 0 → Type 0
+Ways A = Members → Found A
+
+-- a member as one way
+abbrev pub way : {A : Type 0} → List ℕ → Shape A → Ways A
+way name shape members = record { found = option_map shape (given name members); left = without name members }
+
+-- two that are both given have a bad shape, whatever they say
+abbrev pub either : {A : Type 0} → Option (Reading A) → Option (Reading A) → Option (Reading A)
+either None other = other
+either (Some reading) None = Some reading
+either (Some reading) (Some other) = Some (Err BadShape)
+
+abbrev pub or_else : {A : Type 0} → Ways A → Ways A → Ways A
+or_else one other members = record {
+  found = either (one members).found (other (one members).left).found;
+  left = (other (one members).left).left;
+}
+
+abbrev pub sole : {A : Type 0} → Option (Reading A) → Reading A
+sole None = Err BadShape
+sole (Some reading) = reading
+
+-- just one of the members
+abbrev pub just_one : {A : Type 0} → Ways A → Fields A
+just_one ways members = record { read = sole (ways members).found; left = (ways members).left }
 
 -- one after the other
 abbrev pub also : {A B : Type 0} → Fields A → Fields B → Fields (A × B)

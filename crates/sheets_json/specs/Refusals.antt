@@ -2,7 +2,7 @@
 use Rattle.std.specs.Prelude.{ℕ, List, [], ◌∷◌, codes, ◌==◌, if◌then◌else◌, IsTrue}
 use Rattle.std.specs.List.{list_any}
 use Rattle.serde_json.specs.Data.{Data, object, no_members, put}
-use Rattle.sheets_json.specs.Answers.{text_data, count_data}
+use Rattle.sheets_json.specs.Written.{text_data, count_data}
 
 -- a status of a refusal
 abbrev pub IsRefusal : ℕ → Type 0

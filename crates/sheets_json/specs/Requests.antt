@@ -16,6 +16,8 @@ use Rattle.sheets_json.specs.Members.{Fields, is_null, are_null, required, optio
 use Rattle.sheets_json.specs.Shapes.{list_of, only_false}
 use Rattle.sheets_json.specs.Bodies.{beside}
 use Rattle.sheets_json.specs.Sheets.{add_sheet, delete_sheet}
+use Rattle.sheets_json.specs.SheetUpdates.{update_sheet_properties}
+use Rattle.sheets_json.specs.Cells.{update_cells, append_cells}
 use Rattle.sheets_json.specs.Dimensions.{insert_dimension, delete_dimension, append_dimension, move_dimension}
 
 -- ---- kinds
@@ -24,6 +26,9 @@ abbrev pub kind_named : List ℕ → Option RequestKind
 kind_named name =
     if bytes_eq name (codes "addSheet") then Some kind.AddSheet
     else if bytes_eq name (codes "deleteSheet") then Some kind.DeleteSheet
+    else if bytes_eq name (codes "updateSheetProperties") then Some kind.UpdateSheetProperties
+    else if bytes_eq name (codes "updateCells") then Some kind.UpdateCells
+    else if bytes_eq name (codes "appendCells") then Some kind.AppendCells
     else if bytes_eq name (codes "insertDimension") then Some kind.InsertDimension
     else if bytes_eq name (codes "deleteDimension") then Some kind.DeleteDimension
     else if bytes_eq name (codes "appendDimension") then Some kind.AppendDimension
@@ -33,6 +38,9 @@ kind_named name =
 abbrev pub of_kind : RequestKind → Shape Request
 of_kind kind.AddSheet = object_of add_sheet
 of_kind kind.DeleteSheet = object_of delete_sheet
+of_kind kind.UpdateSheetProperties = object_of update_sheet_properties
+of_kind kind.UpdateCells = object_of update_cells
+of_kind kind.AppendCells = object_of append_cells
 of_kind kind.InsertDimension = object_of insert_dimension
 of_kind kind.DeleteDimension = object_of delete_dimension
 of_kind kind.AppendDimension = object_of append_dimension

@@ -1,8 +1,10 @@
 -- Shapes of single JSON values, and of lists.
-use Rattle.std.specs.Prelude.{ℕ, List, [], ◌∷◌, true, false, ⊤, Option, option_and_then, Result, Ok, Err}
-use Rattle.serde_json.specs.Data.{null, boolean, number, string, array, object, Items, no_items, item}
-use Rattle.serde_json.specs.Find.{as_str}
+use Rattle.std.specs.Prelude.{ℕ, Bool, List, [], ◌∷◌, true, false, ⊤, if◌then◌else◌, Option, option_map, option_and_then, unwrap_or, Result, Ok, Err}
+use Rattle.std.specs.Option.{is_some}
+use Rattle.serde_json.specs.Data.{Data, null, boolean, number, string, array, object, Items, no_items, item}
+use Rattle.serde_json.specs.Find.{as_bool, as_number, as_str}
 use Rattle.cell_value.specs.Entered.{entered_input}
+use Rattle.cell_value.specs.Typed.{is_formula}
 use Rattle.cell_value.specs.declared.entered.Mode.{Mode}
 use Rattle.cell_value.specs.declared.entered.Input.{Input}
 use Rattle.cell_value.specs.declared.entered.Bad.{Bad}
@@ -32,6 +34,23 @@ enterable (Err why) = Err (fault_of why)
 -- a value that is entered
 abbrev pub entered : Mode → Shape Input
 entered mode value = enterable (entered_input mode value)
+
+-- a value of such a form of which that holds
+abbrev pub such_that : {A : Type 0} → (Data → Bool) → Shape A → Shape A
+such_that holds shape value = if holds value then shape value else Err BadShape
+
+abbrev pub is_number : Data → Bool
+is_number value = is_some (as_number value)
+
+abbrev pub is_text : Data → Bool
+is_text value = is_some (as_str value)
+
+abbrev pub is_truth : Data → Bool
+is_truth value = is_some (as_bool value)
+
+-- a text that begins with = and has more
+abbrev pub is_formula_text : Data → Bool
+is_formula_text value = unwrap_or (option_map is_formula (as_str value)) false
 
 -- false, and nothing else
 abbrev pub only_false : Shape ⊤

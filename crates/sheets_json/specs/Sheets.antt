@@ -1,5 +1,5 @@
 -- SheetProperties (Google Sheets API v4 reference), and the requests for sheets.
-use Rattle.std.specs.Prelude.{ℕ, Bool, List, codes, Option, None, Some, option_and_then, if◌then◌else◌, ⊤}
+use Rattle.std.specs.Prelude.{ℕ, Bool, List, codes, Option, None, Some, if◌then◌else◌, ⊤}
 use Rattle.std.specs.Str.{bytes_eq}
 use Rattle.cell_value.specs.declared.cell.SheetProperties.{SheetProperties}
 use Rattle.sheets_json.specs.declared.request.Request.{Request}

@@ -1,3 +1,4 @@
+use crate::{Reply, Spreadsheet};
 use cell_value::{Cell, Items, Text};
 use grid_range::Axis;
 
@@ -27,9 +28,20 @@ pub struct Update {
     pub updated_rows: u64,
 }
 
-/// What a call is answered (Google Sheets API v4 reference, spreadsheets.values).
+/// What a call is answered (Google Sheets API v4 reference, spreadsheets and spreadsheets.values).
 #[derive(Debug, Drop)]
 pub enum Answer {
+    /// Spreadsheet
+    Create(Spreadsheet),
+    /// Spreadsheet
+    Get(Spreadsheet),
+    /// BatchUpdateSpreadsheetResponse
+    Batch {
+        /// What is replied to each request, in order.
+        replies: Items<Reply>,
+        /// The spreadsheet's id.
+        spreadsheet_id: Text,
+    },
     /// ValueRange
     Read(ShownRange),
     /// UpdateValuesResponse

@@ -6,6 +6,7 @@ ghost use Rattle.sheets_json.specs.Members.{are_null};
 ghost use Rattle.sheets_json.specs.Requests.{of_kind, of_no_kind, by_kind, sole_named, sole_given, of_sole, request, step_of, step_shape, of_batch_response, batch};
 
 use crate::bodies::beside;
+use crate::cells::{AppendCellsMembers, UpdateCellsMembers};
 use crate::dimension::{
     AppendDimensionMembers, DeleteDimensionMembers, InsertDimensionMembers, MoveDimensionMembers,
 };
@@ -15,6 +16,7 @@ use crate::list::ListOf;
 use crate::members::{ObjectOf, are_null, is_null, optional, required};
 use crate::shape::{Fields, Shape};
 use crate::sheet::{AddSheetMembers, DeleteSheetMembers};
+use crate::sheet_update::UpdateSheetPropertiesMembers;
 use crate::single::OnlyFalse;
 use crate::{Request, ShapeFault, Step};
 use cell_value::{Items, NoMemory};
@@ -125,6 +127,11 @@ fn read_kind(alloc: Global, kind: RequestKind, value: Json) -> Result<Read<Reque
     match kind {
         RequestKind::AddSheet => ObjectOf(AddSheetMembers).read(alloc, value),
         RequestKind::DeleteSheet => ObjectOf(DeleteSheetMembers).read(alloc, value),
+        RequestKind::UpdateSheetProperties => {
+            ObjectOf(UpdateSheetPropertiesMembers).read(alloc, value)
+        }
+        RequestKind::UpdateCells => ObjectOf(UpdateCellsMembers).read(alloc, value),
+        RequestKind::AppendCells => ObjectOf(AppendCellsMembers).read(alloc, value),
         RequestKind::InsertDimension => ObjectOf(InsertDimensionMembers).read(alloc, value),
         RequestKind::DeleteDimension => ObjectOf(DeleteDimensionMembers).read(alloc, value),
         RequestKind::AppendDimension => ObjectOf(AppendDimensionMembers).read(alloc, value),

@@ -135,7 +135,7 @@ pub enum InsertData {
     InsertRows,
 }
 
-/// Why a request isn't a call.
+/// Why a request isn't a call; what is printed of a fault is the message of the refusal.
 #[derive(Clone, Copy, Debug, PartialEq, Eq)]
 pub enum CallFault {
     /// The body isn't a JSON object with just the members that the call has, or one is there that
@@ -150,12 +150,17 @@ pub enum CallFault {
 }
 
 impl fmt::Display for CallFault {
+    ghost use Rattle.std.specs.Prelude.{Some};
+    ghost use Rattle.sheets_json.specs.Faults.{call_fault_text};
+
+    ghost output = { λ fault. Some (call_fault_text fault) };
+
     fn fmt<W: fmt::Write>(&self, f: &mut fmt::Formatter<W>) -> fmt::Result {
         f.write_str(match self {
-            CallFault::BadBody => "the body isn't that of the call",
-            CallFault::EmptyBatch => "the call names nothing to be done",
-            CallFault::NotRead => "the body of such a call isn't read here",
-            CallFault::NoMemory => "no memory",
+            CallFault::BadBody => "BadBody",
+            CallFault::EmptyBatch => "EmptyBatch",
+            CallFault::NotRead => "NotRead",
+            CallFault::NoMemory => "NoMemory",
         })
     }
 }

@@ -4,7 +4,8 @@ ghost use Rattle.sheets_json.specs.Reading.{first_of, both, or_bad_shape};
 use std::error::Error;
 use std::fmt;
 
-/// Why a JSON value isn't what a request asks for. The first of them that a value has is told.
+/// Why a JSON value isn't what a request asks for. The first of them that a value has is told; what is
+/// printed of one is the message of the refusal.
 #[derive(Clone, Copy, Debug, PartialEq, Eq)]
 pub enum ShapeFault {
     /// A member that is required is missing, or a value has a wrong type or form.
@@ -18,12 +19,17 @@ pub enum ShapeFault {
 }
 
 impl fmt::Display for ShapeFault {
+    ghost use Rattle.std.specs.Prelude.{Some};
+    ghost use Rattle.sheets_json.specs.Faults.{shape_fault_text};
+
+    ghost output = { λ fault. Some (shape_fault_text fault) };
+
     fn fmt<W: fmt::Write>(&self, f: &mut fmt::Formatter<W>) -> fmt::Result {
         f.write_str(match self {
-            ShapeFault::BadShape => "a value is missing, or has a wrong type or form",
-            ShapeFault::Unsupported => "a member isn't known",
-            ShapeFault::BadNumber => "a number isn't whole within 2^53 either way",
-            ShapeFault::TextLong => "a text has more than 50,000 bytes",
+            ShapeFault::BadShape => "BadShape",
+            ShapeFault::Unsupported => "Unsupported",
+            ShapeFault::BadNumber => "BadNumber",
+            ShapeFault::TextLong => "TextLong",
         })
     }
 }

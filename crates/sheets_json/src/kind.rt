@@ -6,6 +6,9 @@ ghost use Rattle.sheets_json.specs.Requests.{kind_named};
 pub(crate) enum RequestKind {
     AddSheet,
     DeleteSheet,
+    UpdateSheetProperties,
+    UpdateCells,
+    AppendCells,
     InsertDimension,
     DeleteDimension,
     AppendDimension,
@@ -19,6 +22,9 @@ pub(crate) fn kind_named(name: &str) -> Option<RequestKind>
     match name {
         "addSheet" => Some(RequestKind::AddSheet),
         "deleteSheet" => Some(RequestKind::DeleteSheet),
+        "updateSheetProperties" => Some(RequestKind::UpdateSheetProperties),
+        "updateCells" => Some(RequestKind::UpdateCells),
+        "appendCells" => Some(RequestKind::AppendCells),
         "insertDimension" => Some(RequestKind::InsertDimension),
         "deleteDimension" => Some(RequestKind::DeleteDimension),
         "appendDimension" => Some(RequestKind::AppendDimension),

@@ -95,7 +95,7 @@ fn unless_null(value: Json) -> Option<Json>
 }
 
 /// Takes a member out, which is absent where it is null.
-fn take_given(members: &mut Map<String, Json>, name: &str) -> Option<Json>
+pub(crate) fn take_given(members: &mut Map<String, Json>, name: &str) -> Option<Json>
     ensures value { option_map view result ≡ given name.now (members_view members.old.entries) }
     ensures left { members_view members.new.entries ≡ without name.now (members_view members.old.entries) }
 {
@@ -145,7 +145,18 @@ pub(crate) fn required<S: Shape>(
     ensures left { OnOk result (members_view members.new.entries
         ≡ (required name.now (S.shape shape.now) (members_view members.old.entries)).left) }
 {
-    match take_given(members, name) {
+    demanded(alloc, take_given(members, name), shape)
+}
+
+/// Reads a value that has to be there.
+pub(crate) fn demanded<S: Shape>(
+    alloc: Global,
+    value: Option<Json>,
+    shape: &S,
+) -> Result<Read<S::Output>, NoMemory>
+    ensures { IfOk result (λ read. read ≡ demanded (S.shape shape.now) (option_map view value)) }
+{
+    match value {
         Some(value) => shape.read(alloc, value),
         None => Ok(Err(ShapeFault::BadShape)),
     }

@@ -1,6 +1,6 @@
 use crate::ShapeFault;
-use cell_value::SheetProperties;
-use grid_range::Axis;
+use cell_value::{Block, SheetProperties};
+use grid_range::{Area, Axis};
 
 /// A change that a batch asks for (Google Sheets API v4 reference, Request).
 #[derive(Debug, Drop)]
@@ -14,6 +14,28 @@ pub enum Request {
     DeleteSheet {
         /// The sheet's id.
         sheet_id: u32,
+    },
+    /// UpdateSheetPropertiesRequest
+    UpdateSheetProperties {
+        /// The sheet's id, 0 where none was given.
+        sheet_id: u32,
+        /// What is changed: the title, the mark and the numbers of lines that the mask takes of the
+        /// properties; there is no id and no index.
+        properties: SheetProperties,
+    },
+    /// UpdateCellsRequest
+    UpdateCells {
+        /// The rows, none where none were given; what has no value is emptied.
+        rows: Block,
+        /// Where they are written.
+        area: UpdatedArea,
+    },
+    /// AppendCellsRequest
+    AppendCells {
+        /// The sheet's id, 0 where none was given.
+        sheet_id: u32,
+        /// The rows; what has no value is emptied.
+        rows: Block,
     },
     /// InsertDimensionRequest
     InsertDimension {
@@ -43,6 +65,26 @@ pub enum Request {
         /// The line before which they are moved, counted before they are taken away.
         destination_index: u32,
     },
+}
+
+/// Where the rows of an update are written (Sheets API v4 reference, UpdateCellsRequest).
+#[derive(Clone, Copy, Debug)]
+pub enum UpdatedArea {
+    /// From a cell on, as far as they reach.
+    Start(GridCoordinate),
+    /// To the cells of an area, of which those are emptied that they don't reach.
+    Range(Area),
+}
+
+/// A cell of a sheet (Sheets API v4 reference, GridCoordinate).
+#[derive(Clone, Copy, Debug)]
+pub struct GridCoordinate {
+    /// The sheet's id, 0 where none was given.
+    pub sheet_id: u32,
+    /// The row, from 0; 0 where none was given.
+    pub row_index: u32,
+    /// The column, from 0; 0 where none was given.
+    pub column_index: u32,
 }
 
 /// Some rows or columns of a sheet (Sheets API v4 reference, DimensionRange).

@@ -123,7 +123,7 @@ fn some_of<T>(read: Read<T>) -> Read<Option<T>>
 }
 
 /// The values, which are rows unless the dimension says otherwise.
-fn block_of(alloc: Global, dimension: Option<Axis>, values: Lines) -> Block
+pub(crate) fn block_of(alloc: Global, dimension: Option<Axis>, values: Lines) -> Block
     ensures { result ≡ block_of dimension values }
 {
     Block {

@@ -2,9 +2,11 @@ ghost use Rattle.std.specs.Prelude.{◌≡◌, false, map, IfOk};
 ghost use Rattle.serde_json.specs.Data.{put};
 ghost use Rattle.serde_json.specs.View.{view, members_view};
 ghost use Rattle.serde_json.specs.Written.{compact_text, has_float};
-ghost use Rattle.sheets_json.specs.Answers.{text_data, count_data, list_data, dimension_data, cell_data, range_data, update_data, append_data, clear_data, read_many_data, write_many_data, clear_many_data, put_given, answer_data};
+ghost use Rattle.sheets_json.specs.Written.{text_data, count_data, list_data, put_given};
+ghost use Rattle.sheets_json.specs.Answers.{dimension_data, cell_data, range_data, update_data, append_data, clear_data, read_many_data, write_many_data, clear_many_data, answer_data};
 ghost use Rattle.sheets_json.specs.Refusals.{IsRefusal, status_name, error_data, refusal_data};
 
+use crate::showing::batch_json;
 use crate::{Answer, ShownRange, Update};
 use cell_value::{Bytes, Cell, Items, NoMemory, Text};
 use grid_range::Axis;
@@ -31,10 +33,18 @@ impl Written for Text {
 }
 
 /// A text.
-fn text_json(alloc: Global, text: &str) -> Result<Json, NoMemory>
+pub(crate) fn text_json(alloc: Global, text: &str) -> Result<Json, NoMemory>
     ensures { IfOk result (λ json. view json ≡ text_data text.now) }
 {
     Ok(Json::String(String::from_str(alloc, text)?))
+}
+
+impl Written for u32 {
+    ghost json_data = { count_data };
+
+    fn to_json(&self, _alloc: Global) -> Result<Json, NoMemory> {
+        Ok(Json::from(*self))
+    }
 }
 
 impl Written for u64 {
@@ -89,7 +99,7 @@ fn each_json<T: Written>(alloc: Global, items: &[T]) -> Result<Vec<Json>, NoMemo
 }
 
 /// The members of an object, with one more.
-fn with<T: Written>(
+pub(crate) fn with<T: Written>(
     alloc: Global,
     mut members: Map<String, Json>,
     name: &str,
@@ -103,7 +113,7 @@ fn with<T: Written>(
 }
 
 /// The members of an object, with one more, if it is given.
-fn with_given<T: Written>(
+pub(crate) fn with_given<T: Written>(
     alloc: Global,
     members: Map<String, Json>,
     name: &str,
@@ -217,6 +227,12 @@ impl Written for Answer {
 
     fn to_json(&self, alloc: Global) -> Result<Json, NoMemory> {
         match self {
+            Answer::Create(spreadsheet) => spreadsheet.to_json(alloc),
+            Answer::Get(spreadsheet) => spreadsheet.to_json(alloc),
+            Answer::Batch {
+                replies,
+                spreadsheet_id,
+            } => batch_json(alloc, replies, spreadsheet_id),
             Answer::Read(shown) => shown.to_json(alloc),
             Answer::Write(update) => update.to_json(alloc),
             Answer::Append {

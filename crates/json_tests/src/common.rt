@@ -1,0 +1,73 @@
+use cell_value::Text;
+use sheets_json::{Answer, answer_text};
+use std::alloc::Global;
+use std::fmt::Debug;
+use std::process::Abort;
+
+/// Stops where it doesn't hold of the row.
+pub(crate) fn check<T: Debug>(rt: &impl Abort, row: &T, holds: bool) {
+    assert!(rt; holds, "{row:?}");
+}
+
+/// Words with spaces between, or less of them where memory runs out.
+#[derive(Drop)]
+pub(crate) struct Line {
+    alloc: Global,
+    text: String,
+}
+
+impl Line {
+    /// A line with no word yet.
+    pub(crate) fn new(alloc: Global) -> Line {
+        Line {
+            alloc,
+            text: String::new(alloc),
+        }
+    }
+
+    /// The line so far.
+    pub(crate) fn as_str(&self) -> &str {
+        self.text.as_str()
+    }
+
+    /// One word more.
+    pub(crate) fn word(&mut self, word: &str) {
+        if !self.text.is_empty() {
+            let _ = self.text.push_str(" ");
+        }
+        let _ = self.text.push_str(word);
+    }
+
+    /// One more, as the value prints for those who look for faults.
+    pub(crate) fn value<T: Debug>(&mut self, value: &T) {
+        match format!(in self.alloc; "{value:?}") {
+            Ok(word) => self.word(word.as_str()),
+            Err(_) => self.word(""),
+        }
+    }
+}
+
+/// The parts one after the other, or less of them where memory runs out.
+pub(crate) fn joined(alloc: Global, front: &str, middle: &str, back: &str) -> String {
+    let mut text = String::new(alloc);
+    let _ = text.push_str(front);
+    let _ = text.push_str(middle);
+    let _ = text.push_str(back);
+    text
+}
+
+/// The text, or an empty one where memory runs out.
+pub(crate) fn text(alloc: Global, text: &str) -> Text {
+    Text::of(match String::from_str(alloc, text) {
+        Ok(text) => text,
+        Err(_) => String::new(alloc),
+    })
+}
+
+/// Whether an answer has that text.
+pub(crate) fn is_answer(alloc: Global, answer: &Answer, wanted: &str) -> bool {
+    match answer_text(alloc, answer) {
+        Ok(text) => text.as_slice() == wanted.as_bytes(),
+        Err(_) => false,
+    }
+}

@@ -1,0 +1,89 @@
+use crate::common::{check, is_answer, text};
+use cell_value::Items;
+use grid_range::{Area, Band};
+use sheets_json::{Answer, Reply, ShownProperties, ShownSheet, Spreadsheet};
+use std::alloc::Global;
+
+/// What is shown of a sheet of 1,000 rows and 26 columns.
+fn properties(alloc: Global, id: u32, title: &str, hidden: bool) -> ShownProperties {
+    ShownProperties {
+        column_count: 26,
+        row_count: 1_000,
+        hidden,
+        index: id,
+        sheet_id: id,
+        title: text(alloc, title),
+    }
+}
+
+/// The spreadsheet `book2` with these sheets.
+fn spreadsheet(alloc: Global, sheets: Vec<ShownSheet>) -> Spreadsheet {
+    Spreadsheet {
+        title: text(alloc, "Untitled spreadsheet"),
+        sheets: Items::of(sheets),
+        spreadsheet_id: text(alloc, "book2"),
+    }
+}
+
+/// Areas of each form.
+fn areas(alloc: Global) -> Items<Area> {
+    let mut areas = Vec::new(alloc);
+    let bands = [
+        (Band::Span(0, 3), Band::Span(1, 2)),
+        (Band::Whole, Band::From(4)),
+        (Band::From(5), Band::Whole),
+    ];
+    for (rows, cols) in bands {
+        let _ = areas.push(Area {
+            sheet: 1,
+            rows,
+            cols,
+        });
+    }
+    Items::of(areas)
+}
+
+#[test]
+fn new_spreadsheets_are_answered(rt: HostRuntime) {
+    let alloc = rt.alloc();
+    let mut sheets = Vec::new(alloc);
+    let _ = sheets.push(ShownSheet {
+        merges: None,
+        properties: properties(alloc, 0, "Sheet1", false),
+    });
+    let created = Answer::Create(spreadsheet(alloc, sheets));
+    let wanted =
+        "{\"properties\":{\"title\":\"Untitled spreadsheet\"},\"sheets\":[{\"properties\":{\"gridProperties\":{\"columnCount\":26,\"rowCount\":1000},\"index\":0,\"sheetId\":0,\"sheetType\":\"GRID\",\"title\":\"Sheet1\"}}],\"spreadsheetId\":\"book2\"}";
+    check(&rt, &wanted, is_answer(alloc, &created, wanted));
+}
+
+#[test]
+fn spreadsheets_are_shown(rt: HostRuntime) {
+    let alloc = rt.alloc();
+    let mut sheets = Vec::new(alloc);
+    let _ = sheets.push(ShownSheet {
+        merges: Some(areas(alloc)),
+        properties: properties(alloc, 1, "x", true),
+    });
+    let shown = Answer::Get(spreadsheet(alloc, sheets));
+    let wanted =
+        "{\"properties\":{\"title\":\"Untitled spreadsheet\"},\"sheets\":[{\"merges\":[{\"endColumnIndex\":2,\"endRowIndex\":3,\"sheetId\":1,\"startColumnIndex\":1,\"startRowIndex\":0},{\"sheetId\":1,\"startColumnIndex\":4},{\"sheetId\":1,\"startRowIndex\":5}],\"properties\":{\"gridProperties\":{\"columnCount\":26,\"rowCount\":1000},\"hidden\":true,\"index\":1,\"sheetId\":1,\"sheetType\":\"GRID\",\"title\":\"x\"}}],\"spreadsheetId\":\"book2\"}";
+    check(&rt, &wanted, is_answer(alloc, &shown, wanted));
+}
+
+#[test]
+fn batches_are_answered(rt: HostRuntime) {
+    let alloc = rt.alloc();
+    let mut replies = Vec::new(alloc);
+    let _ = replies.push(Reply::Empty);
+    let _ = replies.push(Reply::AddSheet {
+        properties: properties(alloc, 1, "New", false),
+    });
+    let answer = Answer::Batch {
+        replies: Items::of(replies),
+        spreadsheet_id: text(alloc, "book1"),
+    };
+    let wanted =
+        "{\"replies\":[{},{\"addSheet\":{\"properties\":{\"gridProperties\":{\"columnCount\":26,\"rowCount\":1000},\"index\":1,\"sheetId\":1,\"sheetType\":\"GRID\",\"title\":\"New\"}}}],\"spreadsheetId\":\"book1\"}";
+    check(&rt, &wanted, is_answer(alloc, &answer, wanted));
+}

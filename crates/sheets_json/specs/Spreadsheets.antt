@@ -1,0 +1,88 @@
+-- Spreadsheets as JSON values (Google Sheets API v4 reference, Spreadsheet, Sheet, SheetProperties and GridRange),
+-- and the responses of spreadsheets.batchUpdate. Members are put into an object in the order of their names.
+use Rattle.std.specs.Prelude.{ℕ, List, codes, Option, None, Some}
+use Rattle.serde_json.specs.Data.{Data, object, Members, no_members, put}
+use Rattle.grid_range.specs.declared.band.Band.{Band}
+use Rattle.grid_range.specs.declared.band.Band.TheVariants.{Whole, From, Span}
+use Rattle.grid_range.specs.declared.area.Area.{Area}
+use Rattle.sheets_json.specs.declared.spreadsheet.ShownProperties.{ShownProperties}
+use Rattle.sheets_json.specs.declared.spreadsheet.ShownSheet.{ShownSheet}
+use Rattle.sheets_json.specs.declared.spreadsheet.Spreadsheet.{Spreadsheet}
+use Rattle.sheets_json.specs.declared.spreadsheet.Reply.{Reply}
+use Rattle.sheets_json.specs.declared.spreadsheet.Reply.TheVariants as reply
+use Rattle.sheets_json.specs.Written.{text_data, count_data, list_data, put_given, put_true}
+
+-- ---- ranges
+
+-- the first line, unless it is all of them
+abbrev pub start_of : Band → Option ℕ
+start_of Whole = None
+start_of (From start) = Some start
+start_of (Span start end) = Some start
+
+-- the line behind the last, where it ends before the sheet does
+abbrev pub end_of : Band → Option ℕ
+end_of Whole = None
+end_of (From start) = None
+end_of (Span start end) = Some end
+
+abbrev pub area_data : Area → Data
+area_data area = object (
+    put_given (codes "endColumnIndex") count_data (end_of area.cols) (
+    put_given (codes "endRowIndex") count_data (end_of area.rows) (
+    put (codes "sheetId") (count_data area.sheet) (
+    put_given (codes "startColumnIndex") count_data (start_of area.cols) (
+    put_given (codes "startRowIndex") count_data (start_of area.rows) no_members)))))
+
+-- ---- sheets
+
+abbrev pub grid_properties_data : ShownProperties → Data
+grid_properties_data properties = object (
+    put (codes "columnCount") (count_data properties.column_count) (
+    put (codes "rowCount") (count_data properties.row_count) no_members))
+
+-- which sheet it is, and where
+abbrev pub place_members : ShownProperties → Members
+place_members properties =
+    put (codes "index") (count_data properties.index) (
+    put (codes "sheetId") (count_data properties.sheet_id) (
+    put (codes "sheetType") (text_data (codes "GRID")) (
+    put (codes "title") (text_data properties.title) no_members)))
+
+-- it is said that a sheet is hidden, and not that it isn't
+abbrev pub properties_data : ShownProperties → Data
+properties_data properties = object (
+    put (codes "gridProperties") (grid_properties_data properties) (
+    put_true (codes "hidden") properties.hidden (place_members properties)))
+
+abbrev pub sheet_data : ShownSheet → Data
+sheet_data sheet = object (
+    put_given (codes "merges") (list_data area_data) sheet.merges (
+    put (codes "properties") (properties_data sheet.properties) no_members))
+
+-- ---- spreadsheets
+
+abbrev pub title_data : List ℕ → Data
+title_data title = object (put (codes "title") (text_data title) no_members)
+
+abbrev pub spreadsheet_data : Spreadsheet → Data
+spreadsheet_data spreadsheet = object (
+    put (codes "properties") (title_data spreadsheet.title) (
+    put (codes "sheets") (list_data sheet_data spreadsheet.sheets) (
+    put (codes "spreadsheetId") (text_data spreadsheet.spreadsheet_id) no_members)))
+
+-- ---- replies
+
+-- a kind's member with what is replied to it
+abbrev pub reply_object : List ℕ → List ℕ → Data → Data
+reply_object kind name value = object (put kind (object (put name value no_members)) no_members)
+
+abbrev pub reply_data : Reply → Data
+reply_data reply.Empty = object no_members
+reply_data (reply.AddSheet properties) =
+    reply_object (codes "addSheet") (codes "properties") (properties_data properties)
+
+abbrev pub batch_data : List Reply → List ℕ → Data
+batch_data replies id = object (
+    put (codes "replies") (list_data reply_data replies) (
+    put (codes "spreadsheetId") (text_data id) no_members))

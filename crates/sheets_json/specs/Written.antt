@@ -1,0 +1,22 @@
+-- Texts, counts, lists and members as JSON values.
+use Rattle.std.specs.Prelude.{ℕ, Bool, true, List, map, if◌then◌else◌, Option, None, Some}
+use Rattle.serde_json.specs.Data.{Data, unsigned, boolean, number, string, array, Members, put}
+use Rattle.serde_json.specs.View.{items_of}
+
+abbrev pub text_data : List ℕ → Data
+text_data text = string text
+
+abbrev pub count_data : ℕ → Data
+count_data count = number (unsigned count)
+
+abbrev pub list_data : {A : Type 0} → (A → Data) → List A → Data
+list_data meaning items = array (items_of (map meaning items))
+
+-- a member that may be absent
+abbrev pub put_given : {A : Type 0} → List ℕ → (A → Data) → Option A → Members → Members
+put_given name meaning None members = members
+put_given name meaning (Some value) members = put name (meaning value) members
+
+-- a member that is absent where it is false
+abbrev pub put_true : List ℕ → Bool → Members → Members
+put_true name holds members = if holds then put name (boolean true) members else members

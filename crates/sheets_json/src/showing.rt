@@ -1,0 +1,178 @@
+ghost use Rattle.std.specs.Prelude.{◌≡◌, IfOk};
+ghost use Rattle.serde_json.specs.Data.{put};
+ghost use Rattle.serde_json.specs.View.{view, members_view};
+ghost use Rattle.sheets_json.specs.Written.{put_true};
+ghost use Rattle.sheets_json.specs.Spreadsheets.{start_of, end_of, area_data, grid_properties_data, place_members, properties_data, sheet_data, title_data, spreadsheet_data, reply_object, reply_data, batch_data};
+
+use crate::writing::{Written, text_json, with, with_given};
+use crate::{Reply, ShownProperties, ShownSheet, Spreadsheet};
+use cell_value::{Items, NoMemory, Text};
+use grid_range::{Area, Band};
+use serde_json::{Map, Value as Json, put};
+use std::alloc::Global;
+
+/// The first line, unless it is all of them.
+fn start_of(band: Band) -> Option<u32>
+    ensures { result ≡ start_of band }
+{
+    match band {
+        Band::Whole => None,
+        Band::From(start) => Some(start),
+        Band::Span(start, _) => Some(start),
+    }
+}
+
+/// The line behind the last, where it ends before the sheet does.
+fn end_of(band: Band) -> Option<u32>
+    ensures { result ≡ end_of band }
+{
+    match band {
+        Band::Whole => None,
+        Band::From(_) => None,
+        Band::Span(_, end) => Some(end),
+    }
+}
+
+impl Written for Area {
+    ghost json_data = { area_data };
+
+    fn to_json(&self, alloc: Global) -> Result<Json, NoMemory> {
+        let members = Map::new(alloc);
+        let members = with_given(alloc, members, "startRowIndex", &start_of(self.rows))?;
+        let members = with_given(alloc, members, "startColumnIndex", &start_of(self.cols))?;
+        let members = with(alloc, members, "sheetId", &self.sheet)?;
+        let members = with_given(alloc, members, "endRowIndex", &end_of(self.rows))?;
+        let members = with_given(alloc, members, "endColumnIndex", &end_of(self.cols))?;
+        Ok(Json::Object(members))
+    }
+}
+
+/// GridProperties
+fn grid_properties_json(alloc: Global, properties: &ShownProperties) -> Result<Json, NoMemory>
+    ensures { IfOk result (λ json. view json ≡ grid_properties_data properties.now) }
+{
+    let members = with(alloc, Map::new(alloc), "rowCount", &properties.row_count)?;
+    let members = with(alloc, members, "columnCount", &properties.column_count)?;
+    Ok(Json::Object(members))
+}
+
+/// The members of an object, with one more, which is absent where it is false.
+fn with_true(
+    alloc: Global,
+    mut members: Map<String, Json>,
+    name: &str,
+    holds: bool,
+) -> Result<Map<String, Json>, NoMemory>
+    ensures { IfOk result (λ more. members_view more.entries
+        ≡ put_true name.now holds (members_view members.entries)) }
+{
+    if holds {
+        put(&mut members, alloc, name, Json::Bool(true))?;
+        Ok(members)
+    } else {
+        Ok(members)
+    }
+}
+
+/// The members of an object, with one more.
+fn with_json(
+    alloc: Global,
+    mut members: Map<String, Json>,
+    name: &str,
+    value: Json,
+) -> Result<Map<String, Json>, NoMemory>
+    ensures { IfOk result (λ more. members_view more.entries
+        ≡ put name.now (view value) (members_view members.entries)) }
+{
+    put(&mut members, alloc, name, value)?;
+    Ok(members)
+}
+
+/// The SheetProperties that say which sheet it is, and where.
+fn place_members(alloc: Global, properties: &ShownProperties) -> Result<Map<String, Json>, NoMemory>
+    ensures { IfOk result (λ members. members_view members.entries ≡ place_members properties.now) }
+{
+    let members = with(alloc, Map::new(alloc), "title", &properties.title)?;
+    let members = with_json(alloc, members, "sheetType", text_json(alloc, "GRID")?)?;
+    let members = with(alloc, members, "sheetId", &properties.sheet_id)?;
+    with(alloc, members, "index", &properties.index)
+}
+
+impl Written for ShownProperties {
+    ghost json_data = { properties_data };
+
+    fn to_json(&self, alloc: Global) -> Result<Json, NoMemory> {
+        let members = place_members(alloc, self)?;
+        let members = with_true(alloc, members, "hidden", self.hidden)?;
+        let grid = grid_properties_json(alloc, self)?;
+        let members = with_json(alloc, members, "gridProperties", grid)?;
+        Ok(Json::Object(members))
+    }
+}
+
+impl Written for ShownSheet {
+    ghost json_data = { sheet_data };
+
+    fn to_json(&self, alloc: Global) -> Result<Json, NoMemory> {
+        let members = with(alloc, Map::new(alloc), "properties", &self.properties)?;
+        let members = with_given(alloc, members, "merges", &self.merges)?;
+        Ok(Json::Object(members))
+    }
+}
+
+/// SpreadsheetProperties
+fn title_json(alloc: Global, title: &Text) -> Result<Json, NoMemory>
+    ensures { IfOk result (λ json. view json ≡ title_data title.now) }
+{
+    let members = with(alloc, Map::new(alloc), "title", title)?;
+    Ok(Json::Object(members))
+}
+
+impl Written for Spreadsheet {
+    ghost json_data = { spreadsheet_data };
+
+    fn to_json(&self, alloc: Global) -> Result<Json, NoMemory> {
+        let title = title_json(alloc, &self.title)?;
+        let members = with(
+            alloc,
+            Map::new(alloc),
+            "spreadsheetId",
+            &self.spreadsheet_id,
+        )?;
+        let members = with(alloc, members, "sheets", &self.sheets)?;
+        let members = with_json(alloc, members, "properties", title)?;
+        Ok(Json::Object(members))
+    }
+}
+
+/// A kind's member with what is replied to it.
+fn reply_object(alloc: Global, kind: &str, name: &str, value: Json) -> Result<Json, NoMemory>
+    ensures { IfOk result (λ json. view json ≡ reply_object kind.now name.now (view value)) }
+{
+    let said = with_json(alloc, Map::new(alloc), name, value)?;
+    let members = with_json(alloc, Map::new(alloc), kind, Json::Object(said))?;
+    Ok(Json::Object(members))
+}
+
+impl Written for Reply {
+    ghost json_data = { reply_data };
+
+    fn to_json(&self, alloc: Global) -> Result<Json, NoMemory> {
+        match self {
+            Reply::Empty => Ok(Json::Object(Map::new(alloc))),
+            Reply::AddSheet { properties } => {
+                let properties = properties.to_json(alloc)?;
+                reply_object(alloc, "addSheet", "properties", properties)
+            }
+        }
+    }
+}
+
+/// BatchUpdateSpreadsheetResponse
+pub(crate) fn batch_json(alloc: Global, replies: &Items<Reply>, id: &Text) -> Result<Json, NoMemory>
+    ensures { IfOk result (λ json. view json ≡ batch_data replies.now id.now) }
+{
+    let members = with(alloc, Map::new(alloc), "spreadsheetId", id)?;
+    let members = with(alloc, members, "replies", replies)?;
+    Ok(Json::Object(members))
+}

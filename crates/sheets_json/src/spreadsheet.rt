@@ -1,0 +1,51 @@
+use cell_value::{Items, Text};
+use grid_range::Area;
+
+/// A spreadsheet as it is shown (Google Sheets API v4 reference, Spreadsheet).
+#[derive(Debug, Drop)]
+pub struct Spreadsheet {
+    /// Its title.
+    pub title: Text,
+    /// Its sheets, in order.
+    pub sheets: Items<ShownSheet>,
+    /// Its id.
+    pub spreadsheet_id: Text,
+}
+
+/// A sheet as it is shown (Sheets API v4 reference, Sheet).
+#[derive(Debug, Drop)]
+pub struct ShownSheet {
+    /// The merged areas, by first row and then first column, if there are some.
+    pub merges: Option<Items<Area>>,
+    /// What is known of the sheet itself.
+    pub properties: ShownProperties,
+}
+
+/// What is shown of a sheet itself (Sheets API v4 reference, SheetProperties). All are grids.
+#[derive(Debug, Drop)]
+pub struct ShownProperties {
+    /// The number of columns.
+    pub column_count: u32,
+    /// The number of rows.
+    pub row_count: u32,
+    /// Whether it is hidden.
+    pub hidden: bool,
+    /// Its place among the sheets, from 0.
+    pub index: u32,
+    /// Its id.
+    pub sheet_id: u32,
+    /// Its title.
+    pub title: Text,
+}
+
+/// What is replied to a request of a batch (Google Sheets API v4 reference, Response).
+#[derive(Debug, Drop)]
+pub enum Reply {
+    /// Nothing.
+    Empty,
+    /// AddSheetResponse
+    AddSheet {
+        /// The new sheet.
+        properties: ShownProperties,
+    },
+}
