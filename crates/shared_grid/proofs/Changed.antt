@@ -31,7 +31,7 @@ pub goes_below : PlacesStayBelow → (change : Change) (count line place : ℕ) 
 goes_below below change count line place fits there goes =
     subst (λ o. IfSome o (λ p. p < count_after change count)) goes (below change count line fits there)
 
-chosen : (a b p : ℕ) → a < b → a ≡ p → option_map (λ (s : ℕ × ℕ). s.0) (cond (nat_lt a b) (Some (a, b)) None) ≡ Some p
+pub chosen : (a b p : ℕ) → a < b → a ≡ p → option_map (λ (s : ℕ × ℕ). s.0) (cond (nat_lt a b) (Some (a, b)) None) ≡ Some p
 chosen a b p less is = grind (arith, nat_tests)
 
 deleted_place : (start end count p : ℕ) → start < end → end ≤ count → p < count - (end - start)

@@ -5,3 +5,6 @@ pub mod Marks
 pub mod Placed
 pub mod Written
 pub mod Views
+pub mod Listed
+pub mod Cleared
+pub mod Moved

@@ -1,13 +1,18 @@
 -- How items by the numbers of their lines stand for a sheet. No public clause cites this module.
-use Rattle.std.specs.Prelude.{◌≡◌, ℕ, ◌+◌, ◌<◌, ◌≤◌, List, map, length}
+use Rattle.std.specs.Prelude.{◌≡◌, ◌≢◌, ℕ, ◌+◌, ◌^◌, ◌<◌, ◌≤◌, List, map, length, None, Contains}
 use Rattle.std.specs.Option.{IsSome}
-use Rattle.std.specs.Ordering.{nat_cmp}
+use Rattle.std.specs.Ordering.{nat_cmp, eq_by_cmp}
+use Rattle.std.specs.List.{IsDistinct}
 use Rattle.std.specs.FinMap as fin
-use Rattle.cell_store.specs.Table.{Table, most_lines}
+use Rattle.grid_range.specs.Area.{by_rows}
+use Rattle.grid_range.specs.declared.axis.Axis.{Axis}
+use Rattle.grid_range.specs.declared.change.Change.{Change}
+use Rattle.grid_range.specs.declared.change.Change.TheVariants.{Insert, Delete, Move}
+use Rattle.cell_store.specs.Table.{Table, item_at, most_lines}
 use Rattle.cell_store.specs.Entries.{table_of}
 use Rattle.shared_grid.specs.declared.order.Order.{Order}
 use Rattle.shared_grid.specs.Orders.{IsOrder, number_of, place_noted}
-use Rattle.shared_grid.specs.Cells.{key_of, line_in, across_in}
+use Rattle.shared_grid.specs.Cells.{key_of, line_in, across_in, number_on, HasFewer}
 use Rattle.shared_grid.specs.Grid.{NumberedTable}
 
 -- the place of the lines whose numbers are in the key
@@ -52,3 +57,23 @@ pub record IsSheet {T : Type 0} (rows columns : Order) (items : fin.FinMap nat_c
   pub columns_are : IsOrder columns
   pub lines : AreOnLines rows columns items
   pub size : rows.count + columns.count ≤ most_lines
+
+-- these are the filled places of the rows from `first` on below `end`, each once
+pub record AreOnRows {T : Type 0} (first end : ℕ) (table : Table T) (places : List (ℕ × ℕ)) : Type 0 where
+  pub distinct : IsDistinct (eq_by_cmp by_rows) places
+  pub only : (row col : ℕ) → Contains places (row, col) → (row < end) × IsSome (item_at table row col)
+  pub all : (row col : ℕ) → first ≤ row → row < end → IsSome (item_at table row col) → Contains places (row, col)
+
+-- the items on the lines of the axis from `first` on below `end` are gone, and no others
+pub record AreCleared {T : Type 0} (axis : Axis) (order : Order) (first end : ℕ) (before after : fin.FinMap nat_cmp T) : Type 0 where
+  pub fewer : HasFewer before after
+  pub gone : (line key : ℕ) → first ≤ line → line < end → key < 2 ^ 64 → number_on axis key ≡ number_of order line
+      → fin.get after key ≡ None
+  pub kept : (key : ℕ) → ((line : ℕ) → first ≤ line → line < end → number_on axis key ≢ number_of order line)
+      → fin.get after key ≡ fin.get before key
+
+-- the lines that the change deletes: the first, and the one past the last
+abbrev pub deleted : Change → ℕ × ℕ
+deleted (Insert at inserted) = (0, 0)
+deleted (Delete start end) = (start, end)
+deleted (Move start end to) = (0, 0)

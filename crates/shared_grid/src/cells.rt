@@ -1,9 +1,14 @@
-ghost use Rattle.std.specs.Prelude.{◌≡◌, IfOk, OnOk, OnErr, IfErr};
+ghost use Rattle.std.specs.Prelude.{◌≡◌, ◌≤◌, IfOk, OnOk, OnErr, IfErr};
 ghost use Rattle.std.specs.Option.{option_copied, IsSome};
 ghost use Rattle.std.specs.FinMap as map;
-ghost use Rattle.shared_grid.specs.Cells.{key_of};
+ghost use Rattle.grid_range.specs.declared.axis.Axis.TheVariants.{Rows, Columns};
+ghost use Rattle.shared_grid.specs.Cells.{across_in, key_of, AreKeysOnRow, IsCleared};
+ghost use Rattle.shared_grid.specs.Orders.{IsOrder};
+ghost use Rattle.shared_grid.specs.Sheets.{AreCleared};
 
-use cell_value::{Duplicate, NoMemory};
+use crate::order::Order;
+use cell_value::{Duplicate, Items, NoMemory};
+use grid_range::Axis;
 use shared_map::SharedMap;
 use std::alloc::Global;
 use std::marker::Model;
@@ -104,6 +109,69 @@ impl<T: Duplicate + Drop> Cells<T> {
         Ok(item)
     }
 
+    /// The keys of the items on the row, in order.
+    ///
+    /// # Errors
+    ///
+    /// [`NoMemory`] where memory runs out.
+    pub(crate) fn on_row(&self, row: u32) -> Result<Items<u64>, NoMemory>
+        ensures { IfOk result (AreKeysOnRow row self.now) }
+    {
+        self.items.keys(key(row, 0), key(row, u32::MAX))
+    }
+
+    /// Drops the items on the lines from `first` to `end - 1`.
+    ///
+    /// # Errors
+    ///
+    /// [`NoMemory`] where memory runs out; some of the items are dropped then.
+    pub(crate) fn drop_lines(
+        &mut self,
+        axis: Axis,
+        order: &Order,
+        first: u32,
+        end: u32,
+    ) -> Result<(), NoMemory>
+        requires order { IsOrder order.now }
+        requires there { (first ≤ end) × (end ≤ order.now.count) }
+        ensures { OnOk result (AreCleared axis order.now first end self.old self.new) }
+    {
+        for line in first..end {
+            self.clear(axis, order.number(line))?;
+        }
+        Ok(())
+    }
+
+    /// Drops the items on the line with the number.
+    fn clear(&mut self, axis: Axis, number: u32) -> Result<(), NoMemory>
+        ensures { OnOk result (IsCleared axis number self.old self.new) }
+    {
+        match axis {
+            Axis::Rows => self.clear_row(number),
+            Axis::Columns => self.clear_column(number),
+        }
+    }
+
+    fn clear_row(&mut self, row: u32) -> Result<(), NoMemory>
+        ensures { OnOk result (IsCleared Rows row self.old self.new) }
+    {
+        let keys = self.on_row(row)?;
+        for key in keys.as_slice() {
+            self.take(row, across(*key))?;
+        }
+        Ok(())
+    }
+
+    fn clear_column(&mut self, column: u32) -> Result<(), NoMemory>
+        ensures { OnOk result (IsCleared Columns column self.old self.new) }
+    {
+        let marks = self.marks.keys(key(column, 0), key(column, u32::MAX))?;
+        for mark in marks.as_slice() {
+            self.take(across(*mark), column)?;
+        }
+        Ok(())
+    }
+
     /// Other cells with the same items, none of which is copied.
     ///
     /// # Errors
@@ -124,4 +192,11 @@ fn key(line: u32, across: u32) -> u64
     ensures { result ≡ key_of line across }
 {
     u64::from(line) * 4_294_967_296 + u64::from(across)
+}
+
+/// The number of the line across, in the key of a place.
+pub(crate) fn across(key: u64) -> u32
+    ensures { result ≡ across_in key }
+{
+    (key % 4_294_967_296) as u32
 }

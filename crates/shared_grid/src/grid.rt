@@ -1,14 +1,21 @@
-ghost use Rattle.std.specs.Prelude.{◌≡◌, ◌+◌, ◌<◌, ◌≤◌, None, IfOk, OnOk, OnErr, IfErr};
+ghost use Rattle.std.specs.Prelude.{◌≡◌, ℕ, ◌+◌, ◌++◌, ◌<◌, ◌≤◌, length, map, max, None, Contains, IfOk, OnOk, OnErr, IfErr};
 ghost use Rattle.std.specs.Option.{option_copied, IsSome};
 ghost use Rattle.cell_store.specs.Table.{empty_table, most_lines, item_at, filled_places, most_filled};
 ghost use Rattle.cell_store.specs.Table.{HasPlace, HasItemsInside, with_item, without_item};
-ghost use Rattle.shared_grid.specs.Orders.{IsOrder, number_of};
+ghost use Rattle.cell_store.specs.Moved.{GoesWithLines, IsRoomAfter, lines_on};
+ghost use Rattle.cell_store.specs.Places.{AreFilledPlaces};
+ghost use Rattle.grid_range.specs.Change.{Fits, count_after};
+ghost use Rattle.grid_range.specs.declared.axis.Axis.TheVariants.{Rows, Columns};
+ghost use Rattle.shared_grid.specs.Cells.{across_in};
+ghost use Rattle.shared_grid.specs.Orders.{AreMoved, IsOrder, number_of, place_noted};
+ghost use Rattle.shared_grid.specs.Sheets.{AreCleared, AreOnRows, deleted};
 
-use crate::cells::Cells;
+use crate::cells::{Cells, across};
 use crate::held::Held;
 use crate::order::Order;
-use cell_store::tables_by_items;
-use cell_value::{Duplicate, NoMemory};
+use cell_store::{held_by_rows, tables_by_items};
+use cell_value::{Duplicate, Items, NoMemory};
+use grid_range::{Area, Axis, Change, places_stay_below};
 use std::alloc::Global;
 use std::marker::Model;
 
@@ -37,6 +44,8 @@ impl<T: Duplicate + Drop> Model for SharedGrid<T> {
 }
 
 impl<T: Duplicate + Drop> SharedGrid<T> {
+    ghost use Rattle.shared_grid.specs.Grid.{ReusesNumbers};
+
     /// A sheet of that size with nothing in it.
     ///
     /// # Errors
@@ -134,6 +143,121 @@ impl<T: Duplicate + Drop> SharedGrid<T> {
         self.cells.take(row_number, column_number)
     }
 
+    /// Makes the change of the rows or of the columns. Each item goes with its line without being moved,
+    /// and the items of deleted lines are dropped: only what stands in one part of a map with such an item
+    /// is copied. The numbers of deleted lines are used again.
+    ///
+    /// # Errors
+    ///
+    /// [`NoMemory`] where memory runs out; the sheet is as it was.
+    pub fn change(&mut self, axis: Axis, change: &Change) -> Result<(), NoMemory>
+        requires fits { Fits change.now (lines_on axis self.old.table.rows self.old.table.cols) }
+        requires room { IsRoomAfter axis change.now self.old.table }
+        ensures moved { OnOk result (GoesWithLines axis change.now self.old.table self.new.table) }
+        ensures filled { filled_places self.new.table ≤ filled_places self.old.table }
+        ensures unchanged { OnErr result (self.new.table ≡ self.old.table) }
+        ensures numbers { OnOk result (ReusesNumbers axis change.now self.old self.new) }
+    {
+        *self = self.changed(axis, change)?;
+        Ok(())
+    }
+
+    /// The sheet after the change.
+    fn changed(&self, axis: Axis, change: &Change) -> Result<SharedGrid<T>, NoMemory>
+        requires fits { Fits change.now (lines_on axis self.now.table.rows self.now.table.cols) }
+        requires room { IsRoomAfter axis change.now self.now.table }
+        ensures moved { IfOk result (λ grid. GoesWithLines axis change.now self.now.table grid.table) }
+        ensures filled { IfOk result (λ grid. filled_places grid.table ≤ filled_places self.now.table) }
+        ensures numbers { IfOk result (ReusesNumbers axis change.now self.now) }
+    {
+        match axis {
+            Axis::Rows => self.rows_changed(change),
+            Axis::Columns => self.columns_changed(change),
+        }
+    }
+
+    /// The sheet after the change of its rows.
+    fn rows_changed(&self, change: &Change) -> Result<SharedGrid<T>, NoMemory>
+        requires fits { Fits change.now self.now.table.rows }
+        requires room { IsRoomAfter Rows change.now self.now.table }
+        ensures moved { IfOk result (λ grid. GoesWithLines Rows change.now self.now.table grid.table) }
+        ensures filled { IfOk result (λ grid. filled_places grid.table ≤ filled_places self.now.table) }
+        ensures numbers { IfOk result (ReusesNumbers Rows change.now self.now) }
+    {
+        tables_by_items::<T>();
+        places_stay_below();
+        let cells = cells_left(&self.cells, Axis::Rows, &self.rows, change)?;
+        let rows = lines_after(self.alloc, &self.rows, change)?;
+        let columns = self.columns.share()?;
+        Ok(SharedGrid {
+            alloc: self.alloc,
+            rows,
+            columns,
+            cells,
+        })
+    }
+
+    /// The sheet after the change of its columns.
+    fn columns_changed(&self, change: &Change) -> Result<SharedGrid<T>, NoMemory>
+        requires fits { Fits change.now self.now.table.cols }
+        requires room { IsRoomAfter Columns change.now self.now.table }
+        ensures moved { IfOk result (λ grid. GoesWithLines Columns change.now self.now.table grid.table) }
+        ensures filled { IfOk result (λ grid. filled_places grid.table ≤ filled_places self.now.table) }
+        ensures numbers { IfOk result (ReusesNumbers Columns change.now self.now) }
+    {
+        tables_by_items::<T>();
+        places_stay_below();
+        let cells = cells_left(&self.cells, Axis::Columns, &self.columns, change)?;
+        let columns = lines_after(self.alloc, &self.columns, change)?;
+        let rows = self.rows.share()?;
+        Ok(SharedGrid {
+            alloc: self.alloc,
+            rows,
+            columns,
+            cells,
+        })
+    }
+
+    /// The filled places of the area, by rows. Only the rows of the area are visited, and its sheet isn't
+    /// looked at.
+    ///
+    /// # Errors
+    ///
+    /// [`NoMemory`] where memory runs out.
+    pub fn places(&self, area: &Area) -> Result<Items<(u32, u32)>, NoMemory>
+        ensures { IfOk result (AreFilledPlaces area.now self.now.table) }
+    {
+        tables_by_items::<T>();
+        let rows = count(&self.rows);
+        let end = area.rows.end_line(rows).min(rows);
+        let first = area.rows.first_line().min(end);
+        let places = self.places_on_rows(first, end)?;
+        Ok(held_by_rows(places, area))
+    }
+
+    /// The filled places of the rows from `first` to `end - 1`.
+    fn places_on_rows(&self, first: u32, end: u32) -> Result<Vec<(u32, u32)>, NoMemory>
+        requires { (first ≤ end) × (end ≤ self.now.table.rows) }
+        ensures { IfOk result (λ places. AreOnRows first end self.now.table places.items) }
+    {
+        let mut places = Vec::new(self.alloc);
+        for row in first..end {
+            self.put_row(row, &mut places)?;
+        }
+        Ok(places)
+    }
+
+    /// Puts the filled places of the row behind those of the rows before it.
+    fn put_row(&self, row: u32, places: &mut Vec<(u32, u32)>) -> Result<(), NoMemory>
+        requires { row < self.now.table.rows }
+        ensures { OnOk result ((first : ℕ) → AreOnRows first row self.now.table places.old.items
+            → AreOnRows first (row + 1) self.now.table places.new.items) }
+    {
+        tables_by_items::<T>();
+        let keys = self.cells.on_row(number(&self.rows, row))?;
+        put_places(row, self.columns.value(), keys.as_slice(), places)
+    }
+
     /// How many places are filled.
     pub fn filled(&self) -> u64
         ensures { result ≡ filled_places self.now.table }
@@ -173,4 +297,62 @@ fn number(lines: &Held<Order>, line: u32) -> u32
     ensures { result ≡ number_of lines.now line }
 {
     lines.value().number(line)
+}
+
+/// The lines after the change.
+fn lines_after(alloc: Global, lines: &Held<Order>, change: &Change) -> Result<Held<Order>, NoMemory>
+    requires order { IsOrder lines.now }
+    requires fits { Fits change.now lines.now.count }
+    requires room { count_after change.now lines.now.count ≤ most_lines }
+    ensures order { IfOk result IsOrder }
+    ensures moved { IfOk result (AreMoved change.now lines.now) }
+    ensures numbers { IfOk result (λ after. length after.numbers.items
+        ≤ max (length lines.now.numbers.items) (count_after change.now lines.now.count)) }
+{
+    let order = lines.value().changed(alloc, change)?;
+    Held::new(alloc, order)
+}
+
+/// The items that a change of those lines leaves.
+fn cells_left<T: Duplicate + Drop>(
+    cells: &Cells<T>,
+    axis: Axis,
+    lines: &Held<Order>,
+    change: &Change,
+) -> Result<Cells<T>, NoMemory>
+    requires order { IsOrder lines.now }
+    requires fits { Fits change.now lines.now.count }
+    ensures { IfOk result (AreCleared axis lines.now (deleted change.now).0 (deleted change.now).1 cells.now) }
+{
+    let (first, end) = deleted(change);
+    let mut left = cells.copy()?;
+    left.drop_lines(axis, lines.value(), first, end)?;
+    Ok(left)
+}
+
+/// The first of the lines that the change deletes, and the one past the last.
+fn deleted(change: &Change) -> (u32, u32)
+    ensures { result ≡ deleted change.now }
+{
+    match *change {
+        Change::Delete { start, end } => (start, end),
+        Change::Insert { .. } | Change::Move { .. } => (0, 0),
+    }
+}
+
+/// Puts the places of the keys, which are of items on that row, behind the others.
+fn put_places(
+    row: u32,
+    columns: &Order,
+    keys: &[u64],
+    places: &mut Vec<(u32, u32)>,
+) -> Result<(), NoMemory>
+    requires { (key : ℕ) → Contains keys.now key → across_in key < length columns.now.places.items }
+    ensures { OnOk result (places.new.items
+        ≡ places.old.items ++ map (λ key. (row, place_noted columns.now (across_in key))) keys.now) }
+{
+    for key in keys {
+        places.push((row, columns.place(across(*key))))?;
+    }
+    Ok(())
 }

@@ -1,0 +1,213 @@
+-- The places of a row's items, behind those of the rows before it.
+use Rattle.std.proofs.Common.{◌≡◌, ◌≢◌, inl, inr, ℕ, suc, ◌+◌, ◌<◌, ◌≤◌, Bool, true, false, List, [], ◌∷◌, ◌++◌, length, get_or, map, refl, sym, ap, subst, ◌∙◌, append_assoc, arith}
+use Rattle.std.specs.Prelude.{Some, Contains, min, ◌↔◌}
+use Rattle.std.specs.Option.{IsSome}
+use Rattle.std.specs.Ordering.{nat_cmp, eq_by_cmp}
+use Rattle.std.specs.List.{AllByRecursion, IsDistinct, filter_map}
+use Rattle.std.specs.List.Sorted.{IsStrictlySortedBy}
+use Rattle.std.specs.FinMap as fin
+use Rattle.std.proofs.lemmas.Bool.{cases_lt}
+use Rattle.std.proofs.lemmas.List.{append-nil}
+use Rattle.std.proofs.lemmas.List.Elements.{Contains-append_left, Contains-append_right, Contains-append_cases, Contains-push_cases}
+use Rattle.std.proofs.lemmas.Map.Keys.{IsDistinct-head, IsDistinct-tail, IsDistinct-cons, below_from_sorted}
+use Rattle.cell_value.specs.Elements.{Contains-head, Contains-cons, nothing_in, IsDistinct-none, Contains-filter_map, Contains-filter_map_from}
+use Rattle.grid_range.specs.declared.area.Area.{Area}
+use Rattle.grid_range.specs.declared.band.Band.{Band}
+use Rattle.grid_range.specs.declared.band.Band.TheVariants.{Whole, From, Span}
+use Rattle.grid_range.specs.Area.{by_rows, Holds}
+use Rattle.grid_range.specs.Band.{HasLine, first_line, end_line}
+use Rattle.cell_store.specs.Table.{Table, item_at, HasItemsInside}
+use Rattle.cell_store.specs.Places.{AreFilledPlaces}
+use Rattle.cell_store.specs.Laws.{TablesByItems}
+use Rattle.shared_grid.specs.declared.order.Order.{Order}
+use Rattle.shared_grid.specs.Orders.{number_of, place_noted}
+use Rattle.shared_grid.specs.Cells.{line_in, across_in, AreKeysOnRow}
+use Rattle.shared_grid.specs.Grid.{NumberedTable}
+use Rattle.shared_grid.specs.Sheets.{key_at, place_in, numbered_table, IsOnLines, IsSheet, AreOnRows}
+use Rattle.shared_grid.proofs.Numbers.{same_place, line-key, across-key, small, place-key, place-line}
+use Rattle.shared_grid.proofs.Views.{item-view, inside-view}
+
+-- places that aren't one differ by the test
+differ : (one other : ℕ × ℕ) → one ≢ other → eq_by_cmp by_rows one other ≡ false
+differ one other apart = elim (eq_by_cmp by_rows one other) as (λ b. eq_by_cmp by_rows one other ≡ b → b ≡ false) [
+  | true ↦ λ same. absurd (apart (same_place one other same))
+  | false ↦ λ _. refl
+] refl
+
+module _ {X : Type 0} where
+  all_pushed : (P : X → Type 0) (xs : List X) (x : X) → AllByRecursion P xs → P x → AllByRecursion P (xs ++ x ∷ [])
+  all_pushed P [] x all p = (p, tt)
+  all_pushed P (y ∷ ys) x all p = (all.0, all_pushed P ys x all.1 p)
+
+  distinct_pushed : (eq : X → X → Bool) (xs : List X) (x : X) → IsDistinct eq xs
+      → ((y : X) → Contains xs y → eq y x ≡ false) → IsDistinct eq (xs ++ x ∷ [])
+  distinct_pushed eq [] x distinct apart = IsDistinct-cons eq x [] tt (IsDistinct-none eq)
+  distinct_pushed eq (y ∷ ys) x distinct apart =
+      IsDistinct-cons eq y (ys ++ x ∷ [])
+      (all_pushed (λ z. eq y z ≡ false) ys x (IsDistinct-head eq y ys distinct) (apart y (Contains-head y ys)))
+      (distinct_pushed eq ys x (IsDistinct-tail eq y ys distinct) (λ z has. apart z (Contains-cons y z ys has)))
+
+module _ {X Y : Type 0} (f : X → Y) where
+  mapped : (xs : List X) → filter_map (λ x. Some (f x)) xs ≡ map f xs
+  mapped [] = refl
+  mapped (x ∷ xs) = ap (λ ys. f x ∷ ys) (mapped xs)
+
+  in_map : (xs : List X) (x : X) → Contains xs x → Contains (map f xs) (f x)
+  in_map xs x has = subst (λ ys. Contains ys (f x)) (mapped xs) (Contains-filter_map (λ z. Some (f z)) xs x (f x) has refl)
+
+  from_map : (xs : List X) (y : Y) → Contains (map f xs) y → (x : X) × Contains xs x × (f x ≡ y)
+  from_map xs y has =
+      let found = Contains-filter_map_from (λ z. Some (f z)) xs y (subst (λ ys. Contains ys y) (sym (mapped xs)) has) in
+      let is : f found.0 ≡ y = cc (found.2) in
+      (found.0, found.1, is)
+
+-- a key behind another in order is not that one
+later : (key other : ℕ) (keys : List ℕ) → IsStrictlySortedBy nat_cmp (key ∷ keys) → Contains keys other → key ≢ other
+later key other keys sorted has same =
+    let less : key < get_or keys has.0 other =
+    below_from_sorted (key ∷ keys) 0 (suc has.0) other sorted (omega arith) (omega (arith, has.1)) in
+    omega (arith, less, has.2, same)
+
+module _ (place : ℕ → ℕ × ℕ) where
+  -- places that are put behind others, one of each key, differ from these and from one another
+  distinct_more : (places : List (ℕ × ℕ)) (keys : List ℕ) → IsDistinct (eq_by_cmp by_rows) places
+      → IsStrictlySortedBy nat_cmp keys
+      → ((p : ℕ × ℕ) (key : ℕ) → Contains places p → Contains keys key → p ≢ place key)
+      → ((one other : ℕ) → Contains keys one → Contains keys other → place one ≡ place other → one ≡ other)
+      → IsDistinct (eq_by_cmp by_rows) (places ++ map place keys)
+  unfolding IsStrictlySortedBy
+  distinct_more places [] distinct sorted apart tells =
+      subst (IsDistinct (eq_by_cmp by_rows)) (sym (append-nil places)) distinct
+  distinct_more places (key ∷ keys) distinct sorted apart tells =
+      subst (IsDistinct (eq_by_cmp by_rows)) (append_assoc places (place key ∷ []) (map place keys))
+      (distinct_more (places ++ place key ∷ []) keys
+      (distinct_pushed (eq_by_cmp by_rows) places (place key) distinct
+      (λ p has. differ p (place key) (apart p key has (Contains-head key keys))))
+      sorted.1
+      (λ p k has listed same. elim (Contains-push_cases places (place key) p has) [
+        | inl old ↦ apart p k old (Contains-cons key k keys listed) same
+        | inr new ↦ later key k keys sorted listed
+            (tells key k (Contains-head key keys) (Contains-cons key k keys listed) (new ∙ same))
+      ])
+      (λ one other here there. tells one other (Contains-cons key one keys here) (Contains-cons key other keys there)))
+
+-- no rows have no places
+pub no_rows : {X : Type 0} (first : ℕ) (table : Table X) → AreOnRows first first table []
+no_rows first table = record {
+  distinct = IsDistinct-none (eq_by_cmp by_rows);
+  only = λ row col has. absurd (nothing_in (row, col) has);
+  all = λ row col low high some. absurd (omega arith);
+}
+
+module _ {X : Type 0} (laws : TablesByItems X) (rows columns : Order) (items : fin.FinMap nat_cmp X)
+    (is : IsSheet rows columns items) (sheet : NumberedTable X) (view : numbered_table rows columns items ≡ sheet)
+    (row number : ℕ) (row_there : row < rows.count) (number_is : number ≡ number_of rows row) (keys : List ℕ)
+    (listed : AreKeysOnRow number items keys) where
+  abbrev pub place : ℕ → ℕ × ℕ
+  place key = (row, place_noted columns (across_in key))
+
+  on : (key : ℕ) → Contains keys key → IsOnLines rows columns key
+  on key has = is.lines.each key ((listed.exactly key).0 has).1
+
+  place_is : (key : ℕ) → Contains keys key → place key ≡ place_in rows columns key
+  place_is key has =
+      let same : place_noted rows (line_in key) ≡ row =
+      ap (place_noted rows) (((listed.exactly key).0 has).0 ∙ number_is) ∙ is.rows_are.noted row row_there in
+      ap (λ (r : ℕ). (r, place_noted columns (across_in key))) (sym same)
+
+  stands : (key : ℕ) (has : Contains keys key) → place key ≡ ((on key has).row, (on key has).column)
+  stands key has = place_is key has ∙ place-line rows columns is.rows_are is.columns_are key (on key has)
+
+  tells : (one other : ℕ) → Contains keys one → Contains keys other → place one ≡ place other → one ≡ other
+  tells one other here there same =
+      (on one here).is
+      ∙ ap (λ (p : ℕ × ℕ). key_at rows columns p.0 p.1) (sym (stands one here) ∙ same ∙ stands other there)
+      ∙ sym (on other there).is
+
+  -- the number of an item's column has a place
+  pub column_there : (key : ℕ) → Contains keys key → across_in key < length columns.places.items
+  column_there key has =
+      let line = on key has in
+      let fits = small columns is.columns_are line.column line.there.1 in
+      let same : across_in key ≡ number_of columns line.column =
+      ap across_in line.is ∙ across-key (number_of rows line.row) (number_of columns line.column) fits in
+      omega (
+        arith,
+        same,
+        is.columns_are.each.within line.column (omega (arith, line.there.1, is.columns_are.count)),
+        is.columns_are.long,
+      )
+
+  pub row_more : (first : ℕ) (before after : List (ℕ × ℕ)) → after ≡ before ++ map place keys
+      → AreOnRows first row sheet.table before → AreOnRows first (row + 1) sheet.table after
+  row_more first before after put are = subst (AreOnRows first (row + 1) sheet.table) (sym put) (record {
+    distinct = distinct_more place before keys are.distinct listed.in_order
+        (λ p key has held same.
+        let less = (are.only p.0 p.1 has).0 in
+        let at : p.0 ≡ row = ap (λ (q : ℕ × ℕ). q.0) same in
+        omega (arith, less, at))
+        tells;
+    only = λ r c has. elim (Contains-append_cases before (map place keys) (r, c) has) [
+      | inl old ↦ let held = are.only r c old in (omega (arith, held.0), held.1)
+      | inr new ↦
+          let found = from_map place keys (r, c) new in
+          let line = on found.0 found.1 in
+          let same : (line.row, line.column) ≡ (r, c) = sym (stands found.0 found.1) ∙ found.2 in
+          let at : row ≡ r = ap (λ (q : ℕ × ℕ). q.0) found.2 in (
+            omega (arith, at),
+            subst (λ (q : ℕ × ℕ). IsSome (item_at sheet.table q.0 q.1)) same
+                (subst IsSome (ap (fin.get items) line.is
+                ∙ item-view laws rows columns items is sheet view line.row line.column line.there.0 line.there.1)
+                ((listed.exactly found.0).0 found.1).1),
+          )
+    ];
+    all = λ r c low high some. elim (cases_lt r row) [
+      | inl less ↦ Contains-append_left before (map place keys) (r, c) (are.all r c low less some)
+      | inr last ↦
+          let at : r ≡ row = omega arith in
+          let there : c < columns.count = omega (
+            arith,
+            (inside-view laws rows columns items is sheet view r c some).1,
+            ap (λ s. s.table.cols) view,
+          ) in
+          let fits = small columns is.columns_are c there in
+          let line : line_in (key_at rows columns row c) ≡ number =
+          line-key (number_of rows row) (number_of columns c) fits ∙ sym number_is in
+          let held : IsSome (fin.get items (key_at rows columns row c)) =
+          subst IsSome (sym (item-view laws rows columns items is sheet view row c row_there there))
+          (subst (λ (n : ℕ). IsSome (item_at sheet.table n c)) at some) in
+          let has = (listed.exactly (key_at rows columns row c)).1 (line, held) in
+          let same : place (key_at rows columns row c) ≡ (r, c) =
+          place_is (key_at rows columns row c) has
+          ∙ place-key rows columns is.rows_are is.columns_are row c row_there there
+          ∙ ap (λ (n : ℕ). (n, c)) (sym at) in
+          Contains-append_right before (map place keys) (r, c)
+          (subst (Contains (map place keys)) same (in_map place keys (key_at rows columns row c) has))
+    ];
+  })
+
+-- the lines of a band, among so many
+has_ends : (band : Band) (count line : ℕ) → line < count → HasLine band line
+    → (first_line band ≤ line) × (line < min (end_line band count) count)
+has_ends Whole count line there has = (omega arith, omega arith)
+has_ends (From start) count line there has = (has, omega arith)
+has_ends (Span start end) count line there has = let less = has.1 in (has.0, omega arith)
+
+pub are_places : {X : Type 0} (area : Area) (table : Table X) (count first end : ℕ) (places held : List (ℕ × ℕ))
+    → HasItemsInside table → count ≡ table.rows → first ≤ first_line area.rows → min (end_line area.rows count) count ≤ end
+    → AreOnRows first end table places → IsStrictlySortedBy by_rows held
+    → ((row col : ℕ) → Contains held (row, col) ↔ (Holds area row col × Contains places (row, col)))
+    → AreFilledPlaces area table held
+are_places area table count first end places held inside count_is low high are sorted exact = record {
+  in_order = sorted;
+  exactly = λ row col. (
+    (λ has. let found = (exact row col).0 has in (found.0, (are.only row col found.1).1)),
+    (λ filled.
+        let there : row < count = omega (arith, (inside row col filled.1).0, count_is) in
+        let ends = has_ends area.rows count row there filled.0.0 in
+        (exact row col).1 (
+          filled.0,
+          are.all row col (omega (arith, ends.0, low)) (omega (arith, ends.1, high)) filled.1,
+        )),
+  );
+}

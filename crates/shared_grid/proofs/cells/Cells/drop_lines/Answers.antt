@@ -1,0 +1,16 @@
+use Rattle.std.proofs.Common.{ℕ, subst, arith}
+use Rattle.shared_grid.specs.Sheets.{AreCleared}
+use Rattle.shared_grid.proofs.Cleared.{no_lines, line_more}
+use Rattle.shared_grid.proofs.cells.Cells.drop_lines.Goals as goal
+
+pub loop-line-init : goal.loop-line-init
+loop-line-init g c = no_lines c.args.axis c.args.order.now c.args.first c.args.self.now
+
+pub loop-line-preserved : goal.loop-line-preserved
+loop-line-preserved g c = line_more c.args.axis c.args.order.now c.args.first c.loop-line.line c.number.result
+    c.args.self.now c.loop-line.self c.clear.new.self (omega arith) c.number.ensures c.loop-line.invariant
+    c.in_ok-clear.ensures
+
+pub returns : goal.returns
+returns g c = subst (λ (line : ℕ). AreCleared c.args.axis c.args.order.now c.args.first line c.args.self.now c.loop-line.self)
+    (omega arith) c.loop-line.invariant
