@@ -1,5 +1,5 @@
 -- The ends of the lines that a read goes over.
-use Rattle.std.proofs.Common.{◌≡◌, ℕ, ◌+◌, ◌-◌, ◌<◌, ◌≤◌, List, [], length, get_or, max, cond, Bool, true, false, refl, sym, subst, ap, ◌∙◌, arith, inl, inr}
+use Rattle.std.proofs.Common.{◌≡◌, ℕ, ◌+◌, ◌-◌, ◌<◌, ◌≤◌, List, length, get_or, max, cond, Bool, true, false, refl, sym, subst, ap, ◌∙◌, arith, inl, inr}
 use Rattle.std.specs.Prelude.{Option, Some, None, ◌==◌}
 use Rattle.std.specs.Option.{IsSome}
 use Rattle.std.proofs.lemmas.Bool.{cases_Bool, cases_order, eqb-true, false≢true}
@@ -19,7 +19,7 @@ use Rattle.values_api.specs.declared.shown.Reading.{Reading}
 use Rattle.values_api.specs.Reading.{IsReadOfSheet, AreEnds, lines_read, length_read}
 use Rattle.values_api.specs.Sheets.{formula_sheets}
 use Rattle.values_api.specs.Shown.{shows_nothing, cell_shown, cell_of, cell_along, height, width, lines_of, line_length}
-use Rattle.values_api.proofs.Finding.{holds_of_found}
+use Rattle.values_api.proofs.Finding.{sound_sheet}
 
 -- ---- bands
 
@@ -34,7 +34,7 @@ before_end Whole line count has there = omega (arith, there)
 before_end (From start) line count has there = omega (arith, has, there)
 before_end (Span start end) line count has there = omega (arith, has.0, has.1)
 
-end_small : (band : Band) (count : ℕ) → Within band count → end_line band count ≤ count
+pub end_small : (band : Band) (count : ℕ) → Within band count → end_line band count ≤ count
 end_small Whole count within = omega arith
 end_small (From start) count within = omega arith
 end_small (Span start end) count within = within.1
@@ -47,12 +47,14 @@ has_line_behind (Span start end) count line within short = (omega arith, omega (
 
 -- ---- a read
 
+-- a row and a column as a line and a place there
+abbrev pub by_lines : Bool → ℕ → ℕ → ℕ × ℕ
+by_lines turned = cell_along turned (λ line place. (line, place))
+
 -- the line of a place, and its place there
 abbrev pub along : Reading → ℕ × ℕ → ℕ × ℕ
 along reading place =
-    cond reading.columns_first
-    (place.1 - first_line reading.area.now.cols, place.0 - first_line reading.area.now.rows)
-    (place.0 - first_line reading.area.now.rows, place.1 - first_line reading.area.now.cols)
+    by_lines reading.columns_first (place.0 - first_line reading.area.now.rows) (place.1 - first_line reading.area.now.cols)
 
 -- the first places stand before the ends of their lines
 pub record AreEndsSoFar (reading : Reading) (places : List (ℕ × ℕ)) (count : ℕ) (ends : List ℕ) : Type 0 where
@@ -60,13 +62,6 @@ pub record AreEndsSoFar (reading : Reading) (places : List (ℕ × ℕ)) (count 
   pub short : (line : ℕ) → get_or ends line 0 ≤ length_read reading
   pub covers : (k : ℕ) → k < count
       → (along reading (get_or places k (0, 0))).1 < get_or ends (along reading (get_or places k (0, 0))).0 0
-
-pub none_ended : (reading : Reading) (places : List (ℕ × ℕ)) → AreEndsSoFar reading places 0 []
-none_ended reading places = record {
-  few = omega arith;
-  short = λ line. omega arith;
-  covers = λ k below. absurd (omega (arith, below));
-}
 
 -- where a place stands in the area
 pub record IsPlaced (area : Area) (sheet : PlaceSheet) (place : ℕ × ℕ) : Type 0 where
@@ -83,8 +78,7 @@ module _ (reading : Reading) (is : IsReadOfSheet reading) where
   area = reading.area.now
 
   pub own : IsSheetSound reading.names.book.now.sheets sheet
-  own = holds_of_found (IsSheetSound reading.names.book.now.sheets) (λ (one : PlaceSheet). one.id == area.sheet)
-      reading.names.book.now.sheets sheet is.sound.sheets is.there
+  own = sound_sheet reading.names.book.now is.sound area.sheet sheet is.there
 
   pub small_height : height area sheet ≤ 1000000
   small_height = let end = end_small area.rows sheet.table.rows is.within.0 in omega (arith, end, own.rows.1)
@@ -161,38 +155,33 @@ module _ (reading : Reading) (is : IsReadOfSheet reading) where
             omega (arith, old, more, now)
 
     abbrev along_by : Bool → ℕ × ℕ → ℕ × ℕ
-    along_by turned place =
-        cond turned (place.1 - first_line area.cols, place.0 - first_line area.rows)
-        (place.0 - first_line area.rows, place.1 - first_line area.cols)
+    along_by turned place = by_lines turned (place.0 - first_line area.rows) (place.1 - first_line area.cols)
 
-    -- the same where lines are columns, and where they are rows
-    pub next_column_end : (k row col : ℕ) (ends ends' : List ℕ) → reading.columns_first ≡ true → k < length places
-        → row ≡ (get_or places k (0, 0)).0 - first_line area.rows → col ≡ (get_or places k (0, 0)).1 - first_line area.cols
-        → AreEndsSoFar reading places k ends
-        → ((other : ℕ) → get_or ends' other 0 ≡ cond (other == col) (max (get_or ends other 0) (row + 1)) (get_or ends other 0))
-        → length ends' ≡ max (length ends) (col + 1) → AreEndsSoFar reading places (k + 1) ends'
-    next_column_end k row col ends ends' turned there row_is col_is so_far each long =
+    -- the same for a place of the area, whose lines are columns or rows
+    in_lines : (turned : Bool) (row col : ℕ) → row < height area sheet → col < width area sheet
+        → ((by_lines turned row col).0 < lines_of turned area sheet)
+        × ((by_lines turned row col).1 < line_length turned area sheet)
+    in_lines true row col below right = (right, below)
+    in_lines false row col below right = (below, right)
+
+    pub next_placed : (turned : Bool) (k row col : ℕ) (ends ends' : List ℕ) → reading.columns_first ≡ turned
+        → k < length places → row ≡ (get_or places k (0, 0)).0 - first_line area.rows
+        → col ≡ (get_or places k (0, 0)).1 - first_line area.cols → AreEndsSoFar reading places k ends
+        → ((other : ℕ) → get_or ends' other 0 ≡ cond (other == (by_lines turned row col).0)
+        (max (get_or ends other 0) ((by_lines turned row col).1 + 1)) (get_or ends other 0))
+        → length ends' ≡ max (length ends) ((by_lines turned row col).0 + 1) → AreEndsSoFar reading places (k + 1) ends'
+    next_placed turned k row col ends ends' is_turned there row_is col_is so_far each long =
         let place = get_or places k (0, 0) in
         let at = placed k there in
-        next_end k col row ends ends' so_far
-        (ap (λ b. along_by b place) turned ∙ ap (λ n. (n, place.0 - first_line area.rows)) (sym col_is)
-        ∙ ap (λ n. (col, n)) (sym row_is)) each long
-        (subst (λ b. col < lines_of b area sheet) (sym turned) (subst (λ n. n < width area sheet) (sym col_is) at.col_to))
-        (subst (λ b. row < line_length b area sheet) (sym turned) (subst (λ n. n < height area sheet) (sym row_is) at.row_to))
-
-    pub next_row_end : (k row col : ℕ) (ends ends' : List ℕ) → reading.columns_first ≡ false → k < length places
-        → row ≡ (get_or places k (0, 0)).0 - first_line area.rows → col ≡ (get_or places k (0, 0)).1 - first_line area.cols
-        → AreEndsSoFar reading places k ends
-        → ((other : ℕ) → get_or ends' other 0 ≡ cond (other == row) (max (get_or ends other 0) (col + 1)) (get_or ends other 0))
-        → length ends' ≡ max (length ends) (row + 1) → AreEndsSoFar reading places (k + 1) ends'
-    next_row_end k row col ends ends' plain there row_is col_is so_far each long =
-        let place = get_or places k (0, 0) in
-        let at = placed k there in
-        next_end k row col ends ends' so_far
-        (ap (λ b. along_by b place) plain ∙ ap (λ n. (n, place.1 - first_line area.cols)) (sym row_is)
-        ∙ ap (λ n. (row, n)) (sym col_is)) each long
-        (subst (λ b. row < lines_of b area sheet) (sym plain) (subst (λ n. n < height area sheet) (sym row_is) at.row_to))
-        (subst (λ b. col < line_length b area sheet) (sym plain) (subst (λ n. n < width area sheet) (sym col_is) at.col_to))
+        let inside : ((by_lines turned row col).0 < lines_read reading) × ((by_lines turned row col).1 < length_read reading) =
+        subst (λ b. ((by_lines turned row col).0 < lines_of b area sheet)
+        × ((by_lines turned row col).1 < line_length b area sheet)) (sym is_turned)
+        (in_lines turned row col (subst (λ n. n < height area sheet) (sym row_is) at.row_to)
+        (subst (λ n. n < width area sheet) (sym col_is) at.col_to)) in
+        next_end k (by_lines turned row col).0 (by_lines turned row col).1 ends ends' so_far
+        (ap (λ b. along_by b place) is_turned
+        ∙ ap (λ n. by_lines turned n (place.1 - first_line area.cols)) (sym row_is)
+        ∙ ap (λ n. by_lines turned row n) (sym col_is)) each long inside.0 inside.1
 
     -- a cell at which nothing stands shows nothing
     abbrev cell_at : Bool → ℕ → ℕ → ℕ × ℕ

@@ -1,18 +1,14 @@
 -- Sheets that are found, and what a range text names on them.
-use Rattle.std.proofs.Common.{◌≡◌, ℕ, suc, List, [], ◌∷◌, refl, sym, subst, ap, ◌∙◌, cond, Bool, true, false, arith, inl, inr}
-use Rattle.std.specs.Prelude.{Option, Some, None, IsSomeAnd, Result, Ok, Err, IfOk}
+use Rattle.std.proofs.Common.{◌≡◌, ℕ, suc, List, [], ◌∷◌, refl, sym, subst, ap, ◌∙◌, cond, Bool, true, false, arith}
+use Rattle.std.specs.Prelude.{Option, Some, None, IsSomeAnd, Result, Ok, Err, IfOk, ◌==◌}
 use Rattle.std.specs.List.{All, find}
 use Rattle.grid_range.specs.Area.{AreaWithin}
 use Rattle.grid_range.specs.declared.area.Area.{Area}
-use Rattle.a1_notation.specs.Range.{Names, IsUnlessNoMemory as IsReadUnlessNoMemory}
-use Rattle.a1_notation.specs.declared.a1.A1.{A1}
-use Rattle.a1_notation.specs.declared.a1.A1Fault.{A1Fault}
-use Rattle.a1_notation.specs.declared.a1.A1Fault.TheVariants.{NotA1, PastZZZ, NoMemory}
+use Rattle.world_model.specs.Book.{PlaceBook}
 use Rattle.world_model.specs.Sheet.{PlaceSheet}
-use Rattle.world_model.specs.Sound.{place_sheet_with}
-use Rattle.dimension_ops.specs.Rules.{IsUnlessNoMemory}
+use Rattle.world_model.specs.Sound.{IsSheetSound, IsSound, place_sheet_with}
 use Rattle.dimension_ops.specs.declared.rule.Rule.{Rule}
-use Rattle.values_api.specs.Ranges.{FoundArea, IsOf, IsThere, Resolves, unnamed, unread}
+use Rattle.values_api.specs.Ranges.{FoundArea, IsOf, IsThere}
 
 -- what holds of all holds of the one that is found
 module _ {A : Type 0} (P : A → Type 0) (test : A → Bool) where
@@ -37,6 +33,12 @@ pub some_and : {A : Type 0} (P : A → Type 0) (found : Option A) → IsSomeAnd 
 some_and P None holds = absurd holds
 some_and P (Some x) holds = (x, refl, holds)
 
+-- a sheet of a sound spreadsheet is sound
+pub sound_sheet : (book : PlaceBook) → IsSound book → (id : ℕ) (sheet : PlaceSheet)
+    → place_sheet_with id book.sheets ≡ Some sheet → IsSheetSound book.sheets sheet
+sound_sheet book sound id sheet is =
+    holds_of_found (IsSheetSound book.sheets) (λ (one : PlaceSheet). one.id == id) book.sheets sheet sound.sheets is
+
 -- an area of a sheet that was looked for is of one that is found by its id
 pub of_found : (test : PlaceSheet → Bool) (sheets : List PlaceSheet) (area : Area)
     → All (λ sheet. place_sheet_with sheet.id sheets ≡ Some sheet) sheets → IsOf area (find test sheets)
@@ -54,31 +56,3 @@ pub answer_there : (test : PlaceSheet → Bool) (sheets : List PlaceSheet) (foun
 answer_there test sheets found (Ok one) own is of =
     of_found test sheets one.0 own (subst (IsOf one.0) is of)
 answer_there test sheets found (Err rule) own is of = tt
-
--- a text that isn't read names nothing
-abbrev unread_for : A1Fault → Result A1 A1Fault
-unread_for fault = Err fault
-
-nothing_named : (text : List ℕ) (fault : A1Fault)
-    → ((range : A1) → Names 3 text range → IsReadUnlessNoMemory (unread_for fault) (Ok range))
-    → ¬ (unread_for fault ≡ unread_for NoMemory) → (range : A1) → ¬ (Names 3 text range)
-nothing_named text fault named other range names = elim (named range names) [
-  | inl read ↦ not_read fault range read
-  | inr none ↦ other none
-]
-  where
-    not_read : (fault : A1Fault) (range : A1) → unread_for fault ≡ Ok range → ⊥
-    not_read fault range e = cc
-
-not_memory : unread_for NotA1 ≡ unread_for NoMemory → ⊥
-not_memory e = cc
-
-not_memory_too : unread_for PastZZZ ≡ unread_for NoMemory → ⊥
-not_memory_too e = cc
-
-pub right_refusal : (text : List ℕ) (sheets : List PlaceSheet) (fault : A1Fault)
-    → ((range : A1) → Names 3 text range → IsReadUnlessNoMemory (unread_for fault) (Ok range))
-    → IsUnlessNoMemory (Resolves text sheets) (Err (unread fault))
-right_refusal text sheets NotA1 named = unnamed (nothing_named text NotA1 named not_memory) refl
-right_refusal text sheets PastZZZ named = unnamed (nothing_named text PastZZZ named not_memory_too) refl
-right_refusal text sheets NoMemory named = tt

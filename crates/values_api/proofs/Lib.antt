@@ -2,6 +2,14 @@ pub mod Bands
 pub mod Finding
 pub mod Ending
 pub mod Printable
+pub mod Listed
 pub mod Emptied
 pub mod Ends
 pub mod LinesRead
+pub mod GivenCells
+pub mod GivenCount
+pub mod PutCells
+pub mod LinesOn
+pub mod WriteEnds
+pub mod AreaText
+pub mod Told

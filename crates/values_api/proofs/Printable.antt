@@ -1,6 +1,5 @@
 -- Each formula of a sound spreadsheet can be printed.
 use Rattle.std.proofs.Common.{ℕ, ◌≤◌, List, get_or, ap, arith}
-use Rattle.std.specs.Prelude.{◌==◌}
 use Rattle.std.specs.List.{All}
 use Rattle.std.specs.Option.{option_map}
 use Rattle.grid_range.specs.Area.{AreaWithin}
@@ -14,8 +13,8 @@ use Rattle.formula_reader.specs.Printed.{IsPrintable, IsPrintableReference, AreP
 use Rattle.formula_reader.specs.ReferenceText.{HasForm}
 use Rattle.world_model.specs.Book.{PlaceBook}
 use Rattle.world_model.specs.Sheet.{PlaceSheet}
-use Rattle.world_model.specs.Sound.{HasNotation, IsAreaWithin, IsPieceWithin, IsSheetSound, IsSound, place_sheet_with}
-use Rattle.values_api.proofs.Finding.{holds_of_found, some_and}
+use Rattle.world_model.specs.Sound.{HasNotation, IsAreaWithin, IsPieceWithin, IsSound, place_sheet_with}
+use Rattle.values_api.proofs.Finding.{some_and, sound_sheet}
 use Rattle.values_api.specs.Sheets.{formula_sheets}
 
 has_form : (rows cols : Band) (r c : ℕ) → HasNotation rows cols → Within rows r → Within cols c → r ≤ 1000000
@@ -38,8 +37,7 @@ module _ (book : PlaceBook) (sound : IsSound book) where
   reference_printable reference within =
       let (sheet, is, lines) = some_and (λ (sheet : PlaceSheet). AreaWithin reference.area sheet.table.rows sheet.table.cols)
       (place_sheet_with reference.area.sheet book.sheets) within.0 in
-      let own = holds_of_found (IsSheetSound book.sheets) (λ (sheet : PlaceSheet). sheet.id == reference.area.sheet) book.sheets sheet
-      sound.sheets is in
+      let own = sound_sheet book sound reference.area.sheet sheet is in
       record {
         titled = record {
           title = sheet.title;

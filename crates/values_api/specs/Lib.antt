@@ -3,3 +3,5 @@ pub mod Sheets
 pub mod Shown
 pub mod Reading
 pub mod Updates
+pub mod Blocks
+pub mod Given

@@ -2,10 +2,11 @@
 use Rattle.std.specs.Prelude.{◌≡◌, ℕ, Bool, List, Option, None, Some, Result, Ok, Err, ◌&&◌, nat_lt, if◌then◌else◌}
 use Rattle.std.specs.Prelude.{IsSomeAnd, ⊤}
 use Rattle.grid_range.specs.Area.{AreaWithin, cut_area}
-use Rattle.grid_range.specs.Band.{IsNonEmpty, first_line}
+use Rattle.grid_range.specs.Band.{IsNonEmpty, end_line, first_line}
 use Rattle.grid_range.specs.declared.area.Area.{Area}
 use Rattle.grid_range.specs.declared.band.Band.{Band}
 use Rattle.grid_range.specs.declared.band.Band.TheVariants.{Whole}
+use Rattle.a1_notation.specs.Canonical.{canonical}
 use Rattle.a1_notation.specs.Range.{Names}
 use Rattle.a1_notation.specs.declared.a1.A1.{A1}
 use Rattle.a1_notation.specs.declared.a1.A1Fault.{A1Fault}
@@ -80,3 +81,8 @@ IsOf area sheet =
 abbrev pub IsThere : List PlaceSheet → Area → Type 0
 IsThere sheets area =
     IsSomeAnd (place_sheet_with area.sheet sheets) (λ sheet. AreaWithin area sheet.table.rows sheet.table.cols)
+
+-- the area as text with both ends, from its first cell to its last
+abbrev pub area_text : PlaceSheet → Area → List ℕ
+area_text sheet area = canonical sheet.title (first_line area.rows, end_line area.rows sheet.table.rows)
+    (first_line area.cols, end_line area.cols sheet.table.cols)

@@ -83,8 +83,8 @@ abbrev pub cell_of : Sheets → Render → Area → PlaceSheet → ℕ → ℕ �
 cell_of sheets render area sheet row col =
     cell_shown sheets render (item_at sheet.table (first_line area.rows + row) (first_line area.cols + col))
 
--- the cell at a place of a line, which is a row, or a column
-abbrev pub cell_along : Bool → (ℕ → ℕ → Cell) → ℕ → ℕ → Cell
+-- what stands at a place of a line, which is a row, or a column
+abbrev pub cell_along : {A : Type 0} → Bool → (ℕ → ℕ → A) → ℕ → ℕ → A
 cell_along columns_first cells line place = if columns_first then cells place line else cells line place
 
 -- the area of the sheet by rows, or by columns

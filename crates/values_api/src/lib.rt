@@ -1,14 +1,19 @@
-//! Values of a spreadsheet's cells by ranges: what a range text names, and what formulas see of the
-//! sheets (Google Sheets API v4 reference, spreadsheets.values).
+//! Values of a spreadsheet's cells by ranges: what a range text names, reads, writes and clears, and what
+//! formulas see of the sheets (Google Sheets API v4 reference, spreadsheets.values).
 #![tactic(auto)]
 
 mod clearing;
 mod cut;
+mod given;
+mod printed;
 mod ranges;
 mod sheets;
 mod shown;
+mod writing;
 
 pub use clearing::clear_values;
+pub use printed::range_text;
 pub use ranges::resolve;
 pub use sheets::BookCells;
 pub use shown::{Shown, read_values};
+pub use writing::{Written, write_values};

@@ -12,3 +12,5 @@ mod ranges;
 mod values;
 #[cfg(test)]
 mod worlds;
+#[cfg(test)]
+mod writes;

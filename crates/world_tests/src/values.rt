@@ -6,7 +6,7 @@ use values_api::{clear_values, read_values, resolve};
 
 /// What a cell shows.
 #[derive(Clone, Copy, Debug)]
-enum Shown {
+pub(crate) enum Shown {
     Text(&'static str),
     Number(i64),
     Truth(bool),
@@ -128,7 +128,7 @@ fn is_read(alloc: Global, book: &Book, read: &Read) -> bool {
 }
 
 /// Whether the lines show just that.
-fn are_lines(lines: &[Items<Cell>], wanted: &[&[Shown]]) -> bool {
+pub(crate) fn are_lines(lines: &[Items<Cell>], wanted: &[&[Shown]]) -> bool {
     lines.len() == wanted.len()
         && lines
             .iter()

@@ -1,8 +1,9 @@
-use Rattle.std.proofs.Common.{◌≡◌, sym, subst, refl, take, get_or}
+use Rattle.std.proofs.Common.{◌≡◌, Some, None, sym, subst, refl, take, get_or}
 use Rattle.std.proofs.lemmas.List.{take_all}
 use Rattle.world_model.specs.Sound.{place_sheet_with}
 use Rattle.world_model.specs.Updating.{BookUpdated}
-use Rattle.values_api.proofs.Emptied.{emptied, emptied_next, still_there, listed_place, all_same_made}
+use Rattle.values_api.proofs.Emptied.{emptied, listed_place, all_same_made}
+use Rattle.values_api.proofs.Listed.{listed_next, still_there}
 use Rattle.values_api.specs.Updates.{cleared}
 use Rattle.values_api.proofs.clearing.empty_places.Goals as goal
 
@@ -13,7 +14,8 @@ pub loop-place-preserved : goal.loop-place-preserved
 loop-place-preserved c =
     let place = get_or c.as_slice-place-items.result.now c.loop-place.place-index (0, 0) in
     subst (λ updates. BookUpdated c.args.area.now.sheet updates c.args.book.now c.put.new.self)
-    (emptied_next c.as_slice-place-items.result.now c.loop-place.place-index place c.loop-place-test.true refl)
+    (listed_next (λ row col. Some None) c.as_slice-place-items.result.now c.loop-place.place-index place None
+    c.loop-place-test.true refl refl)
     (subst (BookUpdated c.args.area.now.sheet _ c.args.book.now) (sym c.in_ok-put.ensures.put)
     (c.updates_are_writes.ensures.put c.args.book.now c.loop-place.book c.args.area.now.sheet place.0 place.1 _ _ c.loop-place.invariant))
 

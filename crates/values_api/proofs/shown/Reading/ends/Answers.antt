@@ -1,6 +1,6 @@
-use Rattle.std.proofs.Common.{arith, ◌≡◌, ◌+◌, ◌-◌, ℕ, length, get_or, sym, ap, subst, Vec, Global}
+use Rattle.std.proofs.Common.{arith, true, false, ◌≡◌, ◌+◌, ◌-◌, ℕ, length, get_or, sym, ap, subst, Vec, Global}
 use Rattle.cell_store.specs.Places.{AreFilledPlaces}
-use Rattle.values_api.proofs.Ends.{placed, small_height, small_width, next_column_end, next_row_end, all_ended, AreEndsSoFar}
+use Rattle.values_api.proofs.Ends.{placed, small_height, small_width, next_placed, all_ended, AreEndsSoFar}
 use Rattle.values_api.proofs.shown.Reading.ends.Goals.{then-self+in_ok-reach, else-self+in_ok-reach-2}
 use Rattle.values_api.proofs.shown.Reading.ends.Goals as goal
 
@@ -39,14 +39,14 @@ loop-place-preserved c =
     elim c.if-self.branch [
       | then-self+in_ok-reach w ↦ subst (λ ends. AreEndsSoFar c.args.self.now places (c.loop-place.place-index + 1) ends)
           (ap (λ (vec : Vec ℕ Global). vec.items) (sym w.ends-is))
-          (next_column_end c.args.self.now c.requires places filled c.loop-place.place-index
+          (next_placed c.args.self.now c.requires places filled true c.loop-place.place-index
           (place.0 - c.first_line.result) (place.1 - c.first_line-in-loop-place.result) c.loop-place.ends.items
           w.reach.new.ends.items w.if-self.true c.loop-place-test.true (ap (λ n. place.0 - n) c.first_line.ensures)
           (ap (λ n. place.1 - n) c.first_line-in-loop-place.ensures) c.loop-place.invariant w.in_ok-reach.ensures.ends
           w.in_ok-reach.ensures.lines)
       | else-self+in_ok-reach-2 w ↦ subst (λ ends. AreEndsSoFar c.args.self.now places (c.loop-place.place-index + 1) ends)
           (ap (λ (vec : Vec ℕ Global). vec.items) (sym w.ends-is))
-          (next_row_end c.args.self.now c.requires places filled c.loop-place.place-index
+          (next_placed c.args.self.now c.requires places filled false c.loop-place.place-index
           (place.0 - c.first_line.result) (place.1 - c.first_line-in-loop-place.result) c.loop-place.ends.items
           w.reach-else-self.new.ends.items w.if-self.false c.loop-place-test.true
           (ap (λ n. place.0 - n) c.first_line.ensures) (ap (λ n. place.1 - n) c.first_line-in-loop-place.ensures)

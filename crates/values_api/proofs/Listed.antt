@@ -1,0 +1,101 @@
+-- Cells of a list that are updated one after another.
+use Rattle.std.proofs.Common.{◌≡◌, ℕ, ◌+◌, ◌<◌, List, length, take, get_or, refl, sym, subst, ap, ◌∙◌, cond, Bool, true, false}
+use Rattle.std.specs.Prelude.{Option, Some, None, IsSomeAnd, ◌==◌, ◌&&◌, ◌||◌, Contains}
+use Rattle.std.specs.List.{list_any}
+use Rattle.std.specs.Option.{IsSome, option_map}
+use Rattle.std.proofs.Math.Path.{fun_ext}
+use Rattle.std.proofs.lemmas.Bool.{and_parts, eqb-true, eq-eqb, false≢true}
+use Rattle.std.proofs.lemmas.List.Folds.{list_any_more, list_any_at, Any-from_list_any}
+use Rattle.cell_store.specs.Table.{HasPlace}
+use Rattle.ref_rewrite.specs.declared.cell_content.Content.{Content}
+use Rattle.world_model.specs.Laws.{size_of}
+use Rattle.world_model.specs.Sheet.{PlaceSheet}
+use Rattle.world_model.specs.Updating.{Updates, with_update}
+
+pub both_true : (one other : Bool) → one ≡ true → other ≡ true → (one && other) ≡ true
+both_true true true is is' = refl
+both_true true false is is' = absurd (false≢true is')
+both_true false other is is' = absurd (false≢true is)
+
+-- ---- the cells of a list
+
+abbrev pub is_listed : List (ℕ × ℕ) → ℕ → ℕ → Bool
+is_listed cells row col = list_any (λ cell. row == cell.0 && col == cell.1) cells
+
+pub listed_there : (cells : List (ℕ × ℕ)) (row col : ℕ) → is_listed cells row col ≡ true → Contains cells (row, col)
+listed_there cells row col is =
+    let (k, cell, there, at, passes) = Any-from_list_any (λ cell. row == cell.0 && col == cell.1) cells is in
+    let parts = and_parts (row == cell.0) (col == cell.1) passes in
+    let same : cell ≡ (row, col) =
+    ap (λ n. (n, cell.1)) (sym (eqb-true row cell.0 parts.0)) ∙ ap (λ n. (row, n)) (sym (eqb-true col cell.1 parts.1)) in
+    subst (Contains cells) same (k, there, at)
+
+pub there_listed : (cells : List (ℕ × ℕ)) (row col : ℕ) → Contains cells (row, col) → is_listed cells row col ≡ true
+there_listed cells row col (k, there, at) =
+    list_any_at (λ cell. row == cell.0 && col == cell.1) cells k (row, col) there
+    (ap (λ (cell : ℕ × ℕ). row == cell.0 && col == cell.1) at
+    ∙ both_true (row == row) (col == col) (eq-eqb row row refl) (eq-eqb col col refl))
+
+-- ---- the updates of the cells of a list
+
+abbrev pub listed_of : Updates → List (ℕ × ℕ) → Updates
+listed_of updates cells row col = cond (is_listed cells row col) (updates row col) None
+
+one_more : (content : Option Content) (whole before here : Bool) (update : Option (Option Content))
+    → whole ≡ (before || here) → (here ≡ true → update ≡ Some content)
+    → cond whole update None ≡ cond here (Some content) (cond before update None)
+one_more content true true true update is same = same refl
+one_more content true true false update is same = refl
+one_more content true false true update is same = same refl
+one_more content true false false update is same = absurd (false≢true (sym is))
+one_more content false true here update is same = absurd (false≢true is)
+one_more content false false true update is same = absurd (false≢true is)
+one_more content false false false update is same = refl
+
+-- one cell more is one update more
+pub listed_next : (updates : Updates) (cells : List (ℕ × ℕ)) (k : ℕ) (cell : ℕ × ℕ) (content : Option Content)
+    → k < length cells → cell ≡ get_or cells k (0, 0) → updates cell.0 cell.1 ≡ Some content
+    → with_update cell.0 cell.1 content (listed_of updates (take k cells)) ≡ listed_of updates (take (k + 1) cells)
+listed_next updates cells k cell content there is made = fun_ext (λ row. fun_ext (λ col.
+    sym (one_more content (is_listed (take (k + 1) cells) row col) (is_listed (take k cells) row col)
+    (row == cell.0 && col == cell.1) (updates row col)
+    (list_any_more (λ other. row == other.0 && col == other.1) cells k (0, 0) there
+    ∙ ap (λ (other : ℕ × ℕ). is_listed (take k cells) row col || (row == other.0 && col == other.1)) (sym is))
+    (λ here.
+    let parts = and_parts (row == cell.0) (col == cell.1) here in
+    ap (λ n. updates n col) (eqb-true row cell.0 parts.0) ∙ ap (λ n. updates cell.0 n) (eqb-true col cell.1 parts.1)
+    ∙ made))))
+
+chosen : (listed : Bool) (update : Option (Option Content)) → (IsSome update → listed ≡ true)
+    → cond listed update None ≡ update
+chosen true update all = refl
+chosen false None all = refl
+chosen false (Some content) all = absurd (false≢true (all refl))
+
+-- where each cell that is updated is listed, these are all updates
+pub all_listed : (updates : Updates) (cells : List (ℕ × ℕ))
+    → ((row col : ℕ) → IsSome (updates row col) → Contains cells (row, col)) → listed_of updates cells ≡ updates
+all_listed updates cells all = fun_ext (λ row. fun_ext (λ col.
+    chosen (is_listed cells row col) (updates row col) (λ some. there_listed cells row col (all row col some))))
+
+-- ---- sizes that stay
+
+-- what holds of a sheet's size holds of one that kept it
+pub still_of : (P : ℕ × ℕ → Type 0) (now before : Option PlaceSheet) → option_map size_of now ≡ option_map size_of before
+    → IsSomeAnd before (λ sheet. P (size_of sheet)) → IsSomeAnd now (λ sheet. P (size_of sheet))
+still_of P None None same there = absurd there
+still_of P None (Some before) same there = absurd (none_some same)
+  where
+    none_some : None ≡ Some (size_of before) → ⊥
+    none_some e = cc
+still_of P (Some now) None same there = absurd there
+still_of P (Some now) (Some before) same there = subst P (sym (same_some (size_of now) (size_of before) same)) there
+  where
+    same_some : (one other : ℕ × ℕ) → Some one ≡ Some other → one ≡ other
+    same_some one other e = cc
+
+-- a place of a sheet that kept its size is there
+pub still_there : (now before : Option PlaceSheet) (row col : ℕ) → option_map size_of now ≡ option_map size_of before
+    → IsSomeAnd before (λ sheet. HasPlace sheet.table row col) → IsSomeAnd now (λ sheet. HasPlace sheet.table row col)
+still_there now before row col same there =
+    still_of (λ size. (row < size.0) × (col < size.1)) now before same there

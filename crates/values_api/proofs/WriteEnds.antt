@@ -1,0 +1,190 @@
+-- A write as far as the ends is the write of the area.
+use Rattle.std.proofs.Common.{◌≡◌, ℕ, ◌+◌, ◌-◌, ◌<◌, ◌≤◌, cond, Bool, true, false, refl, sym, subst, ap, arith}
+use Rattle.std.specs.Prelude.{Some, None, IsSomeAnd, Result, Ok, Err, IfOk, MatchResult, ◌&&◌, nat_le, nat_lt}
+use Rattle.grid_range.specs.Area.{AreaWithin}
+use Rattle.grid_range.specs.Band.{Within, first_line, end_line}
+use Rattle.grid_range.specs.declared.area.Area.{Area}
+use Rattle.grid_range.specs.declared.band.Band.{Band}
+use Rattle.grid_range.specs.declared.band.Band.TheVariants.{Whole, From, Span}
+use Rattle.world_model.specs.Book.{PlaceBook}
+use Rattle.world_model.specs.Counts.{filled_of}
+use Rattle.world_model.specs.Sheet.{PlaceSheet}
+use Rattle.world_model.specs.Sound.{IsSheetSound, IsSound, place_sheet_with}
+use Rattle.world_model.specs.Updating.{Updates}
+use Rattle.dimension_ops.specs.Rules.{IsUnlessNoMemory}
+use Rattle.dimension_ops.specs.declared.rule.Limit.TheVariants.{Filled}
+use Rattle.dimension_ops.specs.declared.rule.Rule.{Rule}
+use Rattle.dimension_ops.specs.declared.rule.Rule.TheVariants.{PastLimit, ValuesPastRange}
+use Rattle.dimension_ops.specs.declared.rule.RuleOr.{RuleOr}
+use Rattle.dimension_ops.specs.declared.rule.RuleOr.TheVariants as refusal
+use Rattle.values_api.specs.Blocks.{end_row, end_col, entered, input_at, lies_in, rows_needed, cols_needed, area_written}
+use Rattle.values_api.specs.Blocks.{broken_by_write, most_stored, IsWrite, IsWritten}
+use Rattle.values_api.specs.Given.{HasRoom, IsWithinSheet, IsDone, first_row, first_col, made_by, fits_by}
+use Rattle.values_api.specs.Ranges.{IsThere}
+use Rattle.values_api.specs.Updates.{AreUpdated}
+use Rattle.values_api.specs.declared.given.Given.{Given}
+use Rattle.values_api.specs.declared.writing.Written.{Written}
+use Rattle.values_api.proofs.Ends.{end_small}
+use Rattle.values_api.proofs.Finding.{some_and, sound_sheet}
+use Rattle.values_api.proofs.GivenCount.{fit_parts}
+
+pub first_before : (band : Band) (count : ℕ) → Within band count → 0 < count → first_line band < end_line band count
+first_before Whole count within some = some
+first_before (From start) count within some = within
+first_before (Span start end) count within some = within.0
+
+first_there : (band : Band) (count : ℕ) → Within band count → 0 < count → first_line band < count
+first_there Whole count within some = some
+first_there (From start) count within some = within
+first_there (Span start end) count within some = omega (arith, within.0, within.1)
+
+between : (one_cell : Bool) (first count end : ℕ) → first < count → first < end → end ≤ count
+    → (first < cond one_cell count end) × (cond one_cell count end ≤ count)
+between true first count end there before small = (there, omega arith)
+between false first count end there before small = (before, small)
+
+-- the same for an answer that isn't want of memory
+pub unless : {A : Type 0} (P Q : Result A Rule → Type 0) → ((answer : Result A Rule) → P answer → Q answer)
+    → (answer : Result A RuleOr) → IsUnlessNoMemory P answer → IsUnlessNoMemory Q answer
+unless P Q same (Ok value) is = same (Ok value) is
+unless P Q same (Err (refusal.Rule rule)) is = same (Err rule) is
+unless P Q same (Err refusal.NoMemory) is = tt
+
+-- a write that breaks no rule fits
+fits_from : (many fit : Bool) (one other : Rule) → cond many (Some one) (cond fit None (Some other)) ≡ None → fit ≡ true
+fits_from true fit one other is = absurd (some_none one is)
+  where
+    some_none : (rule : Rule) → Some rule ≡ None → ⊥
+    some_none rule e = cc
+fits_from false true one other is = refl
+fits_from false false one other is = absurd (some_none other is)
+  where
+    some_none : (rule : Rule) → Some rule ≡ None → ⊥
+    some_none rule e = cc
+
+module _ (given : Given) (one_cell : Bool) (book : PlaceBook) where
+  abbrev area : Area
+  area = given.area.now
+
+  abbrev Found : (PlaceSheet → Type 0) → Type 0
+  Found P = IsSomeAnd (place_sheet_with area.sheet book.sheets) P
+
+  -- the ends are those of the area's sheet
+  abbrev AreEnds : PlaceSheet → Type 0
+  AreEnds sheet = ◌≡◌ {A = ℕ × ℕ} (given.end_row, given.end_col) (end_row one_cell area sheet, end_col one_cell area sheet)
+
+  module _ (sound : IsSound book) (there : IsThere book.sheets area) (ends : Found AreEnds) where
+    record HasSheet : Type 0 where
+      pub sheet : PlaceSheet
+      pub found : place_sheet_with area.sheet book.sheets ≡ Some sheet
+      pub within : AreaWithin area sheet.table.rows sheet.table.cols
+      pub own : IsSheetSound book.sheets sheet
+      pub are : AreEnds sheet
+
+    has_sheet : HasSheet
+    has_sheet =
+        let (sheet, is, within) = some_and (λ (sheet : PlaceSheet). AreaWithin area sheet.table.rows sheet.table.cols)
+        (place_sheet_with area.sheet book.sheets) there in
+        record {
+          sheet = sheet;
+          found = is;
+          within = within;
+          own = sound_sheet book sound area.sheet sheet is;
+          are = subst (λ found. IsSomeAnd found AreEnds) is ends;
+        }
+
+    abbrev sheet : PlaceSheet
+    sheet = has_sheet.sheet
+
+    rows_between : (first_row given < end_row one_cell area sheet) × (end_row one_cell area sheet ≤ sheet.table.rows)
+    rows_between =
+        between one_cell (first_row given) sheet.table.rows (end_line area.rows sheet.table.rows)
+        (first_there area.rows sheet.table.rows has_sheet.within.0 has_sheet.own.rows.0)
+        (first_before area.rows sheet.table.rows has_sheet.within.0 has_sheet.own.rows.0)
+        (end_small area.rows sheet.table.rows has_sheet.within.0)
+
+    cols_between : (first_col given < end_col one_cell area sheet) × (end_col one_cell area sheet ≤ sheet.table.cols)
+    cols_between =
+        between one_cell (first_col given) sheet.table.cols (end_line area.cols sheet.table.cols)
+        (first_there area.cols sheet.table.cols has_sheet.within.1 has_sheet.own.cols.0)
+        (first_before area.cols sheet.table.cols has_sheet.within.1 has_sheet.own.cols.0)
+        (end_small area.cols sheet.table.cols has_sheet.within.1)
+
+    row_is : given.end_row ≡ end_row one_cell area sheet
+    row_is = ap (λ (p : ℕ × ℕ). p.0) has_sheet.are
+
+    col_is : given.end_col ≡ end_col one_cell area sheet
+    col_is = ap (λ (p : ℕ × ℕ). p.1) has_sheet.are
+
+    pub has_room : HasRoom given
+    has_room =
+        let by_rows = rows_between in
+        let by_cols = cols_between in
+        let most_rows = has_sheet.own.rows.1 in
+        let most_cols = has_sheet.own.cols.1 in
+        record {
+          row = omega (arith, by_rows.0, row_is);
+          col = omega (arith, by_cols.0, col_is);
+          rows = omega (arith, by_rows.1, row_is, most_rows);
+          cols = omega (arith, by_cols.1, col_is, most_cols);
+        }
+
+    pub within_sheet : IsWithinSheet book.sheets given
+    within_sheet =
+        let by_rows = rows_between in
+        let by_cols = cols_between in
+        let ends : (given.end_row ≤ sheet.table.rows) × (given.end_col ≤ sheet.table.cols) =
+        (omega (arith, by_rows.1, row_is), omega (arith, by_cols.1, col_is)) in
+        subst (λ found. IsSomeAnd found (λ (one : PlaceSheet). (given.end_row ≤ one.table.rows)
+        × (given.end_col ≤ one.table.cols))) (sym has_sheet.found) ends
+
+    -- what is made, and whether it fits, by the ends
+    abbrev made_to : ℕ × ℕ → Updates
+    made_to ends row col =
+        cond (lies_in (first_row given) ends.0 row && lies_in (first_col given) ends.1 col)
+        (entered (input_at given.block.now (row - first_row given) (col - first_col given))) None
+
+    abbrev fits_to : ℕ × ℕ → Bool
+    fits_to ends =
+        nat_le (first_row given + rows_needed given.block.now) ends.0
+        && nat_le (first_col given + cols_needed given.block.now) ends.1
+
+    abbrev IsAnswerTo : PlaceBook → Result Written Rule → ℕ × ℕ → Type 0
+    IsAnswerTo after answer ends =
+        AreUpdated area.sheet (made_to ends) book after
+        × MatchResult answer
+        (λ done. (broken_by_write (fits_to ends) after ≡ None) × IsWritten area given.block.now (made_to ends) done)
+        (λ rule. broken_by_write (fits_to ends) after ≡ Some rule)
+
+    pub is_write : (after : PlaceBook) (answer : Result Written RuleOr) → IsUnlessNoMemory (IsDone given book after) answer
+        → Found (λ sheet. IsUnlessNoMemory (IsWrite one_cell area given.block.now sheet book after) answer)
+    is_write after answer is =
+        subst (λ found. IsSomeAnd found (λ sheet. IsUnlessNoMemory (IsWrite one_cell area given.block.now sheet book after) answer))
+        (sym has_sheet.found)
+        (unless (IsDone given book after) (IsWrite one_cell area given.block.now sheet book after) (λ one done.
+        let now : IsAnswerTo after one (given.end_row, given.end_col) = (done.updated, done.answered) in
+        let both : IsAnswerTo after one (end_row one_cell area sheet, end_col one_cell area sheet) =
+        subst (IsAnswerTo after one) has_sheet.are now in
+        record { updated = both.0; answered = both.1 }) answer is)
+
+    -- the rectangle of what is written is on the sheet
+    pub written_there : (after : PlaceBook) (answer : Result Written RuleOr)
+        → IsUnlessNoMemory (IsDone given book after) answer → IfOk answer (λ written. IsThere book.sheets written.area)
+    written_there after (Ok written) is =
+        let fit : fits_by given ≡ true =
+        fits_from (nat_lt most_stored (filled_of after.sheets)) (fits_by given) (PastLimit Filled) ValuesPastRange is.answered.0 in
+        let parts = fit_parts given fit in
+        let row = parts.0 in
+        let col = parts.1 in
+        let by_rows = rows_between in
+        let by_cols = cols_between in
+        let room = has_room in
+        let inside : AreaWithin (area_written area given.block.now) sheet.table.rows sheet.table.cols = (
+          (omega arith, omega (arith, row, room.row, by_rows.1, row_is)),
+          (omega arith, omega (arith, col, room.col, by_cols.1, col_is)),
+        ) in
+        subst (IsThere book.sheets) (sym is.answered.1.area_is)
+        (subst (λ found. IsSomeAnd found (λ (one : PlaceSheet). AreaWithin (area_written area given.block.now)
+        one.table.rows one.table.cols)) (sym has_sheet.found) inside)
+    written_there after (Err (refusal.Rule rule)) is = tt
+    written_there after (Err refusal.NoMemory) is = tt

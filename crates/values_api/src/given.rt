@@ -1,0 +1,245 @@
+ghost use Rattle.std.specs.Prelude.{◌≡◌, ◌+◌, ◌-◌, ◌<◌, ◌≤◌, IfOk, IsTrue, OnOk, Contains, length, map, nat_le, get_or, unwrap_or};
+ghost use Rattle.std.specs.Option.{option_copied};
+ghost use Rattle.cell_value.specs.declared.entered.Input.TheVariants.{Skip};
+ghost use Rattle.values_api.specs.Blocks.{longest, rows_needed, cols_needed, input_at, entered, is_given, lines_from, area_written, AreLines};
+ghost use Rattle.values_api.specs.Updates.{AreUpdated};
+ghost use Rattle.values_api.specs.Given.{HasRoom, IsWithinSheet, AreGiven, AreGivenBefore, first_row, first_col, made_by, fits_by, turned, room, cell_for, line_given, line_on};
+
+use cell_value::{Block, Duplicate, Input, Items, NoMemory};
+use dimension_ops::Book;
+use grid_range::{Area, Axis, Band};
+use ref_rewrite::Content;
+use std::alloc::Global;
+use world_model::{updates_are_writes, updates_follow};
+
+/// Values for the cells from the first one of an area on, as far as the ends.
+#[derive(Drop)]
+pub(crate) struct Given<'a> {
+    pub(crate) alloc: Global,
+    pub(crate) area: &'a Area,
+    pub(crate) block: &'a Block,
+    /// The row behind the last one that may take a value.
+    pub(crate) end_row: u32,
+    /// The column behind the last one.
+    pub(crate) end_col: u32,
+}
+
+impl<'a> Given<'a> {
+    /// The cells that are written or emptied, line by line.
+    pub(crate) fn cells(&self) -> Result<Items<(u32, u32)>, NoMemory>
+        requires { HasRoom self.now }
+        ensures { IfOk result (AreGiven self.now) }
+    {
+        let values = self.block.values.as_slice();
+        let mut cells = Vec::new(self.alloc);
+        for line in 0..values.len().min(self.room().0) {
+            self.add_line(&mut cells, line, values[line].as_slice())?;
+        }
+        Ok(Items::of(cells))
+    }
+
+    /// Adds those of a line.
+    fn add_line(
+        &self,
+        cells: &mut Vec<(u32, u32)>,
+        line: usize,
+        inputs: &[Input],
+    ) -> Result<(), NoMemory>
+        requires room { HasRoom self.now }
+        requires there { line < (room self.now).0 }
+        requires few { line < length self.now.block.now.values }
+        requires inputs { inputs.now ≡ line_given self.now line }
+        requires before { AreGivenBefore self.now line 0 cells.old.items }
+        ensures { OnOk result (AreGivenBefore self.now (line + 1) 0 cells.new.items) }
+    {
+        for place in 0..inputs.len().min(self.room().1) {
+            if is_given(&inputs[place]) {
+                cells.push(self.cell_for(line, place))?;
+            }
+        }
+        Ok(())
+    }
+
+    /// How many lines of values there may be, and how many places in each.
+    fn room(&self) -> (usize, usize)
+        requires { HasRoom self.now }
+        ensures { result ≡ room self.now }
+    {
+        let rows = self.end_row - self.area.rows.first_line();
+        let cols = self.end_col - self.area.cols.first_line();
+        self.turned(rows as usize, cols as usize)
+    }
+
+    /// The cell of the value at a place of a line.
+    fn cell_for(&self, line: usize, place: usize) -> (u32, u32)
+        requires room { HasRoom self.now }
+        requires line { line < (room self.now).0 }
+        requires place { place < (room self.now).1 }
+        ensures { result ≡ cell_for self.now line place }
+    {
+        let (row, col) = self.turned(line, place);
+        (
+            self.area.rows.first_line() + row as u32,
+            self.area.cols.first_line() + col as u32,
+        )
+    }
+
+    /// Rows and columns as lines and places in them, or the other way round.
+    fn turned(&self, row: usize, col: usize) -> (usize, usize)
+        ensures { result ≡ turned self.now row col }
+    {
+        if self.block.columns_first {
+            (col, row)
+        } else {
+            (row, col)
+        }
+    }
+
+    /// Writes to those cells, or empties them.
+    pub(crate) fn put(&self, book: &mut Book, cells: &[(u32, u32)]) -> Result<(), NoMemory>
+        requires sheet { IsWithinSheet book.old.sheets self.now }
+        requires cells { AreGiven self.now cells.now }
+        ensures { OnOk result (AreUpdated self.now.area.now.sheet (made_by self.now) book.old book.new) }
+    {
+        updates_are_writes();
+        updates_follow();
+        book.stays_sound();
+        for cell in cells {
+            if let Some(content) = self.made(cell.0, cell.1)? {
+                book.put(self.area.sheet, cell.0, cell.1, content)?;
+            }
+        }
+        book.stays_sound();
+        Ok(())
+    }
+
+    /// What the cell is to hold; None where it is left alone.
+    fn made(&self, row: u32, col: u32) -> Result<Option<Option<Content>>, NoMemory>
+        requires row { first_row self.now ≤ row }
+        requires col { first_col self.now ≤ col }
+        ensures { IfOk result (λ made. made
+            ≡ entered (input_at self.now.block.now (row - first_row self.now) (col - first_col self.now))) }
+    {
+        let row = row - self.area.rows.first_line();
+        let col = col - self.area.cols.first_line();
+        let (line, place) = self.turned(row as usize, col as usize);
+        match self.input(line, place) {
+            Some(input) => entered(input),
+            None => Ok(None),
+        }
+    }
+
+    /// The value at a place of a line; None beside the values.
+    fn input(&self, line: usize, place: usize) -> Option<&Input>
+        ensures { unwrap_or (option_copied result) Skip ≡ get_or (line_given self.now line) place Skip }
+    {
+        match self.block.values.as_slice().get(line) {
+            Some(inputs) => inputs.as_slice().get(place),
+            None => None,
+        }
+    }
+
+    /// Whether the values need no line behind the ends.
+    pub(crate) fn fits(&self) -> bool
+        ensures { result ≡ fits_by self.now }
+    {
+        let (rows, cols) = self.needed();
+        is_within(self.area.rows.first_line(), rows, self.end_row)
+            && is_within(self.area.cols.first_line(), cols, self.end_col)
+    }
+
+    /// The rectangle of the values, which has one cell at least.
+    pub(crate) fn rectangle(&self) -> Area
+        requires room { HasRoom self.now }
+        requires fits { IsTrue (fits_by self.now) }
+        ensures { result ≡ area_written self.now.area.now self.now.block.now }
+    {
+        let (rows, cols) = self.needed();
+        Area {
+            sheet: self.area.sheet,
+            rows: lines_from(self.area.rows.first_line(), rows),
+            cols: lines_from(self.area.cols.first_line(), cols),
+        }
+    }
+
+    /// How many rows and columns the values need.
+    fn needed(&self) -> (usize, usize)
+        ensures { result ≡ (rows_needed self.now.block.now, cols_needed self.now.block.now) }
+    {
+        let values = self.block.values.as_slice();
+        self.turned(values.len(), longest(values))
+    }
+}
+
+/// How many values the longest line has.
+fn longest(lines: &[Items<Input>]) -> usize
+    ensures { result ≡ longest lines.now }
+{
+    lines
+        .iter()
+        .fold(0, |most, inputs| most.max(inputs.as_slice().len()))
+}
+
+/// Whether so many lines from the first one on end at the end, or before.
+fn is_within(first: u32, count: usize, end: u32) -> bool
+    ensures { result ≡ nat_le (first + count) end }
+{
+    first <= end && count as u64 <= (end - first) as u64
+}
+
+/// So many lines from the first one on, and one at least.
+fn lines_from(first: u32, count: usize) -> Band
+    requires few { first + count ≤ 1000000 }
+    requires there { first < 1000000 }
+    ensures { result ≡ lines_from first count }
+{
+    Band::Span(first, first + (count as u32).max(1))
+}
+
+/// Whether a value is for a cell: it isn't left out.
+fn is_given(input: &Input) -> bool
+    ensures { result ≡ is_given input.now }
+{
+    !matches!(input, Input::Skip)
+}
+
+/// What a value makes of its cell; None where it leaves it alone.
+fn entered(input: &Input) -> Result<Option<Option<Content>>, NoMemory>
+    ensures { IfOk result (λ made. made ≡ entered input.now) }
+{
+    match input {
+        Input::Skip => Ok(None),
+        Input::Empty => Ok(Some(None)),
+        Input::Number(number) => Ok(Some(Some(Content::Number(*number)))),
+        Input::Text(text) => Ok(Some(Some(Content::Text(text.duplicate()?)))),
+        Input::Truth(truth) => Ok(Some(Some(Content::Truth(*truth)))),
+        Input::FormulaText(text) => Ok(Some(Some(Content::Text(text.duplicate()?)))),
+    }
+}
+
+/// The cells' rows, or their columns, in order, each once.
+pub(crate) fn lines_on(
+    alloc: Global,
+    axis: Axis,
+    cells: &[(u32, u32)],
+) -> Result<Items<u32>, NoMemory>
+    ensures { IfOk result (AreLines (Contains (map (line_on axis) cells.now))) }
+{
+    let mut lines = Vec::new(alloc);
+    for cell in cells {
+        lines.push(line_on(axis, *cell))?;
+    }
+    lines.sort_unstable();
+    lines.dedup();
+    Ok(Items::of(lines))
+}
+
+/// The cell's row, or its column.
+fn line_on(axis: Axis, cell: (u32, u32)) -> u32
+    ensures { result ≡ line_on axis cell }
+{
+    match axis {
+        Axis::Rows => cell.0,
+        Axis::Columns => cell.1,
+    }
+}

@@ -1,0 +1,114 @@
+ghost use Rattle.std.specs.Prelude.{◌≡◌, IfOk, IsSomeAnd};
+ghost use Rattle.world_model.specs.Sound.{place_sheet_with};
+ghost use Rattle.dimension_ops.specs.Rules.{IsUnlessNoMemory};
+ghost use Rattle.values_api.specs.Blocks.{IsWrite, end_row, end_col};
+ghost use Rattle.values_api.specs.Given.{HasRoom, IsWithinSheet, AreGiven, IsAnswer, IsDone};
+ghost use Rattle.values_api.specs.Ranges.{IsThere};
+
+use crate::given::{Given, lines_on};
+use cell_value::{Block, Items};
+use dimension_ops::{Book, Limit, Rule, RuleOr};
+use grid_range::{Area, Axis};
+use std::alloc::Global;
+
+/// How many cells of a spreadsheet can be stored.
+const MOST_STORED: u64 = 1_000_000;
+
+/// What a write did (Sheets API v4 reference, UpdateValuesResponse).
+#[derive(Debug, Drop)]
+pub struct Written {
+    /// The rectangle of the values.
+    pub area: Area,
+    /// The rows with a cell that was written or emptied, in order, counted from 0.
+    pub rows: Items<u32>,
+    /// The columns with such a cell, in order, counted from 0.
+    pub cols: Items<u32>,
+    /// How many such cells there are.
+    pub cells: u64,
+}
+
+/// Writes values from the first corner of an area on (Sheets API v4 reference, spreadsheets.values.update).
+/// Where the area was named as one cell they may go on to the end of the sheet, and else to the area's
+/// end. Nothing denies a user a cell yet.
+///
+/// # Errors
+///
+/// [`Rule::PastLimit`] with [`Limit::Filled`] where more than 1,000,000 cells of the spreadsheet would be
+/// stored; [`Rule::ValuesPastRange`] where the values need a line behind those; [`RuleOr::NoMemory`] where
+/// memory runs out. The spreadsheet is to be given up then.
+pub fn write_values(
+    alloc: Global,
+    book: &mut Book,
+    _user: &str,
+    area: &Area,
+    one_cell: bool,
+    block: &Block,
+) -> Result<Written, RuleOr>
+    requires { IsThere book.old.sheets area.now }
+    ensures written { IsSomeAnd (place_sheet_with area.now.sheet book.old.sheets)
+        (λ sheet. IsUnlessNoMemory (IsWrite one_cell area.now block.now sheet book.old book.new) result) }
+    ensures there { IfOk result (λ written. IsThere book.old.sheets written.area) }
+{
+    book.stays_sound();
+    let (end_row, end_col) = ends(book, area, one_cell);
+    let given = Given {
+        alloc,
+        area,
+        block,
+        end_row,
+        end_col,
+    };
+    write(&given, book)
+}
+
+/// The row and the column behind the last ones that values may be written to.
+fn ends(book: &Book, area: &Area, one_cell: bool) -> (u32, u32)
+    requires { IsThere book.now.sheets area.now }
+    ensures { IsSomeAnd (place_sheet_with area.now.sheet book.now.sheets)
+        (λ sheet. result ≡ (end_row one_cell area.now sheet, end_col one_cell area.now sheet)) }
+{
+    match book.sheet(area.sheet) {
+        Some(sheet) => {
+            if one_cell {
+                (sheet.rows(), sheet.cols())
+            } else {
+                (
+                    area.rows.end_line(sheet.rows()),
+                    area.cols.end_line(sheet.cols()),
+                )
+            }
+        }
+        None => (0, 0),
+    }
+}
+
+/// Writes the values as far as the ends.
+fn write(given: &Given<'_>, book: &mut Book) -> Result<Written, RuleOr>
+    requires room { HasRoom given.now }
+    requires sheet { IsWithinSheet book.old.sheets given.now }
+    ensures { IsUnlessNoMemory (IsDone given.now book.old book.new) result }
+{
+    let cells = given.cells()?;
+    given.put(book, cells.as_slice())?;
+    answer(given, book, cells.as_slice())
+}
+
+/// The answer to a write, of which these cells were written or emptied; the rule that it breaks, if any.
+fn answer(given: &Given<'_>, book: &Book, cells: &[(u32, u32)]) -> Result<Written, RuleOr>
+    requires room { HasRoom given.now }
+    requires cells { AreGiven given.now cells.now }
+    ensures { IsUnlessNoMemory (IsAnswer given.now book.now) result }
+{
+    if book.filled() > MOST_STORED {
+        return Err(RuleOr::Rule(Rule::PastLimit(Limit::Filled)));
+    }
+    if !given.fits() {
+        return Err(RuleOr::Rule(Rule::ValuesPastRange));
+    }
+    Ok(Written {
+        area: given.rectangle(),
+        rows: lines_on(given.alloc, Axis::Rows, cells)?,
+        cols: lines_on(given.alloc, Axis::Columns, cells)?,
+        cells: cells.len() as u64,
+    })
+}
