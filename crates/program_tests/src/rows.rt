@@ -85,82 +85,23 @@ const BAD_REQUEST: &str = "400 Bad Request";
 
 const CLOSE: &str = "Connection: close\r\n";
 
-const NO_ROUTE: &str =
-    "{\"error\":{\"code\":404,\"message\":\"NoRoute\",\"status\":\"NOT_FOUND\"}}";
-
-const BAD_HEAD: &str =
-    "{\"error\":{\"code\":400,\"message\":\"BadHead\",\"status\":\"INVALID_ARGUMENT\"}}";
-
-const BAD_BODY: &str =
-    "{\"error\":{\"code\":400,\"message\":\"BadBody\",\"status\":\"INVALID_ARGUMENT\"}}";
-
 /// Requests and their answers, known from outside.
-pub(crate) static EXCHANGES: [Exchange; 37] = [
+pub(crate) static EXCHANGES: [Exchange; 79] = [
     (
         &[("GET /v4/spreadsheets/book1", "Host: localhost\r\n", "")],
         NOT_FOUND,
         "",
-        NO_ROUTE,
+        "{\"error\":{\"code\":404,\"message\":\"NoRoute\",\"status\":\"NOT_FOUND\"}}",
     ),
     (
         &[(
-            "GET /v4/spreadsheets/book1/values/Sheet1!AA1",
-            "Host: localhost\r\n",
-            "",
+            "POST /v4/spreadsheets/book1:batchUpdate",
+            "Content-Length: 2\r\n",
+            "{}",
         )],
         NOT_FOUND,
         "",
-        NO_ROUTE,
-    ),
-    (
-        &[(
-            "GET /v4/spreadsheets/book1/values/Sheet1!A1001",
-            "Host: localhost\r\n",
-            "",
-        )],
-        NOT_FOUND,
-        "",
-        NO_ROUTE,
-    ),
-    (
-        &[(
-            "GET /v4/spreadsheets/book1/values/Sheet1!a1",
-            "Host: localhost\r\n",
-            "",
-        )],
-        NOT_FOUND,
-        "",
-        NO_ROUTE,
-    ),
-    (
-        &[(
-            "GET /v4/spreadsheets/book1/values/sheet1!A1",
-            "Host: localhost\r\n",
-            "",
-        )],
-        NOT_FOUND,
-        "",
-        NO_ROUTE,
-    ),
-    (
-        &[(
-            "GET /v4/spreadsheets/book1/values/Sheet1!B2:A1",
-            "Host: localhost\r\n",
-            "",
-        )],
-        NOT_FOUND,
-        "",
-        NO_ROUTE,
-    ),
-    (
-        &[(
-            "GET /v4/spreadsheets/book1/values/A1",
-            "Host: localhost\r\n",
-            "",
-        )],
-        NOT_FOUND,
-        "",
-        NO_ROUTE,
+        "{\"error\":{\"code\":404,\"message\":\"NoRoute\",\"status\":\"NOT_FOUND\"}}",
     ),
     (
         &[(
@@ -170,37 +111,13 @@ pub(crate) static EXCHANGES: [Exchange; 37] = [
         )],
         NOT_FOUND,
         "",
-        NO_ROUTE,
+        "{\"error\":{\"code\":404,\"message\":\"NoRoute\",\"status\":\"NOT_FOUND\"}}",
     ),
     (
-        &[(
-            "GET /v4/spreadsheets/book1/values/Sheet1!A1?",
-            "Host: localhost\r\n",
-            "",
-        )],
+        &[("GET /v4/spreadsheets/book1/values/Sheet1!A1/", "", "")],
         NOT_FOUND,
         "",
-        NO_ROUTE,
-    ),
-    (
-        &[(
-            "GET /v4/spreadsheets/book1/values/Sheet1!A1/",
-            "Host: localhost\r\n",
-            "",
-        )],
-        NOT_FOUND,
-        "",
-        NO_ROUTE,
-    ),
-    (
-        &[(
-            "GET /v4/spreadsheets/book2/values/Sheet1!A1",
-            "Host: localhost\r\n",
-            "",
-        )],
-        NOT_FOUND,
-        "",
-        NO_ROUTE,
+        "{\"error\":{\"code\":404,\"message\":\"NoRoute\",\"status\":\"NOT_FOUND\"}}",
     ),
     (
         &[(
@@ -210,7 +127,67 @@ pub(crate) static EXCHANGES: [Exchange; 37] = [
         )],
         NOT_FOUND,
         "",
-        NO_ROUTE,
+        "{\"error\":{\"code\":404,\"message\":\"NoRoute\",\"status\":\"NOT_FOUND\"}}",
+    ),
+    (
+        &[(
+            "GET /v4/spreadsheets/book9/values/Sheet1!A1",
+            "Host: localhost\r\n",
+            "",
+        )],
+        NOT_FOUND,
+        "",
+        "{\"error\":{\"code\":404,\"message\":\"NoBook\",\"status\":\"NOT_FOUND\"}}",
+    ),
+    (
+        &[(
+            "GET /v4/spreadsheets/book9/values/Nowhere!A1",
+            "Content-Length: 2\r\n",
+            "{}",
+        )],
+        NOT_FOUND,
+        "",
+        "{\"error\":{\"code\":404,\"message\":\"NoBook\",\"status\":\"NOT_FOUND\"}}",
+    ),
+    (
+        &[(
+            "GET /v4/spreadsheets/book1/values/A1?valueRenderOption=SHOWN",
+            "",
+            "",
+        )],
+        BAD_REQUEST,
+        "",
+        "{\"error\":{\"code\":400,\"message\":\"BadQuery\",\"status\":\"INVALID_ARGUMENT\"}}",
+    ),
+    (
+        &[(
+            "GET /v4/spreadsheets/book1/values/A1?valueRenderOption=FORMULA",
+            "",
+            "",
+        )],
+        BAD_REQUEST,
+        "",
+        "{\"error\":{\"code\":400,\"message\":\"BadQuery\",\"status\":\"INVALID_ARGUMENT\"}}",
+    ),
+    (
+        &[(
+            "PUT /v4/spreadsheets/book1/values/A1",
+            "Content-Length: 16\r\n",
+            "{\"values\":[[1]]}",
+        )],
+        BAD_REQUEST,
+        "",
+        "{\"error\":{\"code\":400,\"message\":\"BadQuery\",\"status\":\"INVALID_ARGUMENT\"}}",
+    ),
+    (
+        &[(
+            "PUT /v4/spreadsheets/book1/values/A1?valueInputOption=USER_ENTERED",
+            "Content-Length: 16\r\n",
+            "{\"values\":[[1]]}",
+        )],
+        BAD_REQUEST,
+        "",
+        "{\"error\":{\"code\":400,\"message\":\"BadQuery\",\"status\":\"INVALID_ARGUMENT\"}}",
     ),
     (
         &[(
@@ -220,7 +197,7 @@ pub(crate) static EXCHANGES: [Exchange; 37] = [
         )],
         BAD_REQUEST,
         CLOSE,
-        BAD_HEAD,
+        "{\"error\":{\"code\":400,\"message\":\"BadHead\",\"status\":\"INVALID_ARGUMENT\"}}",
     ),
     (
         &[(
@@ -230,7 +207,7 @@ pub(crate) static EXCHANGES: [Exchange; 37] = [
         )],
         BAD_REQUEST,
         CLOSE,
-        BAD_HEAD,
+        "{\"error\":{\"code\":400,\"message\":\"BadHead\",\"status\":\"INVALID_ARGUMENT\"}}",
     ),
     (
         &[(
@@ -240,7 +217,13 @@ pub(crate) static EXCHANGES: [Exchange; 37] = [
         )],
         BAD_REQUEST,
         CLOSE,
-        BAD_HEAD,
+        "{\"error\":{\"code\":400,\"message\":\"BadHead\",\"status\":\"INVALID_ARGUMENT\"}}",
+    ),
+    (
+        &[("GET ", "Host: localhost\r\n", "")],
+        BAD_REQUEST,
+        CLOSE,
+        "{\"error\":{\"code\":400,\"message\":\"BadHead\",\"status\":\"INVALID_ARGUMENT\"}}",
     ),
     (
         &[
@@ -249,192 +232,497 @@ pub(crate) static EXCHANGES: [Exchange; 37] = [
                 "connection: Close\r\n",
                 "",
             ),
-            ("GET /v4/spreadsheets/book1", "Host: localhost\r\n", ""),
+            ("GET /v4/spreadsheets/book1/values/B1", "", ""),
         ],
         OK,
         CLOSE,
         "{\"majorDimension\":\"ROWS\",\"range\":\"Sheet1!A1\"}",
     ),
     (
-        &[("GET ", "Host: localhost\r\n", "")],
-        BAD_REQUEST,
-        CLOSE,
-        BAD_HEAD,
+        &[("GET /v4/spreadsheets/book1/values/B2", "", "")],
+        OK,
+        "",
+        "{\"majorDimension\":\"ROWS\",\"range\":\"Sheet1!B2\"}",
+    ),
+    (
+        &[("GET /v4/spreadsheets/book1/values/B2:A1", "", "")],
+        OK,
+        "",
+        "{\"majorDimension\":\"ROWS\",\"range\":\"Sheet1!A1:B2\"}",
+    ),
+    (
+        &[("GET /v4/spreadsheets/book1/values/A:B", "", "")],
+        OK,
+        "",
+        "{\"majorDimension\":\"ROWS\",\"range\":\"Sheet1!A1:B1000\"}",
+    ),
+    (
+        &[("GET /v4/spreadsheets/book1/values/1:2", "", "")],
+        OK,
+        "",
+        "{\"majorDimension\":\"ROWS\",\"range\":\"Sheet1!A1:Z2\"}",
+    ),
+    (
+        &[("GET /v4/spreadsheets/book1/values/A5:B", "", "")],
+        OK,
+        "",
+        "{\"majorDimension\":\"ROWS\",\"range\":\"Sheet1!A5:B1000\"}",
+    ),
+    (
+        &[("GET /v4/spreadsheets/book1/values/sheet1!a1", "", "")],
+        OK,
+        "",
+        "{\"majorDimension\":\"ROWS\",\"range\":\"Sheet1!A1\"}",
     ),
     (
         &[(
-            "PUT /v4/spreadsheets/book1/values/Sheet1!A1?valueInputOption=RAW",
+            "GET /v4/spreadsheets/book1/values/%27Sheet1%27!A1:B2",
+            "",
+            "",
+        )],
+        OK,
+        "",
+        "{\"majorDimension\":\"ROWS\",\"range\":\"Sheet1!A1:B2\"}",
+    ),
+    (
+        &[("GET /v4/spreadsheets/book1/values/%27SHEET1%27", "", "")],
+        OK,
+        "",
+        "{\"majorDimension\":\"ROWS\",\"range\":\"Sheet1!A1:Z1000\"}",
+    ),
+    (
+        &[("GET /v4/spreadsheets/book1/values/Sheet1", "", "")],
+        OK,
+        "",
+        "{\"majorDimension\":\"ROWS\",\"range\":\"Sheet1!A1:Z1000\"}",
+    ),
+    (
+        &[("GET /v4/spreadsheets/book1/values/Y999:AB1002", "", "")],
+        OK,
+        "",
+        "{\"majorDimension\":\"ROWS\",\"range\":\"Sheet1!Y999:Z1000\"}",
+    ),
+    (
+        &[("GET /v4/spreadsheets/book1/values/Sheet1!A1?", "", "")],
+        OK,
+        "",
+        "{\"majorDimension\":\"ROWS\",\"range\":\"Sheet1!A1\"}",
+    ),
+    (
+        &[("GET /v4/spreadsheets/book1/values/ZZZ1", "", "")],
+        BAD_REQUEST,
+        "",
+        "{\"error\":{\"code\":400,\"message\":\"OutsideGrid\",\"status\":\"INVALID_ARGUMENT\"}}",
+    ),
+    (
+        &[("GET /v4/spreadsheets/book1/values/Sheet1!AA1", "", "")],
+        BAD_REQUEST,
+        "",
+        "{\"error\":{\"code\":400,\"message\":\"OutsideGrid\",\"status\":\"INVALID_ARGUMENT\"}}",
+    ),
+    (
+        &[("GET /v4/spreadsheets/book1/values/Sheet1!A1001", "", "")],
+        BAD_REQUEST,
+        "",
+        "{\"error\":{\"code\":400,\"message\":\"OutsideGrid\",\"status\":\"INVALID_ARGUMENT\"}}",
+    ),
+    (
+        &[("GET /v4/spreadsheets/book1/values/AAAA1", "", "")],
+        BAD_REQUEST,
+        "",
+        "{\"error\":{\"code\":400,\"message\":\"BadRange\",\"status\":\"INVALID_ARGUMENT\"}}",
+    ),
+    (
+        &[("GET /v4/spreadsheets/book1/values/A01", "", "")],
+        BAD_REQUEST,
+        "",
+        "{\"error\":{\"code\":400,\"message\":\"BadRange\",\"status\":\"INVALID_ARGUMENT\"}}",
+    ),
+    (
+        &[("GET /v4/spreadsheets/book1/values/Sheet1!AAAA1", "", "")],
+        BAD_REQUEST,
+        "",
+        "{\"error\":{\"code\":400,\"message\":\"BadRange\",\"status\":\"INVALID_ARGUMENT\"}}",
+    ),
+    (
+        &[("GET /v4/spreadsheets/book1/values/Nowhere!A1", "", "")],
+        BAD_REQUEST,
+        "",
+        "{\"error\":{\"code\":400,\"message\":\"NoSheet\",\"status\":\"INVALID_ARGUMENT\"}}",
+    ),
+    (
+        &[("GET /v4/spreadsheets/book1/values/%27Nowhere%27", "", "")],
+        BAD_REQUEST,
+        "",
+        "{\"error\":{\"code\":400,\"message\":\"NoSheet\",\"status\":\"INVALID_ARGUMENT\"}}",
+    ),
+    (
+        &[("GET /v4/spreadsheets/book1/values/Nowhere", "", "")],
+        BAD_REQUEST,
+        "",
+        "{\"error\":{\"code\":400,\"message\":\"BadRange\",\"status\":\"INVALID_ARGUMENT\"}}",
+    ),
+    (
+        &[
+            (
+                "PUT /v4/spreadsheets/book1/values/Sheet1!A1:B2?valueInputOption=RAW",
+                "Content-Length: 27\r\n",
+                "{\"values\":[[1,\"x\"],[true]]}",
+            ),
+            (
+                "GET /v4/spreadsheets/book1/values/A1:B2?valueRenderOption=UNFORMATTED_VALUE",
+                "",
+                "",
+            ),
+        ],
+        OK,
+        "",
+        "{\"majorDimension\":\"ROWS\",\"range\":\"Sheet1!A1:B2\",\"values\":[[1,\"x\"],[true]]}",
+    ),
+    (
+        &[
+            (
+                "PUT /v4/spreadsheets/book1/values/Sheet1!A1:B2?valueInputOption=RAW",
+                "Content-Length: 27\r\n",
+                "{\"values\":[[1,\"x\"],[true]]}",
+            ),
+            (
+                "GET /v4/spreadsheets/book1/values/A1:B2?majorDimension=COLUMNS",
+                "",
+                "",
+            ),
+        ],
+        OK,
+        "",
+        "{\"majorDimension\":\"COLUMNS\",\"range\":\"Sheet1!A1:B2\",\"values\":[[\"1\",\"TRUE\"],[\"x\"]]}",
+    ),
+    (
+        &[
+            (
+                "PUT /v4/spreadsheets/book1/values/Sheet1!A1:B2?valueInputOption=RAW",
+                "Content-Length: 27\r\n",
+                "{\"values\":[[1,\"x\"],[true]]}",
+            ),
+            ("GET /v4/spreadsheets/book1/values/Sheet1?alt=json", "", ""),
+        ],
+        OK,
+        "",
+        "{\"majorDimension\":\"ROWS\",\"range\":\"Sheet1!A1:Z1000\",\"values\":[[\"1\",\"x\"],[\"TRUE\"]]}",
+    ),
+    (
+        &[
+            (
+                "PUT /v4/spreadsheets/book1/values/C3?valueInputOption=RAW",
+                "Content-Length: 16\r\n",
+                "{\"values\":[[5]]}",
+            ),
+            ("GET /v4/spreadsheets/book1/values/A2:D5", "", ""),
+        ],
+        OK,
+        "",
+        "{\"majorDimension\":\"ROWS\",\"range\":\"Sheet1!A2:D5\",\"values\":[[],[\"\",\"\",\"5\"]]}",
+    ),
+    (
+        &[(
+            "GET /v4/spreadsheets/book1/values/A1",
+            "Content-Length: 2\r\n",
+            "{}",
+        )],
+        BAD_REQUEST,
+        "",
+        "{\"error\":{\"code\":400,\"message\":\"BadBody\",\"status\":\"INVALID_ARGUMENT\"}}",
+    ),
+    (
+        &[(
+            "PUT /v4/spreadsheets/book1/values/A1?valueInputOption=RAW",
             "Content-Length: 31\r\n",
             "{\"values\":[[9007199254740992]]}",
         )],
         OK,
         "",
-        "{\"spreadsheetId\":\"book1\",\"updatedCells\":1,\"updatedColumns\":1,\
-\"updatedRange\":\"Sheet1!A1\",\"updatedRows\":1}",
+        "{\"spreadsheetId\":\"book1\",\"updatedCells\":1,\"updatedColumns\":1,\"updatedRange\":\"Sheet1!A1\",\"updatedRows\":1}",
     ),
     (
         &[(
-            "PUT /v4/spreadsheets/book1/values/Sheet1!A1?valueInputOption=RAW",
+            "PUT /v4/spreadsheets/book1/values/A1?valueInputOption=RAW",
+            "Content-Length: 31\r\n",
+            "{\"values\":[[9007199254740993]]}",
+        )],
+        BAD_REQUEST,
+        "",
+        "{\"error\":{\"code\":400,\"message\":\"BadNumber\",\"status\":\"INVALID_ARGUMENT\"}}",
+    ),
+    (
+        &[(
+            "PUT /v4/spreadsheets/book1/values/A1?valueInputOption=RAW",
             "Content-Length: 32\r\n",
             "{\"values\":[[-9007199254740993]]}",
         )],
         BAD_REQUEST,
         "",
-        BAD_BODY,
+        "{\"error\":{\"code\":400,\"message\":\"BadNumber\",\"status\":\"INVALID_ARGUMENT\"}}",
     ),
     (
         &[(
-            "PUT /v4/spreadsheets/book1/values/Sheet1!A1?valueInputOption=RAW",
+            "PUT /v4/spreadsheets/book1/values/A1?valueInputOption=RAW",
+            "Content-Length: 18\r\n",
+            "{\"values\":[[1.5]]}",
+        )],
+        BAD_REQUEST,
+        "",
+        "{\"error\":{\"code\":400,\"message\":\"BadNumber\",\"status\":\"INVALID_ARGUMENT\"}}",
+    ),
+    (
+        &[(
+            "PUT /v4/spreadsheets/book1/values/A1?valueInputOption=RAW",
             "Content-Length: 18\r\n",
             "{\"values\":[[1.0]]}",
         )],
         BAD_REQUEST,
         "",
-        BAD_BODY,
+        "{\"error\":{\"code\":400,\"message\":\"BadNumber\",\"status\":\"INVALID_ARGUMENT\"}}",
     ),
     (
         &[(
-            "PUT /v4/spreadsheets/book1/values/Sheet1!A1?valueInputOption=RAW",
+            "PUT /v4/spreadsheets/book1/values/A1?valueInputOption=RAW",
             "Content-Length: 18\r\n",
             "{\"values\":[[[1]]]}",
         )],
         BAD_REQUEST,
         "",
-        BAD_BODY,
+        "{\"error\":{\"code\":400,\"message\":\"BadShape\",\"status\":\"INVALID_ARGUMENT\"}}",
     ),
     (
         &[(
-            "PUT /v4/spreadsheets/book1/values/Sheet1!A1?valueInputOption=RAW",
+            "PUT /v4/spreadsheets/book1/values/A1?valueInputOption=RAW",
             "Content-Length: 12\r\n",
             "{\"values\":1}",
         )],
         BAD_REQUEST,
         "",
-        BAD_BODY,
+        "{\"error\":{\"code\":400,\"message\":\"BadShape\",\"status\":\"INVALID_ARGUMENT\"}}",
     ),
     (
         &[(
-            "PUT /v4/spreadsheets/book1/values/Sheet1!A1?valueInputOption=RAW",
-            "Content-Length: 36\r\n",
-            "{\"values\":[[3]],\"range\":\"Sheet1!A1\"}",
+            "PUT /v4/spreadsheets/book1/values/Nowhere!A1?valueInputOption=RAW",
+            "Content-Length: 17\r\n",
+            "{\"values\":[[{}]]}",
         )],
         BAD_REQUEST,
         "",
-        BAD_BODY,
+        "{\"error\":{\"code\":400,\"message\":\"BadShape\",\"status\":\"INVALID_ARGUMENT\"}}",
     ),
     (
         &[(
-            "PUT /v4/spreadsheets/book1/values/Sheet1!A1?valueInputOption=RAW",
+            "PUT /v4/spreadsheets/book1/values/A1?valueInputOption=RAW",
             "Content-Length: 5\r\n",
             "[[3]]",
         )],
         BAD_REQUEST,
         "",
-        BAD_BODY,
+        "{\"error\":{\"code\":400,\"message\":\"BadBody\",\"status\":\"INVALID_ARGUMENT\"}}",
     ),
     (
         &[(
-            "PUT /v4/spreadsheets/book1/values/Sheet1!A1?valueInputOption=RAW",
+            "PUT /v4/spreadsheets/book1/values/A1?valueInputOption=RAW",
             "Content-Length: 0\r\n",
             "",
         )],
         BAD_REQUEST,
         "",
-        BAD_BODY,
+        "{\"error\":{\"code\":400,\"message\":\"BadBody\",\"status\":\"INVALID_ARGUMENT\"}}",
     ),
     (
         &[(
-            "PUT /v4/spreadsheets/book1/values/Sheet1!A1?valueInputOption=RAW",
+            "PUT /v4/spreadsheets/book1/values/A1?valueInputOption=RAW",
+            "Content-Length: 26\r\n",
+            "{\"values\":[[3]],\"value\":1}",
+        )],
+        BAD_REQUEST,
+        "",
+        "{\"error\":{\"code\":400,\"message\":\"BadBody\",\"status\":\"INVALID_ARGUMENT\"}}",
+    ),
+    (
+        &[(
+            "PUT /v4/spreadsheets/book1/values/A1?valueInputOption=RAW",
+            "Content-Length: 41\r\n",
+            "{\"values\":[[3]],\"majorDimension\":\"LINES\"}",
+        )],
+        BAD_REQUEST,
+        "",
+        "{\"error\":{\"code\":400,\"message\":\"BadBody\",\"status\":\"INVALID_ARGUMENT\"}}",
+    ),
+    (
+        &[(
+            "PUT /v4/spreadsheets/book1/values/A1?valueInputOption=RAW",
             "Content-Length: 31\r\n",
             "{\"values\":[[3]],\"values\":[[4]]}",
         )],
         OK,
         "",
-        "{\"spreadsheetId\":\"book1\",\"updatedCells\":1,\"updatedColumns\":1,\
-\"updatedRange\":\"Sheet1!A1\",\"updatedRows\":1}",
+        "{\"spreadsheetId\":\"book1\",\"updatedCells\":1,\"updatedColumns\":1,\"updatedRange\":\"Sheet1!A1\",\"updatedRows\":1}",
     ),
     (
         &[(
-            "PUT /v4/spreadsheets/book1/values/Sheet1!A1?valueInputOption=RAW",
+            "PUT /v4/spreadsheets/book1/values/A1?valueInputOption=RAW",
             "Content-Encoding: gzip\r\nContent-Length: 16\r\n",
             "{\"values\":[[3]]}",
         )],
         BAD_REQUEST,
         "",
-        BAD_BODY,
+        "{\"error\":{\"code\":400,\"message\":\"BadBody\",\"status\":\"INVALID_ARGUMENT\"}}",
     ),
     (
         &[(
-            "PUT /v4/spreadsheets/book1/values/Sheet1!A1?valueInputOption=RAW",
+            "PUT /v4/spreadsheets/book1/values/A1?valueInputOption=RAW",
             "Content-Encoding: identity\r\nContent-Length: 16\r\n",
             "{\"values\":[[3]]}",
         )],
         OK,
         "",
-        "{\"spreadsheetId\":\"book1\",\"updatedCells\":1,\"updatedColumns\":1,\
-\"updatedRange\":\"Sheet1!A1\",\"updatedRows\":1}",
+        "{\"spreadsheetId\":\"book1\",\"updatedCells\":1,\"updatedColumns\":1,\"updatedRange\":\"Sheet1!A1\",\"updatedRows\":1}",
     ),
     (
         &[(
-            "PUT /v4/spreadsheets/book1/values/Sheet1!A1:B1?valueInputOption=RAW",
+            "PUT /v4/spreadsheets/book1/values/A1:B2?valueInputOption=RAW",
+            "Content-Length: 39\r\n",
+            "{\"values\":[[3]],\"range\":\"Sheet1!A1:B2\"}",
+        )],
+        OK,
+        "",
+        "{\"spreadsheetId\":\"book1\",\"updatedCells\":1,\"updatedColumns\":1,\"updatedRange\":\"Sheet1!A1\",\"updatedRows\":1}",
+    ),
+    (
+        &[(
+            "PUT /v4/spreadsheets/book1/values/A1?valueInputOption=RAW",
+            "Content-Length: 29\r\n",
+            "{\"values\":[[3]],\"range\":\"A2\"}",
+        )],
+        BAD_REQUEST,
+        "",
+        "{\"error\":{\"code\":400,\"message\":\"BadRange\",\"status\":\"INVALID_ARGUMENT\"}}",
+    ),
+    (
+        &[(
+            "PUT /v4/spreadsheets/book1/values/A1?valueInputOption=RAW",
+            "Content-Length: 31\r\n",
+            "{\"values\":[[3]],\"range\":\"ZZZ1\"}",
+        )],
+        BAD_REQUEST,
+        "",
+        "{\"error\":{\"code\":400,\"message\":\"BadRange\",\"status\":\"INVALID_ARGUMENT\"}}",
+    ),
+    (
+        &[(
+            "PUT /v4/spreadsheets/book1/values/A:A?valueInputOption=RAW",
+            "Content-Length: 35\r\n",
+            "{\"values\":[[3]],\"range\":\"A1:A1000\"}",
+        )],
+        BAD_REQUEST,
+        "",
+        "{\"error\":{\"code\":400,\"message\":\"BadRange\",\"status\":\"INVALID_ARGUMENT\"}}",
+    ),
+    (
+        &[(
+            "PUT /v4/spreadsheets/book1/values/ZZZ1?valueInputOption=RAW",
+            "Content-Length: 37\r\n",
+            "{\"values\":[[3]],\"range\":\"Nowhere!A1\"}",
+        )],
+        BAD_REQUEST,
+        "",
+        "{\"error\":{\"code\":400,\"message\":\"NoSheet\",\"status\":\"INVALID_ARGUMENT\"}}",
+    ),
+    (
+        &[(
+            "PUT /v4/spreadsheets/book1/values/ZZZ1?valueInputOption=RAW",
+            "Content-Length: 16\r\n",
+            "{\"values\":[[3]]}",
+        )],
+        BAD_REQUEST,
+        "",
+        "{\"error\":{\"code\":400,\"message\":\"OutsideGrid\",\"status\":\"INVALID_ARGUMENT\"}}",
+    ),
+    (
+        &[(
+            "PUT /v4/spreadsheets/book1/values/A1:A2?valueInputOption=RAW",
+            "Content-Length: 24\r\n",
+            "{\"values\":[[1],[2],[3]]}",
+        )],
+        BAD_REQUEST,
+        "",
+        "{\"error\":{\"code\":400,\"message\":\"ValuesPastRange\",\"status\":\"INVALID_ARGUMENT\"}}",
+    ),
+    (
+        &[(
+            "PUT /v4/spreadsheets/book1/values/A1:B1?valueInputOption=RAW",
             "Content-Length: 20\r\n",
             "{\"values\":[[1,2,3]]}",
         )],
         BAD_REQUEST,
         "",
-        BAD_BODY,
+        "{\"error\":{\"code\":400,\"message\":\"ValuesPastRange\",\"status\":\"INVALID_ARGUMENT\"}}",
     ),
     (
         &[(
-            "PUT /v4/spreadsheets/book1/values/Sheet1!Z1000?valueInputOption=RAW",
+            "PUT /v4/spreadsheets/book1/values/Z1000?valueInputOption=RAW",
             "Content-Length: 20\r\n",
             "{\"values\":[[1],[2]]}",
         )],
         BAD_REQUEST,
         "",
-        BAD_BODY,
+        "{\"error\":{\"code\":400,\"message\":\"ValuesPastRange\",\"status\":\"INVALID_ARGUMENT\"}}",
     ),
     (
         &[(
-            "PUT /v4/spreadsheets/book1/values/Sheet1!A1?valueInputOption=RAW",
+            "PUT /v4/spreadsheets/book1/values/A1?valueInputOption=RAW",
             "Content-Length: 24\r\n",
             "{\"values\":[[1,2],[3,4]]}",
         )],
         OK,
         "",
-        "{\"spreadsheetId\":\"book1\",\"updatedCells\":4,\"updatedColumns\":2,\
-\"updatedRange\":\"Sheet1!A1:B2\",\"updatedRows\":2}",
+        "{\"spreadsheetId\":\"book1\",\"updatedCells\":4,\"updatedColumns\":2,\"updatedRange\":\"Sheet1!A1:B2\",\"updatedRows\":2}",
     ),
     (
         &[(
-            "PUT /v4/spreadsheets/book1/values/Sheet1!B2:D4?valueInputOption=RAW",
+            "PUT /v4/spreadsheets/book1/values/B2:D4?valueInputOption=RAW",
             "Content-Length: 39\r\n",
             "{\"values\":[[null,1],[],[null,\"\",null]]}",
         )],
         OK,
         "",
-        "{\"spreadsheetId\":\"book1\",\"updatedCells\":2,\"updatedColumns\":1,\
-\"updatedRange\":\"Sheet1!B2:D4\",\"updatedRows\":2}",
+        "{\"spreadsheetId\":\"book1\",\"updatedCells\":2,\"updatedColumns\":1,\"updatedRange\":\"Sheet1!B2:D4\",\"updatedRows\":2}",
     ),
     (
         &[(
-            "PUT /v4/spreadsheets/book1/values/Sheet1!B2:D4?valueInputOption=RAW",
+            "PUT /v4/spreadsheets/book1/values/B2:D4?valueInputOption=RAW",
             "Content-Length: 13\r\n",
             "{\"values\":[]}",
         )],
         OK,
         "",
-        "{\"spreadsheetId\":\"book1\",\"updatedCells\":0,\"updatedColumns\":0,\
-\"updatedRange\":\"Sheet1!B2\",\"updatedRows\":0}",
+        "{\"spreadsheetId\":\"book1\",\"updatedCells\":0,\"updatedColumns\":0,\"updatedRange\":\"Sheet1!B2\",\"updatedRows\":0}",
     ),
     (
         &[
             (
-                "PUT /v4/spreadsheets/book1/values/Sheet1!A1:C3?valueInputOption=RAW",
+                "PUT /v4/spreadsheets/book1/values/B2:D4?valueInputOption=RAW",
+                "Content-Length: 49\r\n",
+                "{\"values\":[[1,2],[3]],\"majorDimension\":\"COLUMNS\"}",
+            ),
+            ("GET /v4/spreadsheets/book1/values/B2:D4", "", ""),
+        ],
+        OK,
+        "",
+        "{\"majorDimension\":\"ROWS\",\"range\":\"Sheet1!B2:D4\",\"values\":[[\"1\",\"3\"],[\"2\"]]}",
+    ),
+    (
+        &[
+            (
+                "PUT /v4/spreadsheets/book1/values/A1:C3?valueInputOption=RAW",
                 "Content-Length: 30\r\n",
                 "{\"values\":[[-5,\"a\\\"b\",false]]}",
             ),
-            ("GET /v4/spreadsheets/book1/values/Sheet1!A1:C3", "", ""),
+            ("GET /v4/spreadsheets/book1/values/A1:C3", "", ""),
         ],
         OK,
         "",
@@ -443,11 +731,11 @@ pub(crate) static EXCHANGES: [Exchange; 37] = [
     (
         &[
             (
-                "PUT /v4/spreadsheets/book1/values/Sheet1!A1:C3?valueInputOption=RAW",
+                "PUT /v4/spreadsheets/book1/values/A1:C3?valueInputOption=RAW",
                 "Content-Length: 28\r\n",
                 "{\"values\":[[1],[],[null,2]]}",
             ),
-            ("GET /v4/spreadsheets/book1/values/Sheet1!A1:C3", "", ""),
+            ("GET /v4/spreadsheets/book1/values/A1:C3", "", ""),
         ],
         OK,
         "",
@@ -456,16 +744,16 @@ pub(crate) static EXCHANGES: [Exchange; 37] = [
     (
         &[
             (
-                "PUT /v4/spreadsheets/book1/values/Sheet1!A1:C3?valueInputOption=RAW",
+                "PUT /v4/spreadsheets/book1/values/A1:C3?valueInputOption=RAW",
                 "Content-Length: 24\r\n",
                 "{\"values\":[[1,2,3],[4]]}",
             ),
             (
-                "PUT /v4/spreadsheets/book1/values/Sheet1!A1:C3?valueInputOption=RAW",
+                "PUT /v4/spreadsheets/book1/values/A1:C3?valueInputOption=RAW",
                 "Content-Length: 30\r\n",
                 "{\"values\":[[null,\"\",\"\"],[\"\"]]}",
             ),
-            ("GET /v4/spreadsheets/book1/values/Sheet1!A1:C3", "", ""),
+            ("GET /v4/spreadsheets/book1/values/A1:C3", "", ""),
         ],
         OK,
         "",
@@ -474,19 +762,110 @@ pub(crate) static EXCHANGES: [Exchange; 37] = [
     (
         &[
             (
-                "PUT /v4/spreadsheets/book1/values/Sheet1!A1:C3?valueInputOption=RAW",
+                "PUT /v4/spreadsheets/book1/values/A1:C3?valueInputOption=RAW",
                 "Content-Length: 16\r\n",
                 "{\"values\":[[1]]}",
             ),
             (
-                "PUT /v4/spreadsheets/book1/values/Sheet1!A1:C3?valueInputOption=RAW",
+                "PUT /v4/spreadsheets/book1/values/A1:C3?valueInputOption=RAW",
                 "Content-Length: 20\r\n",
                 "{\"values\":[[2,1.5]]}",
             ),
-            ("GET /v4/spreadsheets/book1/values/Sheet1!A1:C3", "", ""),
+            ("GET /v4/spreadsheets/book1/values/A1:C3", "", ""),
         ],
         OK,
         "",
         "{\"majorDimension\":\"ROWS\",\"range\":\"Sheet1!A1:C3\",\"values\":[[\"1\"]]}",
+    ),
+    (
+        &[
+            (
+                "PUT /v4/spreadsheets/book1/values/A1:B1?valueInputOption=RAW",
+                "Content-Length: 16\r\n",
+                "{\"values\":[[1]]}",
+            ),
+            (
+                "PUT /v4/spreadsheets/book1/values/A1:B1?valueInputOption=RAW",
+                "Content-Length: 20\r\n",
+                "{\"values\":[[2],[3]]}",
+            ),
+            ("GET /v4/spreadsheets/book1/values/A1:B2", "", ""),
+        ],
+        OK,
+        "",
+        "{\"majorDimension\":\"ROWS\",\"range\":\"Sheet1!A1:B2\",\"values\":[[\"1\"]]}",
+    ),
+    (
+        &[
+            (
+                "PUT /v4/spreadsheets/book1/values/Sheet1!A1:B2?valueInputOption=RAW",
+                "Content-Length: 27\r\n",
+                "{\"values\":[[1,\"x\"],[true]]}",
+            ),
+            (
+                "POST /v4/spreadsheets/book1/values/A1:clear",
+                "Content-Length: 0\r\n",
+                "",
+            ),
+        ],
+        OK,
+        "",
+        "{\"clearedRange\":\"Sheet1!A1\",\"spreadsheetId\":\"book1\"}",
+    ),
+    (
+        &[
+            (
+                "PUT /v4/spreadsheets/book1/values/Sheet1!A1:B2?valueInputOption=RAW",
+                "Content-Length: 27\r\n",
+                "{\"values\":[[1,\"x\"],[true]]}",
+            ),
+            (
+                "POST /v4/spreadsheets/book1/values/A1:clear",
+                "Content-Length: 2\r\n",
+                "{}",
+            ),
+            ("GET /v4/spreadsheets/book1/values/A1:B1", "", ""),
+        ],
+        OK,
+        "",
+        "{\"majorDimension\":\"ROWS\",\"range\":\"Sheet1!A1:B1\",\"values\":[[\"\",\"x\"]]}",
+    ),
+    (
+        &[
+            (
+                "PUT /v4/spreadsheets/book1/values/Sheet1!A1:B2?valueInputOption=RAW",
+                "Content-Length: 27\r\n",
+                "{\"values\":[[1,\"x\"],[true]]}",
+            ),
+            (
+                "POST /v4/spreadsheets/book1/values/A:A:clear",
+                "Content-Length: 0\r\n",
+                "",
+            ),
+            ("GET /v4/spreadsheets/book1/values/A1:B2", "", ""),
+        ],
+        OK,
+        "",
+        "{\"majorDimension\":\"ROWS\",\"range\":\"Sheet1!A1:B2\",\"values\":[[\"\",\"x\"]]}",
+    ),
+    (
+        &[(
+            "POST /v4/spreadsheets/book1/values/A1:clear",
+            "Content-Length: 14\r\n",
+            "{\"range\":\"A1\"}",
+        )],
+        BAD_REQUEST,
+        "",
+        "{\"error\":{\"code\":400,\"message\":\"BadBody\",\"status\":\"INVALID_ARGUMENT\"}}",
+    ),
+    (
+        &[(
+            "POST /v4/spreadsheets/book1/values/ZZZ1:clear",
+            "Content-Length: 0\r\n",
+            "",
+        )],
+        BAD_REQUEST,
+        "",
+        "{\"error\":{\"code\":400,\"message\":\"OutsideGrid\",\"status\":\"INVALID_ARGUMENT\"}}",
     ),
 ];

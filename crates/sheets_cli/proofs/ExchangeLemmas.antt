@@ -14,8 +14,8 @@ use Rattle.sheets_http.specs.Outside.{TakesAll}
 use Rattle.sheets_http.specs.Requests.{Buffered, room_of, stream_of, IsAnswer}
 use Rattle.sheets_cli.specs.declared.ended.Ended.{Ended}
 use Rattle.sheets_cli.specs.declared.ended.Ended.TheVariants as how
-use Rattle.sheets_cli.specs.Cells.{Cells}
-use Rattle.sheets_cli.specs.Reply.{IsReply}
+use Rattle.world_model.specs.Book.{PlaceBook}
+use Rattle.sheets_cli.specs.Reply.{Replies}
 use Rattle.sheets_cli.specs.Conversation.{AreAnswered, IsResponse, IsClosing, IsLast, StartsWithRequests, Moment}
 use Rattle.sheets_cli.specs.Conversation.{IsWhole, IsNextRequest, HasBegun, a_response, the_closing}
 use Rattle.sheets_cli.specs.Conversation.{idle, in_the_sink, Stops, IsConversation, Counts}
@@ -25,20 +25,20 @@ use Rattle.sheets_cli.proofs.SendLemmas.{nothing_more}
 use Rattle.sheets_cli.proofs.ConversationLemmas.{HasAnswered-none}
 
 -- one request is answered
-one_answered : (cells cells' : Cells) (request : Wire) (response : List ℕ)
-    → IsResponse IsReply cells request cells' response
-    → AreAnswered IsReply cells (request ∷ []) cells' response
+one_answered : (cells cells' : List PlaceBook) (request : Wire) (response : List ℕ)
+    → IsResponse Replies cells request cells' response
+    → AreAnswered Replies cells (request ∷ []) cells' response
 one_answered cells cells' request response is = (cells', response, [], is, (refl, refl), sym (append-nil response))
 
 -- the conversation stops behind nothing
-stops_here : (room : ℕ) (stream : Option (List ℕ)) (before after : Moment Cells) (end : Ended)
-    → Stops IsReply room stream before after end
-    → IsConversation IsReply room stream before after end
+stops_here : (room : ℕ) (stream : Option (List ℕ)) (before after : Moment (List PlaceBook)) (end : Ended)
+    → Stops Replies room stream before after end
+    → IsConversation Replies room stream before after end
 stops_here room stream before after how.ReadFault stops = record {
   room' = room;
   rest = stream;
   between = before;
-  answered = HasAnswered-none IsReply room stream before;
+  answered = HasAnswered-none Replies room stream before;
   stops =
       stops;
 }
@@ -46,7 +46,7 @@ stops_here room stream before after how.WriteFault stops = record {
   room' = room;
   rest = stream;
   between = before;
-  answered = HasAnswered-none IsReply room stream before;
+  answered = HasAnswered-none Replies room stream before;
   stops =
       stops;
 }
@@ -59,16 +59,16 @@ stops_here room stream before after how.NoMemory stops = record {
   room' = room;
   rest = stream;
   between = before;
-  answered = HasAnswered-none IsReply room stream before;
+  answered = HasAnswered-none Replies room stream before;
   stops =
       stops;
 }
 
 -- nothing comes next but the end, behind which `last` stands
-whole_here : (room : ℕ) (stream : Option (List ℕ)) (before after : Moment Cells) (end : End) (last : List ℕ)
+whole_here : (room : ℕ) (stream : Option (List ℕ)) (before after : Moment (List PlaceBook)) (end : End) (last : List ℕ)
     → IfSome stream (λ bytes. IsNext room bytes (talk_end end)) → IsLast end last → after.state ≡ before.state
     → TakesAll before.written after.written last
-    → IsWhole IsReply room stream before after end
+    → IsWhole Replies room stream before after end
 whole_here room stream before after end last next is_last same takes =
     record {
       requests = [];
@@ -82,28 +82,28 @@ whole_here room stream before after end last next is_last same takes =
     }
 
 -- nothing comes next but the end, and nothing is written
-ends_here : (room : ℕ) (stream : Option (List ℕ)) (before after : Moment Cells) (end : End)
+ends_here : (room : ℕ) (stream : Option (List ℕ)) (before after : Moment (List PlaceBook)) (end : End)
     → IfSome stream (λ bytes. IsNext room bytes (talk_end end)) → IsLast end [] → after.state ≡ before.state
     → after.written ≡ before.written
-    → IsWhole IsReply room stream before after end
+    → IsWhole Replies room stream before after end
 ends_here room stream before after end next is_last same written =
     whole_here room stream before after end [] next is_last same (written ∙ nothing_more before.written)
 
 -- a fault of the sink behind a response that was begun
-cut_by : (room : ℕ) (stream : Option (List ℕ)) (before after : Moment Cells) (error : SinkFault)
+cut_by : (room : ℕ) (stream : Option (List ℕ)) (before after : Moment (List PlaceBook)) (error : SinkFault)
     → CountsShortages before.shortages after.shortages (Err error)
-    → HasBegun IsReply room stream before after → IsConversation IsReply room stream before after (ended_by error)
+    → HasBegun Replies room stream before after → IsConversation Replies room stream before after (ended_by error)
 cut_by room stream before after fault.Failed counts begun = stops_here room stream before after how.WriteFault begun
 cut_by room stream before after fault.NoMemory counts begun = stops_here room stream before after how.NoMemory
     (in_the_sink (counts.cause refl) begun)
 
 -- a refused head was answered
-closed_here : (room : ℕ) (stream : Option (List ℕ)) (before after : Moment Cells) (refused : HeadFault)
+closed_here : (room : ℕ) (stream : Option (List ℕ)) (before after : Moment (List PlaceBook)) (refused : HeadFault)
     (response : List ℕ) (sent : Result (Unit {0}) SinkFault)
     → IfSome stream (λ bytes. IsNext room bytes (talk_end (closed refused))) → IsClosing response
     → after.state ≡ before.state
     → Sends before.written after.written response sent → CountsShortages before.shortages after.shortages sent
-    → IsConversation IsReply room stream before after (ended_closed refused sent)
+    → IsConversation Replies room stream before after (ended_closed refused sent)
 closed_here room stream before after refused response (Ok done) next is_closing same sends counts =
     whole_here room stream before after (closed refused) response next is_closing same sends
 closed_here room stream before after refused response (Err error) next is_closing same sends counts =
@@ -132,11 +132,11 @@ first_of room room' (Some bytes) stream' stream'' request answer left stays =
     (answer.0, (answer.0, answer.1, stays, (answer.3, refl)), left ∙ answer.2)
 
 -- a request was answered
-answered_here : (room room' : ℕ) (stream stream' stream'' : Option (List ℕ)) (before after : Moment Cells)
+answered_here : (room room' : ℕ) (stream stream' stream'' : Option (List ℕ)) (before after : Moment (List PlaceBook))
     (request : Wire) (response : List ℕ) (closes : Bool) (sent : Result (Unit {0}) SinkFault)
     → IfSome stream (λ bytes. IsAnswer room bytes room' stream' (next.Request request)) → stream'' ≡ stream'
     → request.close ≡ closes
-    → IsResponse IsReply before.state request after.state response
+    → IsResponse Replies before.state request after.state response
     → Sends before.written after.written response sent → CountsShortages before.shortages after.shortages sent
     → IsExchange room stream before room' stream'' after (ended_behind closes sent)
 answered_here room room' stream stream' stream'' before after request response true (Ok done) answer left closes
@@ -164,7 +164,7 @@ answered_here room room' stream stream' stream'' before after request response c
     (a_response request response (next_of room room' stream stream' request answer) is_response sends)
 
 -- what is done with what comes next
-exchanged : (room room' : ℕ) (stream stream' stream'' : Option (List ℕ)) (before after : Moment Cells) (next : Next)
+exchanged : (room room' : ℕ) (stream stream' stream'' : Option (List ℕ)) (before after : Moment (List PlaceBook)) (next : Next)
     (result : Option Ended)
     → IfSome stream (λ bytes. IsAnswer room bytes room' stream' next) → stream'' ≡ stream'
     → Acts next before after result
@@ -194,7 +194,7 @@ exchanged room room' stream stream' stream'' before after next.NoMemory result a
     (idle (record { state_is = acts.state_is; written_is = acts.written_is })))
 
 -- the same, where the read kept what was written, and its count
-pub exchanged_beside : (room room' : ℕ) (stream stream' stream'' : Option (List ℕ)) (cells cells' : Cells)
+pub exchanged_beside : (room room' : ℕ) (stream stream' stream'' : Option (List ℕ)) (cells cells' : List PlaceBook)
     (written middle written' : Option (List ℕ)) (shortages between shortages' : ℕ) (next : Next) (result : Option Ended)
     → IfSome stream (λ bytes. IsAnswer room bytes room' stream' next) → stream'' ≡ stream' → middle ≡ written
     → between ≡ shortages
@@ -213,9 +213,9 @@ exchanged_beside room room' stream stream' stream'' cells cells' written middle 
 -- ---- the beginning
 
 -- nothing is held at first
-opened_there : (left : Option (List ℕ)) (most : ℕ) (before after : Moment Cells) (end : Ended)
-    → IsConversation IsReply (most - 0) (stream_of (record { pending = []; used = 0 }) left) before after end
-    → IsConversation IsReply most left before after end
+opened_there : (left : Option (List ℕ)) (most : ℕ) (before after : Moment (List PlaceBook)) (end : Ended)
+    → IsConversation Replies (most - 0) (stream_of (record { pending = []; used = 0 }) left) before after end
+    → IsConversation Replies most left before after end
 opened_there None most before after end is = rw (no_less most) at is
   where
     no_less : (most : ℕ) → most - 0 ≡ most
@@ -226,17 +226,22 @@ opened_there (Some bytes) most before after end is = rw (no_less most) at is
     no_less most = omega arith
 
 -- what is served behind an empty buffer is the whole
-pub opened : (left : Option (List ℕ)) (held : Buffered) (most : ℕ) (before after : Moment Cells) (end : Ended)
+pub opened : (left : Option (List ℕ)) (held : Buffered) (most : ℕ) (before after : Moment (List PlaceBook)) (end : Ended)
     → held ≡ record { pending = []; used = 0 }
-    → IsConversation IsReply (room_of most held) (stream_of held left) before after end
-    → IsConversation IsReply most left before after end
+    → IsConversation Replies (room_of most held) (stream_of held left) before after end
+    → IsConversation Replies most left before after end
 opened left held most before after end held_is is = opened_there left most before after end (rw held_is at is)
 
 -- where memory runs out at once, nothing is done
-pub idle_at_once : (room : ℕ) (stream : Option (List ℕ)) (now : Moment Cells)
-    → IsConversation IsReply room stream now now how.NoMemory
-idle_at_once room stream now = stops_here room stream now now how.NoMemory
-    (idle (record { state_is = refl; written_is = refl }))
+pub idle_at_once : {State : Type 0} (IsReply : State → Wire → State → List ℕ → Type 0) (room : ℕ)
+    (stream : Option (List ℕ)) (now : Moment State) → IsConversation IsReply room stream now now how.NoMemory
+idle_at_once {State} IsReply room stream now = record {
+  room' = room;
+  rest = stream;
+  between = now;
+  answered = HasAnswered-none IsReply room stream now;
+  stops = idle (record { state_is = refl; written_is = refl });
+}
 
 -- ---- counts
 

@@ -1,14 +1,8 @@
-pub mod Finding
 pub mod ConversationLemmas
 pub mod ExchangeLemmas
 pub mod SendLemmas
-pub mod Ranges
 pub mod Sides
 pub mod Words
-pub mod CellLemmas
-pub mod ValueLemmas
-pub mod ShownLemmas
-pub mod BodyLemmas
-pub mod FitLemmas
-pub mod Deciding
-pub mod ReplyLemmas
+pub mod Naming
+pub mod Going
+pub mod OneReply

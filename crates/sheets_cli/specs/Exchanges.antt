@@ -12,8 +12,8 @@ use Rattle.cell_value.specs.FaultCount.{Rose}
 use Rattle.sheets_http.specs.Outside.{TakesAll, TakesSome}
 use Rattle.sheets_cli.specs.declared.ended.Ended.{Ended}
 use Rattle.sheets_cli.specs.declared.ended.Ended.TheVariants as how
-use Rattle.sheets_cli.specs.Cells.{Cells}
-use Rattle.sheets_cli.specs.Reply.{IsReply}
+use Rattle.world_model.specs.Book.{PlaceBook}
+use Rattle.sheets_cli.specs.Reply.{Replies}
 use Rattle.sheets_cli.specs.Conversation.{IsResponse, IsClosing, Moment, HasAnswered, IsConversation}
 
 -- what sending bytes leaves: all of them were written, or after a fault a part of them
@@ -27,9 +27,9 @@ pub record CountsShortages (shortages shortages' : ℕ) (sent : Result (Unit {0}
   pub cause : sent ≡ Err fault.NoMemory → Rose shortages shortages'
 
 -- a response to the request is sent
-pub record Responds (request : Wire) (before after : Moment Cells) (sent : Result (Unit {0}) SinkFault) : Type 0 where
+pub record Responds (request : Wire) (before after : Moment (List PlaceBook)) (sent : Result (Unit {0}) SinkFault) : Type 0 where
   pub response : List ℕ
-  pub is_response : IsResponse IsReply before.state request after.state response
+  pub is_response : IsResponse Replies before.state request after.state response
   pub sends : Sends before.written after.written response sent
   pub counts : CountsShortages before.shortages after.shortages sent
 
@@ -58,7 +58,7 @@ ended_closed refused (Ok done) = how.Closed refused
 ended_closed refused (Err fault) = ended_by fault
 
 -- a request was answered, and the conversation goes on or ends so
-pub record Answers (request : Wire) (before after : Moment Cells) (result : Option Ended) : Type 0 where
+pub record Answers (request : Wire) (before after : Moment (List PlaceBook)) (result : Option Ended) : Type 0 where
   pub sent : Result (Unit {0}) SinkFault
   pub responds : Responds request before after sent
   pub result_is : result ≡ ended_behind request.close sent
@@ -71,20 +71,20 @@ pub record Refuses (refused : HeadFault) (before after : Option (List ℕ)) (sho
   pub result_is : result ≡ ended_closed refused sent
 
 -- the conversation ends so, and nothing is done
-pub record EndsIdle (end : Ended) (before after : Moment Cells) (result : Option Ended) : Type 0 where
+pub record EndsIdle (end : Ended) (before after : Moment (List PlaceBook)) (result : Option Ended) : Type 0 where
   pub state_is : after.state ≡ before.state
   pub written_is : after.written ≡ before.written
   pub result_is : result ≡ Some end
 
 -- a refused head was answered, and the cells stay
-pub record EndsClosed (refused : HeadFault) (before after : Moment Cells) (result : Option Ended) : Type 0 where
+pub record EndsClosed (refused : HeadFault) (before after : Moment (List PlaceBook)) (result : Option Ended) : Type 0 where
   pub end : Ended
   pub state_is : after.state ≡ before.state
   pub refuses : Refuses refused before.written after.written before.shortages after.shortages end
   pub result_is : result ≡ Some end
 
 -- what is done with what comes next in the stream
-abbrev pub Acts : Next → Moment Cells → Moment Cells → Option Ended → Type 0
+abbrev pub Acts : Next → Moment (List PlaceBook) → Moment (List PlaceBook) → Option Ended → Type 0
 Acts (next.Request request) before after result = Answers request before after result
 Acts next.End before after result = EndsIdle how.End before after result
 Acts (next.Closed refused) before after result = EndsClosed refused before after result
@@ -94,7 +94,7 @@ Acts next.ReadFault before after result = EndsIdle how.ReadFault before after re
 Acts next.NoMemory before after result = EndsIdle how.NoMemory before after result
 
 -- an exchange of a request and its response, behind which a conversation goes on, or its end
-abbrev pub IsExchange : ℕ → Option (List ℕ) → Moment Cells → ℕ → Option (List ℕ) → Moment Cells → Option Ended → Type 0
+abbrev pub IsExchange : ℕ → Option (List ℕ) → Moment (List PlaceBook) → ℕ → Option (List ℕ) → Moment (List PlaceBook) → Option Ended → Type 0
 IsExchange room stream before room' stream' after result =
-    MatchOption result (HasAnswered IsReply room stream before room' stream' after)
-    (λ end. IsConversation IsReply room stream before after end)
+    MatchOption result (HasAnswered Replies room stream before room' stream' after)
+    (λ end. IsConversation Replies room stream before after end)

@@ -1,10 +1,4 @@
-pub mod Cells
-pub mod Values
-pub mod Shown
-pub mod Update
-pub mod Body
-pub mod Range
-pub mod Route
+pub mod Step
 pub mod Reply
 pub mod Conversation
 pub mod Exchanges

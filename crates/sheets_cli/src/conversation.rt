@@ -1,32 +1,31 @@
 ghost use Rattle.std.specs.Prelude.{◌≡◌, ◌≢◌, ℕ, ◌<◌, ◌≤◌, None, IsTrue};
 ghost use Rattle.cell_value.specs.FaultCount.{Rose};
 ghost use Rattle.sheets_http.specs.Requests.{room_of, stream_of, IsRequest};
-ghost use Rattle.sheets_cli.specs.Cells.{cells_of};
-ghost use Rattle.sheets_cli.specs.Reply.{IsReply};
+ghost use Rattle.world_model.specs.World.{NameWorld, WorldStandsFor};
+ghost use Rattle.sheets_cli.specs.Reply.{IsReply, Replies};
 ghost use Rattle.sheets_cli.specs.Conversation.{at_moment, IsConversation, Counts};
 ghost use Rattle.sheets_cli.specs.Exchanges.{Responds, SendsClosing, Answers, Refuses, Acts, ended_by};
 ghost use Rattle.sheets_cli.specs.Exchanges.{IsExchange};
 
-use crate::cells::Sheet;
 use crate::ended::Ended;
 use crate::reply::{closing_reply, no_memory_reply, reply_to};
 use cell_value::NoMemory;
+use dimension_ops::World;
 use sheets_http::{Buffer, Duplex, HeadFault, Next, Sink, SinkFault, Wire, next_request, send_all};
 use std::alloc::Global;
 
 /// Serves a link from its requests' first byte to the conversation's end: each request is answered, in
-/// order, on the sheet as those before it left it, and a head that is refused by the closing response.
+/// order, on the spreadsheets as those before it left them, and a head that is refused by the closing response.
 /// At most `most` bytes are served.
 ///
 /// Where it was cut off by a fault or by want of memory, the first requests were answered whole, and at
 /// most one more was begun.
-pub fn converse<L: Duplex>(alloc: Global, sheet: &mut Sheet, link: &mut L, most: u64) -> Ended
-    requires { 0 < most }
-
-    // What became of the sheet and the output, whatever the link tells of itself.
-    ensures served { IsConversation IsReply most (L.left link.old)
-        (at_moment (cells_of sheet.old) (L.written link.old) (L.sink_shortages link.old))
-        (at_moment (cells_of sheet.new) (L.written link.new) (L.sink_shortages link.new)) result }
+pub fn converse<L: Duplex>(alloc: Global, world: &mut World, link: &mut L, most: u64) -> Ended
+    // What became of the spreadsheets and the output, whatever the link tells of itself.
+    ensures served { (before : NameWorld) → WorldStandsFor world.old before → (after : NameWorld)
+        × WorldStandsFor world.new after × IsConversation IsReply most (L.left link.old)
+        (at_moment before (L.written link.old) (L.sink_shortages link.old))
+        (at_moment after (L.written link.new) (L.sink_shortages link.new)) result }
 
     // It doesn't give up by itself.
     ensures read { result ≡ Ended.ReadFault → Rose (L.faults link.old) (L.faults link.new) }
@@ -40,7 +39,7 @@ pub fn converse<L: Duplex>(alloc: Global, sheet: &mut Sheet, link: &mut L, most:
     ensures references { L.references link.new ≡ L.references link.old }
 {
     match Buffer::new(alloc) {
-        Ok(mut buffer) => serve(alloc, sheet, link, &mut buffer, most),
+        Ok(mut buffer) => serve(alloc, world, link, &mut buffer, most),
         Err(NoMemory) => Ended::NoMemory,
     }
 }
@@ -48,15 +47,14 @@ pub fn converse<L: Duplex>(alloc: Global, sheet: &mut Sheet, link: &mut L, most:
 /// Answers one request after another until the conversation ends.
 fn serve<L: Duplex>(
     alloc: Global,
-    sheet: &mut Sheet,
+    world: &mut World,
     link: &mut L,
     buffer: &mut Buffer,
     most: u64,
 ) -> Ended
-    requires { 0 < most }
-    ensures served { IsConversation IsReply (room_of most buffer.old) (stream_of buffer.old (L.left link.old))
-        (at_moment (cells_of sheet.old) (L.written link.old) (L.sink_shortages link.old))
-        (at_moment (cells_of sheet.new) (L.written link.new) (L.sink_shortages link.new)) result }
+    ensures served { IsConversation Replies (room_of most buffer.old) (stream_of buffer.old (L.left link.old))
+        (at_moment world.old (L.written link.old) (L.sink_shortages link.old))
+        (at_moment world.new (L.written link.new) (L.sink_shortages link.new)) result }
     ensures read { result ≡ Ended.ReadFault → Rose (L.faults link.old) (L.faults link.new) }
     ensures write { result ≡ Ended.WriteFault → Rose (L.sink_faults link.old) (L.sink_faults link.new) }
     ensures input { Counts (L.faults link.old) (L.faults link.new) (L.steady link.old) (L.steady link.new) }
@@ -65,7 +63,7 @@ fn serve<L: Duplex>(
     ensures references { L.references link.new ≡ L.references link.old }
 {
     loop {
-        match exchange(alloc, sheet, link, buffer, most) {
+        match exchange(alloc, world, link, buffer, most) {
             Some(ended) => return ended,
             None => {}
         }
@@ -75,16 +73,15 @@ fn serve<L: Duplex>(
 /// Answers the next request, or tells how the conversation ends.
 fn exchange<L: Duplex>(
     alloc: Global,
-    sheet: &mut Sheet,
+    world: &mut World,
     link: &mut L,
     buffer: &mut Buffer,
     most: u64,
 ) -> Option<Ended>
-    requires { 0 < most }
     ensures exchange { IsExchange (room_of most buffer.old) (stream_of buffer.old (L.left link.old))
-        (at_moment (cells_of sheet.old) (L.written link.old) (L.sink_shortages link.old))
+        (at_moment world.old (L.written link.old) (L.sink_shortages link.old))
         (room_of most buffer.new) (stream_of buffer.new (L.left link.new))
-        (at_moment (cells_of sheet.new) (L.written link.new) (L.sink_shortages link.new)) result }
+        (at_moment world.new (L.written link.new) (L.sink_shortages link.new)) result }
     ensures shrinks { result ≡ None → room_of most buffer.new < room_of most buffer.old }
     ensures read { result ≡ Some Ended.ReadFault → Rose (L.faults link.old) (L.faults link.new) }
     ensures write { result ≡ Some Ended.WriteFault → Rose (L.sink_faults link.old) (L.sink_faults link.new) }
@@ -94,14 +91,14 @@ fn exchange<L: Duplex>(
     ensures references { L.references link.new ≡ L.references link.old }
 {
     let next = next_request(alloc, link, buffer, most);
-    act(alloc, sheet, link, next)
+    act(alloc, world, link, next)
 }
 
 /// Does what is to be done with what comes next in the stream, and tells whether the conversation
 /// ends there.
-fn act<S: Sink>(alloc: Global, sheet: &mut Sheet, sink: &mut S, next: Next) -> Option<Ended>
-    ensures acts { Acts next (at_moment (cells_of sheet.old) (S.written sink.old) (S.sink_shortages sink.old))
-        (at_moment (cells_of sheet.new) (S.written sink.new) (S.sink_shortages sink.new)) result }
+fn act<S: Sink>(alloc: Global, world: &mut World, sink: &mut S, next: Next) -> Option<Ended>
+    ensures acts { Acts next (at_moment world.old (S.written sink.old) (S.sink_shortages sink.old))
+        (at_moment world.new (S.written sink.new) (S.sink_shortages sink.new)) result }
     ensures goes_on { result ≡ None → IsRequest next }
     ensures read { result ≡ Some Ended.ReadFault → next ≡ Next.ReadFault }
     ensures write { result ≡ Some Ended.WriteFault → Rose (S.sink_faults sink.old) (S.sink_faults sink.new) }
@@ -110,7 +107,7 @@ fn act<S: Sink>(alloc: Global, sheet: &mut Sheet, sink: &mut S, next: Next) -> O
     ensures beside { S.sink_beside sink.new ≡ S.sink_beside sink.old }
 {
     match next {
-        Next::Request(request) => answer(alloc, sheet, sink, &request),
+        Next::Request(request) => answer(alloc, world, sink, &request),
         Next::End => Some(Ended::End),
         Next::Closed(fault) => Some(close(alloc, sink, fault)),
         Next::Truncated(count) => Some(Ended::Truncated(count)),
@@ -121,17 +118,17 @@ fn act<S: Sink>(alloc: Global, sheet: &mut Sheet, sink: &mut S, next: Next) -> O
 }
 
 /// Answers a request, and tells whether the conversation ends there.
-fn answer<S: Sink>(alloc: Global, sheet: &mut Sheet, sink: &mut S, request: &Wire) -> Option<Ended>
-    ensures answers { Answers request.now (at_moment (cells_of sheet.old) (S.written sink.old)
+fn answer<S: Sink>(alloc: Global, world: &mut World, sink: &mut S, request: &Wire) -> Option<Ended>
+    ensures answers { Answers request.now (at_moment world.old (S.written sink.old)
         (S.sink_shortages sink.old))
-        (at_moment (cells_of sheet.new) (S.written sink.new) (S.sink_shortages sink.new)) result }
+        (at_moment world.new (S.written sink.new) (S.sink_shortages sink.new)) result }
     ensures cause { result ≡ Some Ended.WriteFault → Rose (S.sink_faults sink.old) (S.sink_faults sink.new) }
     ensures read { result ≢ Some Ended.ReadFault }
     ensures output { Counts (S.sink_faults sink.old) (S.sink_faults sink.new) (S.sink_steady sink.old)
         (S.sink_steady sink.new) }
     ensures beside { S.sink_beside sink.new ≡ S.sink_beside sink.old }
 {
-    match respond(alloc, sheet, sink, request) {
+    match respond(alloc, world, sink, request) {
         Ok(()) if request.close => Some(Ended::Asked),
         Ok(()) => None,
         Err(fault) => Some(fault_end(fault)),
@@ -167,19 +164,19 @@ fn fault_end(fault: SinkFault) -> Ended
 /// Sends the response to a request; where memory runs out, the constant one.
 fn respond<S: Sink>(
     alloc: Global,
-    sheet: &mut Sheet,
+    world: &mut World,
     sink: &mut S,
     request: &Wire,
 ) -> Result<(), SinkFault>
-    ensures response { Responds request.now (at_moment (cells_of sheet.old) (S.written sink.old)
+    ensures response { Responds request.now (at_moment world.old (S.written sink.old)
         (S.sink_shortages sink.old))
-        (at_moment (cells_of sheet.new) (S.written sink.new) (S.sink_shortages sink.new)) result }
+        (at_moment world.new (S.written sink.new) (S.sink_shortages sink.new)) result }
     ensures cause { result ≡ Err SinkFault.Failed → Rose (S.sink_faults sink.old) (S.sink_faults sink.new) }
     ensures output { Counts (S.sink_faults sink.old) (S.sink_faults sink.new) (S.sink_steady sink.old)
         (S.sink_steady sink.new) }
     ensures beside { S.sink_beside sink.new ≡ S.sink_beside sink.old }
 {
-    match reply_to(alloc, sheet, request) {
+    match reply_to(alloc, world, request) {
         Ok(response) => send_all(sink, response.as_slice()),
         Err(NoMemory) => send_all(sink, no_memory_reply(request.close)),
     }

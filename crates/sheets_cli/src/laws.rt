@@ -1,15 +1,17 @@
-ghost use Rattle.sheets_cli.specs.Laws.{HasOneReply, HasReply, BeginsTalk};
+ghost use Rattle.sheets_cli.specs.Laws.{BeginsTalk, HasOneReply};
 
-use a1_notation::a1_laws;
-use sheets_http::conversation_laws;
+use batch_engine::calls_answered_once;
+use sheets_http::{conversation_laws, one_call};
+use world_model::stands_for_apart;
 
-/// The laws of replies: beside the constant response for want of memory, a request has exactly one
-/// reply on given cells, and leaves them one way. It does nothing when it runs.
+/// The law of replies: beside the constant response for want of memory, a request has one reply on a
+/// given world, and leaves it one way. It does nothing when it runs.
 pub fn reply_laws()
-    ensures one_reply { HasOneReply }
-    ensures has_reply { HasReply }
+    ensures { HasOneReply }
 {
-    a1_laws();
+    one_call();
+    calls_answered_once();
+    stands_for_apart();
 }
 
 /// The law of conversations that were cut off: the requests that they answered are the first ones of

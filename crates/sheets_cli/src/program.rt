@@ -2,16 +2,17 @@ ghost use Rattle.std.specs.Prelude.{◌≡◌, ◌≢◌, ◌↔◌, ◌⊎◌, 
 ghost use Rattle.sheets_http.specs.declared.request.Wire.{Wire};
 ghost use Rattle.sheets_http.specs.Framing.{End, truncated, long_talk, Talk};
 ghost use Rattle.cell_value.specs.FaultCount.{Rose};
-ghost use Rattle.sheets_cli.specs.Cells.{Cells, no_cells, cells_of};
+ghost use Rattle.world_model.specs.World.{NameWorld, WorldStandsFor};
+ghost use Rattle.dimension_ops.specs.World.{opening_world};
 ghost use Rattle.sheets_cli.specs.Reply.{IsReply};
 ghost use Rattle.sheets_cli.specs.Conversation.{at_moment, HasEnd, IsConversation, EndsAs};
 ghost use Rattle.sheets_cli.specs.Program.{IsRun, status_of, status_at, line_of, Runs, Says};
 
-use crate::cells::Sheet;
 use crate::conversation::converse;
 use crate::ended::Ended;
 use crate::report::{report, say};
 use cell_value::NoMemory;
+use dimension_ops::{World, opening_stands};
 use sheets_http::{Link, Sink, Source, conversation_laws};
 use std::alloc::Global;
 
@@ -24,8 +25,8 @@ pub const USAGE: u8 = 2;
 /// The program: the words behind its name, its input, its output and the output for its faults. It
 /// answers its status.
 ///
-/// The only command is `run`: it serves one conversation over input and output, on a sheet in which
-/// nothing stands at first.
+/// The only command is `run`: it serves one conversation over input and output, on the one spreadsheet
+/// that there is at first.
 pub fn sheets_main<R: AllocGlobal, I: Source, O: Sink>(
     rt: &R,
     words: &[String],
@@ -112,19 +113,20 @@ fn run<R: AllocGlobal, I: Source, O: Sink>(
     status(ended)
 }
 
-/// Serves one conversation over input and output, on a sheet in which nothing stands.
+/// Serves one conversation over input and output, on the one spreadsheet that there is at first.
 fn converse_anew<I: Source, O: Sink>(alloc: Global, input: &mut I, output: &mut O) -> Ended
-    ensures served { (cells : Cells) × IsConversation IsReply MOST (I.left input.old)
-        (at_moment no_cells (O.written output.old) (O.sink_shortages output.old))
-        (at_moment cells (O.written output.new) (O.sink_shortages output.new)) result }
+    ensures served { (after : NameWorld) × IsConversation IsReply MOST (I.left input.old)
+        (at_moment opening_world (O.written output.old) (O.sink_shortages output.old))
+        (at_moment after (O.written output.new) (O.sink_shortages output.new)) result }
     ensures ends { IfSome (I.left input.old) (λ bytes. EndsAs MOST bytes result) }
     ensures read { result ≡ Ended.ReadFault → Rose (I.faults input.old) (I.faults input.new) }
     ensures write { result ≡ Ended.WriteFault → Rose (O.sink_faults output.old) (O.sink_faults output.new) }
     ensures steady_read { IsTrue (I.steady input.old) → result ≢ Ended.ReadFault }
     ensures steady_write { IsTrue (O.sink_steady output.old) → result ≢ Ended.WriteFault }
 {
-    match Sheet::new(alloc) {
-        Ok(mut sheet) => converse_over(alloc, &mut sheet, input, output),
+    opening_stands();
+    match World::opening(alloc) {
+        Ok(mut world) => converse_over(alloc, &mut world, input, output),
         Err(NoMemory) => Ended::NoMemory,
     }
 }
@@ -132,19 +134,20 @@ fn converse_anew<I: Source, O: Sink>(alloc: Global, input: &mut I, output: &mut 
 /// Serves one conversation over input and output.
 fn converse_over<I: Source, O: Sink>(
     alloc: Global,
-    sheet: &mut Sheet,
+    world: &mut World,
     input: &mut I,
     output: &mut O,
 ) -> Ended
-    ensures served { IsConversation IsReply MOST (I.left input.old)
-        (at_moment (cells_of sheet.old) (O.written output.old) (O.sink_shortages output.old))
-        (at_moment (cells_of sheet.new) (O.written output.new) (O.sink_shortages output.new)) result }
+    ensures served { (before : NameWorld) → WorldStandsFor world.old before → (after : NameWorld)
+        × IsConversation IsReply MOST (I.left input.old)
+        (at_moment before (O.written output.old) (O.sink_shortages output.old))
+        (at_moment after (O.written output.new) (O.sink_shortages output.new)) result }
     ensures read { result ≡ Ended.ReadFault → Rose (I.faults input.old) (I.faults input.new) }
     ensures write { result ≡ Ended.WriteFault → Rose (O.sink_faults output.old) (O.sink_faults output.new) }
     ensures steady_read { IsTrue (I.steady input.old) → result ≢ Ended.ReadFault }
     ensures steady_write { IsTrue (O.sink_steady output.old) → result ≢ Ended.WriteFault }
 {
-    converse(alloc, sheet, &mut Link { input, output }, MOST)
+    converse(alloc, world, &mut Link { input, output }, MOST)
 }
 
 /// The status of a conversation that ended so.

@@ -1,7 +1,6 @@
 use Rattle.std.proofs.Common.{ap}
 use Rattle.sheets_http.specs.Outside.{Side}
 use Rattle.sheets_http.specs.Requests.{room_of, stream_of}
-use Rattle.sheets_cli.specs.Cells.{cells_of}
 use Rattle.sheets_cli.proofs.Sides.{kept}
 use Rattle.sheets_cli.proofs.ExchangeLemmas.{exchanged_beside}
 use Rattle.sheets_cli.proofs.conversation.exchange.Goals as goal
@@ -21,8 +20,8 @@ returns-clause-exchange g c =
     exchanged_beside (room_of c.args.most c.args.buffer.now) (room_of c.args.most c.next_request-next.new.buffer)
     (stream_of c.args.buffer.now (g.L.Source.left c.args.link.now))
     (stream_of c.next_request-next.new.buffer (g.L.Source.left c.next_request-next.new.link))
-    (stream_of c.next_request-next.new.buffer (g.L.Source.left c.act.new.sink)) (cells_of c.args.sheet.now)
-    (cells_of c.act.new.sheet)
+    (stream_of c.next_request-next.new.buffer (g.L.Source.left c.act.new.sink)) c.args.world.now
+    c.act.new.world
     (g.L.Sink.written c.args.link.now) (g.L.Sink.written c.next_request-next.new.link) (g.L.Sink.written c.act.new.sink)
     (g.L.Sink.sink_shortages c.args.link.now) (g.L.Sink.sink_shortages c.next_request-next.new.link)
     (g.L.Sink.sink_shortages c.act.new.sink)

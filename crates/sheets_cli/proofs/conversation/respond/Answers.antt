@@ -1,5 +1,4 @@
-use Rattle.std.proofs.Common.{ℕ, List, refl, subst, ap}
-use Rattle.sheets_cli.specs.Cells.{cells_of}
+use Rattle.std.proofs.Common.{ℕ, List, refl, subst}
 use Rattle.sheets_cli.specs.Reply.{no_memory_text}
 use Rattle.sheets_cli.specs.Conversation.{replied, refused_for_memory}
 use Rattle.sheets_cli.specs.Exchanges.{Sends}
@@ -9,7 +8,7 @@ use Rattle.sheets_cli.proofs.conversation.respond.Goals as goal
 pub returns-in-Err-clause-response : goal.returns-in-Err-clause-response
 returns-in-Err-clause-response g c = record {
   response = no_memory_text c.args.request.now.close;
-  is_response = refused_for_memory (ap cells_of c.in-Err.ensures.err) refl;
+  is_response = refused_for_memory c.in-Err.ensures.err refl;
   sends = subst (λ (bytes : List ℕ). Sends (g.S.Sink.written c.args.sink.now)
       (g.S.Sink.written c.send_all-in-Err.new.sink) bytes c.send_all-in-Err.result)
       c.no_memory_reply.ensures c.send_all-in-Err.ensures.sent;

@@ -1,18 +1,17 @@
 use Rattle.std.proofs.Common.{◌≡◌}
 use Rattle.sheets_http.specs.Requests.{room_of, stream_of}
-use Rattle.sheets_cli.specs.Cells.{cells_of}
-use Rattle.sheets_cli.specs.Reply.{IsReply}
+use Rattle.sheets_cli.specs.Reply.{Replies}
 use Rattle.sheets_cli.specs.Conversation.{at_moment, HasAnswered, Counts}
 use Rattle.sheets_cli.proofs.conversation.serve.Given as goal
 
 -- the first requests were answered, and no count of faults fell
 abbrev pub invariant-loop-ended : goal.invariant-loop-ended
 invariant-loop-ended g l = record {
-  answered : HasAnswered IsReply (room_of l.most l.initial.buffer)
+  answered : HasAnswered Replies (room_of l.most l.initial.buffer)
       (stream_of l.initial.buffer (g.L.Source.left l.initial.link))
-      (at_moment (cells_of l.initial.sheet) (g.L.Sink.written l.initial.link) (g.L.Sink.sink_shortages l.initial.link))
+      (at_moment l.initial.world (g.L.Sink.written l.initial.link) (g.L.Sink.sink_shortages l.initial.link))
       (room_of l.most l.buffer) (stream_of l.buffer (g.L.Source.left l.link))
-      (at_moment (cells_of l.sheet) (g.L.Sink.written l.link) (g.L.Sink.sink_shortages l.link));
+      (at_moment l.world (g.L.Sink.written l.link) (g.L.Sink.sink_shortages l.link));
   input : Counts (g.L.Source.faults l.initial.link) (g.L.Source.faults l.link) (g.L.Source.steady l.initial.link)
       (g.L.Source.steady l.link);
   output : Counts (g.L.Sink.sink_faults l.initial.link) (g.L.Sink.sink_faults l.link)

@@ -1,0 +1,120 @@
+-- A spreadsheet that is updated and takes the place of the one that has its id: by the names of lines this is the
+-- world after the call.
+use Rattle.std.proofs.Common.{◌≡◌, ℕ, suc, refl, sym, ap, subst, ◌∙◌, List, [], ◌∷◌, cond, Bool, true, false, arith}
+use Rattle.std.specs.Prelude.{Option, Some, None, ◌<◌, ◌==◌, unwrap_or}
+use Rattle.std.specs.List.{All, AllZip}
+use Rattle.std.specs.Option.{option_map_or}
+use Rattle.std.specs.Str.{bytes_eq}
+use Rattle.std.proofs.lemmas.Bool.{false≢true}
+use Rattle.std.proofs.lemmas.List.Elements.{All-map}
+use Rattle.std.proofs.lemmas.Slice.Eq.{bytes_eq-Decides}
+use Rattle.world_model.specs.Area.{Orders}
+use Rattle.world_model.specs.Book.{NameBook, PlaceBook, orders_of}
+use Rattle.world_model.specs.Sheet.{NameSheet}
+use Rattle.world_model.specs.StandsFor.{BookStandsFor}
+use Rattle.world_model.specs.Updating.{Updates, book_updated, sheet_updated, update_named}
+use Rattle.world_model.specs.World.{HasNamesBelow, WorldStandsFor, world_replaced}
+use Rattle.dimension_ops.specs.ByName.{ReplacesByName}
+use Rattle.dimension_ops.specs.World.{book_with}
+use Rattle.values_api.specs.Updates.{AreUpdated}
+use Rattle.batch_engine.specs.Effects.{Becomes, name_book_with}
+use Rattle.batch_engine.specs.Effects.Effect.{Update}
+
+-- ---- what is found by its id
+
+module _ (id : List ℕ) where
+  first_has_id : (b : Bool) (first book : PlaceBook) (rest : Option PlaceBook) → bytes_eq first.id id ≡ b
+      → (rest ≡ Some book → book.id ≡ id) → cond b (Some first) rest ≡ Some book → book.id ≡ id
+  first_has_id true first book rest is behind found =
+      ap (λ (other : PlaceBook). other.id) (sym (same first book found)) ∙ (bytes_eq-Decides first.id id).0 is
+    where
+      same : (one other : PlaceBook) → Some one ≡ Some other → one ≡ other
+      same one other e = cc
+  first_has_id false first book rest is behind found = behind found
+
+  pub found_has_id : (books : List PlaceBook) (book : PlaceBook) → book_with id books ≡ Some book → book.id ≡ id
+  found_has_id [] book found = absurd (none_some book found)
+    where
+      none_some : (book : PlaceBook) → None ≡ Some book → ⊥
+      none_some book e = cc
+  found_has_id (b ∷ bs) book found =
+      first_has_id (bytes_eq b.id id) b book (book_with id bs) refl (found_has_id bs book) found
+
+-- the spreadsheet that stands by names where one was found, and its lines were called before the next one
+pub record FoundByName (next : ℕ) (book : PlaceBook) (found : Option NameBook) : Type 0 where
+  pub names : NameBook
+  pub is : found ≡ Some names
+  pub stands : BookStandsFor book names
+  pub below : HasNamesBelow next names
+
+module _ (id : List ℕ) (next : ℕ) where
+  first_by_name : (b b' : Bool) (first book : PlaceBook) (names : NameBook) (rest : Option PlaceBook)
+      (rest' : Option NameBook) → b' ≡ b → BookStandsFor first names → HasNamesBelow next names
+      → (rest ≡ Some book → FoundByName next book rest') → cond b (Some first) rest ≡ Some book
+      → FoundByName next book (cond b' (Some names) rest')
+  first_by_name true true first book names rest rest' same stands below behind found = record {
+    names = names;
+    is = refl;
+    stands = subst (λ one. BookStandsFor one names) (one_book first book found) stands;
+    below = below;
+  }
+    where
+      one_book : (one other : PlaceBook) → Some one ≡ Some other → one ≡ other
+      one_book one other e = cc
+  first_by_name true false first book names rest rest' same stands below behind found = absurd (false≢true same)
+  first_by_name false true first book names rest rest' same stands below behind found =
+      absurd (false≢true (sym same))
+  first_by_name false false first book names rest rest' same stands below behind found = behind found
+
+  pub found_by_name : (books : List PlaceBook) (meant : List NameBook) (book : PlaceBook)
+      → AllZip BookStandsFor books meant → All (HasNamesBelow next) meant → book_with id books ≡ Some book
+      → FoundByName next book (name_book_with id meant)
+  found_by_name [] meant book each below found = absurd (none_some book found)
+    where
+      none_some : (book : PlaceBook) → None ≡ Some book → ⊥
+      none_some book e = cc
+  found_by_name (b ∷ bs) [] book each below found = absurd each
+  found_by_name (b ∷ bs) (n ∷ ns) book each below found =
+      first_by_name (bytes_eq b.id id) (bytes_eq n.id id) b book n (book_with id bs) (name_book_with id ns)
+      (ap (λ key. bytes_eq key id) (sym each.0.id)) each.0 (below 0 n (omega arith))
+      (found_by_name bs ns book each.1 (λ k d there. below (suc k) d (omega arith))) found
+
+-- ---- an update calls no line
+
+abbrev AreBelow : ℕ → NameSheet → Type 0
+AreBelow next sheet = All (λ name. name < next) sheet.rows × All (λ name. name < next) sheet.cols
+
+chosen_below : (next : ℕ) (b : Bool) (one other : NameSheet) → AreBelow next one → AreBelow next other
+    → AreBelow next (cond b one other)
+chosen_below next true one other below below' = below
+chosen_below next false one other below below' = below'
+
+sheet_below : (next id : ℕ) (orders : Orders) (updates : Updates) (sheet : NameSheet) → AreBelow next sheet
+    → AreBelow next (sheet_updated orders id updates sheet)
+sheet_below next id orders updates sheet below =
+    chosen_below next (sheet.id == id)
+    (record sheet { cells = λ row col. unwrap_or (update_named orders sheet updates row col) (sheet.cells row col) })
+    sheet below below
+
+names_below_after : (next sheet : ℕ) (updates : Updates) (names : NameBook) → HasNamesBelow next names
+    → HasNamesBelow next (book_updated sheet updates names)
+names_below_after next sheet updates names below =
+    All-map (AreBelow next) (sheet_updated (orders_of names.sheets) sheet updates) names.sheets
+    (λ k d there. sheet_below next sheet (orders_of names.sheets) updates _ (below k d there))
+
+-- ---- the world after a call
+
+pub becomes_updated : (id : List ℕ) (sheet : ℕ) (updates : Updates) (books next : List PlaceBook)
+    (before after : PlaceBook) → book_with id books ≡ Some before → AreUpdated sheet updates before after
+    → ReplacesByName after books next → Becomes (Update id sheet updates) books next
+becomes_updated id sheet updates books next before after found updated replaced = record {
+  names = λ world stands.
+      let meant = found_by_name id world.next books world.books before stands.each stands.called found in
+      subst
+      (λ one. WorldStandsFor next (option_map_or
+      (λ (book : NameBook). world_replaced (book_updated sheet updates book) world.next world) one world))
+      (sym meant.is)
+      (replaced.replaced world (book_updated sheet updates meant.names) world.next stands
+      (updated.names meant.names meant.stands) (names_below_after world.next sheet updates meant.names meant.below)
+      (omega arith));
+}

@@ -1,0 +1,4 @@
+pub mod Effects
+pub mod Ranges
+pub mod Calls
+pub mod Laws

@@ -1,0 +1,153 @@
+ghost use Rattle.std.specs.Prelude.{◌≡◌, IfOk, IsSomeAnd};
+ghost use Rattle.dimension_ops.specs.Rules.{IsUnlessNoMemory};
+ghost use Rattle.world_model.specs.Sound.{place_sheet_with};
+ghost use Rattle.values_api.specs.Ranges.{IsThere};
+ghost use Rattle.batch_engine.specs.Calls.{is_columns, axis_or_rows, render_or_formatted, unless_empty, update_of, rule_of, IsReadOf, IsClearOf, IsWriteOf, IsChange};
+ghost use Rattle.batch_engine.specs.Effects.Effect.{Nothing};
+
+use crate::targets::target;
+use cell_value::{Cell, Duplicate, Items, NoMemory, Render};
+use dimension_ops::{Book, Rule, RuleOr};
+use grid_range::Axis;
+use sheets_json::{Answer, ShapeFault, ShownRange, Update, ValueRange};
+use std::alloc::Global;
+use values_api::{Written, clear_values, range_text, read_values, resolve, write_values};
+
+/// What a read of a range shows.
+pub(crate) fn read(
+    alloc: Global,
+    book: &Book,
+    range: &str,
+    dimension: Option<Axis>,
+    render: Option<Render>,
+) -> Result<Answer, RuleOr>
+    ensures { IsUnlessNoMemory (λ told. IsReadOf range.now dimension render book.now told Nothing) result }
+{
+    let (area, _) = resolve(alloc, book, range)?;
+    let axis = axis_or_rows(dimension);
+    let shown = read_values(
+        alloc,
+        book,
+        &area,
+        is_columns(axis),
+        render_or_formatted(render),
+    )?;
+    Ok(Answer::Read(ShownRange {
+        range: range_text(alloc, book, &area)?,
+        major_dimension: axis,
+        values: unless_empty(shown.values),
+    }))
+}
+
+/// Empties the cells of a range: the answer, and the spreadsheet after it.
+pub(crate) fn clear(
+    alloc: Global,
+    book: &Book,
+    user: &str,
+    range: &str,
+) -> Result<(Answer, Book), RuleOr>
+    ensures { IsUnlessNoMemory (IsChange (IsClearOf range.now book.now) book.now) result }
+{
+    let (area, _) = resolve(alloc, book, range)?;
+    let cleared_range = range_text(alloc, book, &area)?;
+    let spreadsheet_id = book.id().duplicate()?;
+    let mut after = book.duplicate()?;
+    clear_values(&mut after, user, &area)?;
+    let answer = Answer::Clear {
+        cleared_range,
+        spreadsheet_id,
+    };
+    Ok((answer, after))
+}
+
+/// Writes what a body says to a range: the answer, and the spreadsheet after it.
+pub(crate) fn write(
+    alloc: Global,
+    book: &Book,
+    user: &str,
+    range: &str,
+    values: &Result<ValueRange, ShapeFault>,
+) -> Result<(Answer, Book), RuleOr>
+    ensures { IsUnlessNoMemory (IsChange (IsWriteOf range.now values.now book.now) book.now) result }
+{
+    match values {
+        Ok(values) => update(alloc, book, user, range, values),
+        Err(fault) => Err(RuleOr::Rule(rule_of(*fault))),
+    }
+}
+
+/// Writes values to a range: the answer, and the spreadsheet after it.
+fn update(
+    alloc: Global,
+    book: &Book,
+    user: &str,
+    range: &str,
+    values: &ValueRange,
+) -> Result<(Answer, Book), RuleOr>
+    ensures { IsUnlessNoMemory (IsChange (IsWriteOf range.now (Rattle.std.specs.Prelude.Ok values.now) book.now) book.now) result }
+{
+    let (area, one_cell) = target(alloc, book, range, values.range.as_ref())?;
+    let mut after = book.duplicate()?;
+    let written = write_values(alloc, &mut after, user, &area, one_cell, &values.block)?;
+    let answer = Answer::Write(update_of(alloc, book, &written)?);
+    Ok((answer, after))
+}
+
+/// What a write did, as it is told.
+fn update_of(alloc: Global, book: &Book, written: &Written) -> Result<Update, NoMemory>
+    requires { IsThere book.now.sheets written.now.area }
+    ensures { IfOk result (λ update. IsSomeAnd (place_sheet_with written.now.area.sheet book.now.sheets)
+        (λ sheet. update ≡ update_of book.now sheet written.now)) }
+{
+    Ok(Update {
+        spreadsheet_id: book.id().duplicate()?,
+        updated_cells: written.cells,
+        updated_columns: written.cols.as_slice().len() as u64,
+        updated_range: range_text(alloc, book, &written.area)?,
+        updated_rows: written.rows.as_slice().len() as u64,
+    })
+}
+
+/// The rule that a shape breaks.
+fn rule_of(fault: ShapeFault) -> Rule
+    ensures { result ≡ rule_of fault }
+{
+    match fault {
+        ShapeFault::BadShape => Rule::BadShape,
+        ShapeFault::Unsupported => Rule::Unsupported,
+        ShapeFault::BadNumber => Rule::BadNumber,
+        ShapeFault::TextLong => Rule::TextLong,
+    }
+}
+
+/// The dimension that is asked for, and rows where none is.
+fn axis_or_rows(dimension: Option<Axis>) -> Axis
+    ensures { result ≡ axis_or_rows dimension }
+{
+    dimension.unwrap_or(Axis::Rows)
+}
+
+/// How it is asked to show cells, and as texts where nothing is asked for.
+fn render_or_formatted(render: Option<Render>) -> Render
+    ensures { result ≡ render_or_formatted render }
+{
+    render.unwrap_or(Render::Formatted)
+}
+
+/// Whether the inner lists are columns.
+fn is_columns(axis: Axis) -> bool
+    ensures { result ≡ is_columns axis }
+{
+    axis == Axis::Columns
+}
+
+/// The lines, unless there are none.
+fn unless_empty(lines: Items<Items<Cell>>) -> Option<Items<Items<Cell>>>
+    ensures { result ≡ unless_empty lines }
+{
+    if lines.as_slice().is_empty() {
+        None
+    } else {
+        Some(lines)
+    }
+}

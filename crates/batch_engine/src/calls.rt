@@ -1,0 +1,147 @@
+ghost use Rattle.std.specs.Prelude.{◌≡◌, Some, None, IfOk};
+ghost use Rattle.std.specs.Option.{IsSome};
+ghost use Rattle.dimension_ops.specs.ByName.{ReplacesByName};
+ghost use Rattle.dimension_ops.specs.World.{book_with};
+ghost use Rattle.batch_engine.specs.Calls.{HasItsBook, IsApplied, IsInstalled, told_as, as_told};
+
+use crate::answers::{clear, read, write};
+use cell_value::{Duplicate, NoMemory, Text};
+use dimension_ops::{Book, Rule, RuleOr, World};
+use sheets_json::{Answer, Call};
+use std::alloc::Global;
+
+/// Who makes a call.
+#[derive(Debug, Drop)]
+pub struct Caller {
+    /// The user.
+    pub user: Text,
+    /// The project under which metadata is seen; it may be empty.
+    pub project: Text,
+}
+
+/// What becomes of a call.
+#[derive(Debug, Drop)]
+pub enum Outcome {
+    /// It is answered so.
+    Answered(Answer),
+    /// It breaks the rule.
+    Refused(Rule),
+}
+
+/// What a call makes of the spreadsheets, and what becomes of it.
+#[derive(Drop)]
+pub struct Applied {
+    /// The spreadsheets after it, where it is one that writes and is answered; the others are shared
+    /// with those before it.
+    pub next: Option<World>,
+    /// What becomes of the call.
+    pub outcome: Outcome,
+}
+
+/// Makes a call on the spreadsheets, which stay as they are: what they are after it is told. Reads,
+/// writes and clears of one range are done (Sheets API v4 reference, spreadsheets.values); any other
+/// call is refused as [`Rule::Unsupported`].
+///
+/// # Errors
+///
+/// [`NoMemory`] where memory runs out.
+pub fn apply(
+    alloc: Global,
+    world: &World,
+    caller: &Caller,
+    call: &Call,
+) -> Result<Applied, NoMemory>
+    requires { HasItsBook call.now world.now }
+    ensures { IfOk result (λ applied. IsApplied call.now world.now applied.outcome applied.next) }
+{
+    match call {
+        Call::Read {
+            id,
+            range,
+            major_dimension,
+            value_render_option,
+        } => {
+            let book = book_of(world, id.as_str());
+            let (dimension, render) = (*major_dimension, *value_render_option);
+            let told = judged(read(alloc, book, range.as_str(), dimension, render))?;
+            Ok(unchanged(told))
+        }
+        Call::Write {
+            id,
+            range,
+            values,
+            ..
+        } => {
+            let book = book_of(world, id.as_str());
+            let user = caller.user.as_str();
+            let told = judged(write(alloc, book, user, range.as_str(), values))?;
+            changed(world, told)
+        }
+        Call::Clear { id, range } => {
+            let book = book_of(world, id.as_str());
+            let user = caller.user.as_str();
+            let told = judged(clear(alloc, book, user, range.as_str()))?;
+            changed(world, told)
+        }
+        _ => Ok(unchanged(Err(Rule::Unsupported))),
+    }
+}
+
+/// The spreadsheet with the id, which is there.
+fn book_of<'a>(world: &'a World, id: &str) -> &'a Book
+    requires { IsSome (book_with id.now world.now) }
+    ensures { book_with id.now world.now ≡ Some result.now }
+{
+    world.find(id).unwrap()
+}
+
+/// What came of a call, where memory didn't run out.
+fn judged<T: Drop>(told: Result<T, RuleOr>) -> Result<Result<T, Rule>, NoMemory>
+    ensures { IfOk result (λ judged. told ≡ as_told judged) }
+{
+    match told {
+        Ok(told) => Ok(Ok(told)),
+        Err(RuleOr::Rule(rule)) => Ok(Err(rule)),
+        Err(RuleOr::NoMemory) => Err(NoMemory),
+    }
+}
+
+/// A call that makes nothing of the spreadsheets.
+fn unchanged(told: Result<Answer, Rule>) -> Applied
+    ensures outcome { result.outcome ≡ told_as told }
+    ensures next { result.next ≡ None }
+{
+    Applied {
+        next: None,
+        outcome: match told {
+            Ok(answer) => Outcome::Answered(answer),
+            Err(rule) => Outcome::Refused(rule),
+        },
+    }
+}
+
+/// A call that changes a spreadsheet, unless it breaks a rule.
+fn changed(world: &World, told: Result<(Answer, Book), Rule>) -> Result<Applied, NoMemory>
+    requires { IfOk told (λ done. IsSome (book_with done.1.id world.now)) }
+    ensures { IfOk result (λ applied. IsInstalled world.now told applied.outcome applied.next) }
+{
+    match told {
+        Ok((answer, book)) => Ok(Applied {
+            next: Some(with_book(world, book)?),
+            outcome: Outcome::Answered(answer),
+        }),
+        Err(rule) => Ok(unchanged(Err(rule))),
+    }
+}
+
+/// The spreadsheets with that one in the place of the one that has its id; the others are shared.
+fn with_book(world: &World, book: Book) -> Result<World, NoMemory>
+    requires { IsSome (book_with book.id world.now) }
+    ensures { IfOk result (ReplacesByName book world.now) }
+{
+    let mut next = world.duplicate()?;
+    match next.replace(book) {
+        Ok(()) => Ok(next),
+        Err((_, fault)) => Err(fault),
+    }
+}

@@ -1,0 +1,11 @@
+//! Calls of the API on the spreadsheets of a server: what each is answered, and what it makes of them
+//! (Google Sheets API v4 reference).
+#![tactic(auto)]
+
+mod answers;
+mod calls;
+mod laws;
+mod targets;
+
+pub use calls::{Applied, Caller, Outcome, apply};
+pub use laws::calls_answered_once;

@@ -1,0 +1,137 @@
+-- A request has one reply on a given world, and leaves it one way.
+use Rattle.std.proofs.Common.{◌≡◌, ◌≢◌, ℕ, Bool, true, false, refl, sym, ap, subst, ◌∙◌, List, [], ◌∷◌, suc, arith, Result, Ok, Err}
+use Rattle.std.specs.Prelude.{◌<◌}
+use Rattle.std.specs.List.{All, AllZip}
+use Rattle.std.proofs.lemmas.Bool.{false≢true}
+use Rattle.std.proofs.lemmas.List.Elements.{All-cons, All-nil}
+use Rattle.world_model.specs.Book.{NameBook, PlaceBook}
+use Rattle.world_model.specs.Laws.{StandsForApart}
+use Rattle.world_model.specs.Sound.{IsSound}
+use Rattle.world_model.specs.StandsFor.{BookStandsFor}
+use Rattle.world_model.specs.World.{NameWorld}
+use Rattle.sheets_http.specs.Queries.{fits_query, members_of}
+use Rattle.sheets_http.specs.Routes.{GivesLast, item, other, HasOneCall, IsRoute, part, path_of, query_of, raw_segments}
+use Rattle.sheets_http.specs.declared.request.Wire.{Wire}
+use Rattle.sheets_http.specs.declared.routes.Route.{Route}
+use Rattle.sheets_http.specs.declared.routes.RouteFault.{RouteFault}
+use Rattle.sheets_http.specs.declared.routes.RouteFault.TheVariants as unrouted
+use Rattle.sheets_http.specs.declared.verb.Verb.{Verb}
+use Rattle.sheets_json.specs.declared.answer.Answer.{Answer}
+use Rattle.sheets_json.specs.declared.call.Call.{Call}
+use Rattle.batch_engine.specs.Effects.{Effect, world_after}
+use Rattle.batch_engine.specs.Laws.{CallsAnsweredOnce}
+use Rattle.sheets_cli.specs.Reply.{IsReply}
+use Rattle.sheets_cli.specs.Step.{IsAsked, IsStep, Ends, asked_for, as_fault, response_of}
+use Rattle.sheets_cli.specs.declared.fault.Fault.{Fault}
+
+-- ---- routes
+
+-- the range and the id behind five segments
+last_once : (verb : Verb) (last range id range' id' : List ℕ) → GivesLast verb last range id
+    → GivesLast verb last range' id' → (range ≡ range') × (id ≡ id')
+last_once verb last range id range' id' (item is none same) (item is' none' same') = (none ∙ sym none', same ∙ sym same')
+last_once verb last range id range' id' (item is none same) (other not same' none') = absurd (not is)
+last_once verb last range id range' id' (other not same none) (item is none' same') = absurd (not is)
+last_once verb last range id range' id' (other not same none) (other not' same' none') =
+    (same ∙ sym same', none ∙ sym none')
+
+abbrev route_as : Verb → List ℕ → List ℕ → List ℕ → List (List ℕ × List ℕ) → Route
+route_as verb book range id query = record { verb = verb; book = book; range = range; id = id; query = query }
+
+route_same : (verb verb' : Verb) (book book' range range' id id' : List ℕ) (query query' : List (List ℕ × List ℕ))
+    → verb ≡ verb' → book ≡ book' → range ≡ range' → id ≡ id' → query ≡ query'
+    → route_as verb book range id query ≡ route_as verb' book' range' id' query'
+route_same verb verb' book book' range range' id id' query query' v b r i q =
+    ap (λ one. route_as one book range id query) v ∙ ap (λ one. route_as verb' one range id query) b
+    ∙ ap (λ one. route_as verb' book' one id query) r ∙ ap (λ one. route_as verb' book' range' one query) i
+    ∙ ap (λ one. route_as verb' book' range' id' one) q
+
+module _ (one_call : HasOneCall) (method target : List ℕ) where
+  route_once : (one another : Route) → IsRoute method target (Ok one) → IsRoute method target (Ok another) → one ≡ another
+  route_once one another is is' =
+      let call = one_call one.verb another.verb is.before is'.before method (path_of target) is.is_call is'.is_call in
+      let last : (one.range ≡ another.range) × (one.id ≡ another.id) =
+      last_once another.verb (part 5 (raw_segments is'.before)) one.range one.id another.range another.id
+      (subst (λ verb. GivesLast verb (part 5 (raw_segments is'.before)) one.range one.id) call.0
+      (subst (λ before. GivesLast one.verb (part 5 (raw_segments before)) one.range one.id) call.1 is.last_is))
+      is'.last_is in
+      route_same one.verb another.verb one.book another.book one.range another.range one.id another.id one.query another.query
+      call.0 (is.book_is ∙ ap (λ before. part 3 (raw_segments before)) call.1 ∙ sym is'.book_is) last.0 last.1
+      (is.query_is ∙ sym is'.query_is)
+
+  -- a query fits, or it doesn't
+  query_apart : (route : Route) → IsRoute method target (Ok route) → IsRoute method target (Err unrouted.BadQuery) → ⊥
+  query_apart route is is' =
+      let call = one_call route.verb is'.0 is.before is'.1 method (path_of target) is.is_call is'.2 in
+      false≢true (sym is'.3 ∙ ap (λ verb. fits_query verb (members_of (query_of target))) (sym call.0)
+      ∙ ap (λ query. fits_query route.verb query) (sym is.query_is) ∙ is.query_fits)
+
+  pub routed_once : (one another : Result Route RouteFault) → one ≢ Err unrouted.NoMemory → another ≢ Err unrouted.NoMemory
+      → IsRoute method target one → IsRoute method target another → one ≡ another
+  routed_once (Ok one) (Ok another) told told' is is' = ap (λ route. Ok route) (route_once one another is is')
+  routed_once (Ok one) (Err unrouted.NoRoute) told told' is is' = absurd (is' one.verb is.before is.is_call)
+  routed_once (Ok one) (Err unrouted.BadQuery) told told' is is' = absurd (query_apart one is is')
+  routed_once (Err unrouted.NoRoute) (Ok another) told told' is is' = absurd (is another.verb is'.before is'.is_call)
+  routed_once (Err unrouted.NoRoute) (Err unrouted.NoRoute) told told' is is' = refl
+  routed_once (Err unrouted.NoRoute) (Err unrouted.BadQuery) told told' is is' = absurd (is is'.0 is'.1 is'.2)
+  routed_once (Err unrouted.BadQuery) (Ok another) told told' is is' = absurd (query_apart another is' is)
+  routed_once (Err unrouted.BadQuery) (Err unrouted.NoRoute) told told' is is' = absurd (is' is.0 is.1 is.2)
+  routed_once (Err unrouted.BadQuery) (Err unrouted.BadQuery) told told' is is' = refl
+  routed_once (Err unrouted.NoMemory) another told told' is is' = absurd (told refl)
+  routed_once (Ok one) (Err unrouted.NoMemory) told told' is is' = absurd (told' refl)
+  routed_once (Err unrouted.NoRoute) (Err unrouted.NoMemory) told told' is is' = absurd (told' refl)
+  routed_once (Err unrouted.BadQuery) (Err unrouted.NoMemory) told told' is is' = absurd (told' refl)
+
+-- ---- what is seen of a world
+
+books_once : StandsForApart → (books others : List PlaceBook) (names : List NameBook) → AllZip BookStandsFor books names
+    → AllZip BookStandsFor others names → books ≡ others
+books_once apart [] [] [] is is' = refl
+books_once apart [] (another ∷ others) [] is is' = absurd is'
+books_once apart (book ∷ books) others [] is is' = absurd is
+books_once apart [] others (name ∷ names) is is' = absurd is
+books_once apart (book ∷ books) [] (name ∷ names) is is' = absurd is'
+books_once apart (book ∷ books) (another ∷ others) (name ∷ names) is is' =
+    ap (λ first. first ∷ books) (apart.same book another name is.0 is'.0)
+    ∙ ap (λ rest. another ∷ rest) (books_once apart books others names is.1 is'.1)
+
+books_sound : (books : List PlaceBook) (names : List NameBook) → AllZip BookStandsFor books names → All IsSound books
+books_sound [] names is = All-nil IsSound
+books_sound (book ∷ books) [] is = absurd is
+books_sound (book ∷ books) (name ∷ names) is = All-cons IsSound book books is.0.sound (books_sound books names is.1)
+
+-- ---- steps
+
+module _ (one_call : HasOneCall) (calls : CallsAnsweredOnce) (books : List PlaceBook) (sound : All IsSound books) where
+  asked_once : (request : Wire) (one another : Result Call Fault) → IsAsked books request one → IsAsked books request another
+      → one ≡ another
+  asked_once request one another is is' =
+      is.asked_is ∙ ap (asked_for books request)
+      (routed_once one_call request.method request.target is.routed is'.routed is.told is'.told is.is_route is'.is_route)
+      ∙ sym is'.asked_is
+
+  ends_once : (asked : Result Call Fault) (told told' : Result Answer Fault) (effect effect' : Effect)
+      → Ends books asked told effect → Ends books asked told' effect' → (told ≡ told') × (effect ≡ effect')
+  ends_once (Ok call) told told' effect effect' is is' =
+      let same = calls.once call books sound is.answer is'.answer effect effect' is.answered is'.answered in
+      (is.told_is ∙ ap as_fault same.0 ∙ sym is'.told_is, same.1)
+  ends_once (Err found) told told' effect effect' is is' = (is.0 ∙ sym is'.0, is.1 ∙ sym is'.1)
+
+  step_once : (request : Wire) (told told' : Result Answer Fault) (effect effect' : Effect)
+      → IsStep books request told effect → IsStep books request told' effect' → (told ≡ told') × (effect ≡ effect')
+  step_once request told told' effect effect' is is' =
+      ends_once is'.asked told told' effect effect'
+      (subst (λ asked. Ends books asked told effect) (asked_once request is.asked is'.asked is.is_asked is'.is_asked) is.ends)
+      is'.ends
+
+pub one_reply : HasOneCall → CallsAnsweredOnce → StandsForApart → (world world_one world_other : NameWorld)
+    (request : Wire) (one another : List ℕ)
+    → IsReply world request world_one one → IsReply world request world_other another
+    → (world_one ≡ world_other) × (one ≡ another)
+one_reply one_call calls apart world world_one world_other request one another is is' =
+    let same_books = books_once apart is.books is'.books world.books is.seen.each is'.seen.each in
+    let same = step_once one_call calls is'.books (books_sound is'.books world.books is'.seen.each) request is.told is'.told
+    is.effect is'.effect (subst (λ books. IsStep books request is.told is.effect) same_books is.is_step) is'.is_step in (
+      is.world_is ∙ ap (λ effect. world_after effect world) same.1 ∙ sym is'.world_is,
+      is.response_is ∙ ap (response_of request.close) same.0 ∙ sym is'.response_is,
+    )

@@ -1,0 +1,158 @@
+-- What one request is answered, and what it makes of the spreadsheets: the first fault of a request that is no call,
+-- and else what its call is answered (Google Sheets API v4 reference; Google's API errors).
+use Rattle.std.specs.Prelude.{◌≡◌, ◌≢◌, ℕ, Bool, true, false, ◌&&◌, ◌||◌, not, List, Result, Ok, Err, codes}
+use Rattle.std.specs.Prelude.{if◌then◌else◌, Option}
+use Rattle.std.specs.List.{list_any}
+use Rattle.std.specs.Option.{is_none}
+use Rattle.std.specs.Str.{bytes_eq}
+use Rattle.serde_json.specs.Written.{compact_text}
+use Rattle.world_model.specs.Book.{PlaceBook}
+use Rattle.dimension_ops.specs.World.{book_with}
+use Rattle.dimension_ops.specs.Rules.{rule_text}
+use Rattle.dimension_ops.specs.declared.rule.Rule.{Rule}
+use Rattle.dimension_ops.specs.declared.rule.Rule.TheVariants as rule
+use Rattle.sheets_http.specs.Responses.{text_of_response}
+use Rattle.sheets_http.specs.Routes.{IsRoute}
+use Rattle.sheets_http.specs.declared.request.Wire.{Wire}
+use Rattle.sheets_http.specs.declared.routes.Route.{Route}
+use Rattle.sheets_http.specs.declared.routes.RouteFault.{RouteFault}
+use Rattle.sheets_http.specs.declared.routes.RouteFault.TheVariants as unrouted
+use Rattle.sheets_http.specs.declared.verb.Verb.{Verb}
+use Rattle.sheets_http.specs.declared.verb.Verb.TheVariants as verb
+use Rattle.sheets_json.specs.Answers.{answer_data}
+use Rattle.sheets_json.specs.Calls.{call_of}
+use Rattle.sheets_json.specs.Refusals.{refusal_data}
+use Rattle.sheets_json.specs.declared.answer.Answer.{Answer}
+use Rattle.sheets_json.specs.declared.call.Call.{Call}
+use Rattle.sheets_json.specs.declared.call.CallFault.{CallFault}
+use Rattle.sheets_json.specs.declared.call.CallFault.TheVariants as uncalled
+use Rattle.batch_engine.specs.Calls.{IsAnswered}
+use Rattle.batch_engine.specs.Effects.{Effect, IsNext}
+use Rattle.batch_engine.specs.declared.calls.Outcome.{Outcome}
+use Rattle.batch_engine.specs.declared.calls.Outcome.TheVariants as outcome
+use Rattle.sheets_cli.specs.declared.fault.Fault.{Fault}
+use Rattle.sheets_cli.specs.declared.fault.Fault.TheVariants as fault
+
+-- ---- what is served
+
+-- reads, writes and clears of one range are served
+abbrev pub is_served : Verb → Bool
+is_served verb.Read = true
+is_served verb.Write = true
+is_served verb.Clear = true
+is_served _ = false
+
+-- the query has the member with that value
+abbrev pub has_word : List ℕ → List ℕ → List (List ℕ × List ℕ) → Bool
+has_word name value query = list_any (λ member. bytes_eq member.0 name && bytes_eq member.1 value) query
+
+-- texts are stored as they are, and formulas aren't shown
+abbrev pub asks_for_formulas : List (List ℕ × List ℕ) → Bool
+asks_for_formulas query =
+    has_word (codes "valueInputOption") (codes "USER_ENTERED") query
+    || has_word (codes "valueRenderOption") (codes "FORMULA") query
+
+-- ---- the first fault of a request
+
+-- the call that a body says, or that it says none
+abbrev pub said_by : Result Call CallFault → Result Call Fault
+said_by (Ok call) = Ok call
+said_by (Err uncalled.BadBody) = Err fault.BadBody
+said_by (Err uncalled.EmptyBatch) = Err fault.EmptyBatch
+said_by (Err uncalled.NotRead) = Err fault.NoRoute
+said_by (Err uncalled.NoMemory) = Err fault.BadBody
+
+abbrev pub asked_on : List PlaceBook → Wire → Route → Result Call Fault
+asked_on books request route =
+    if not (is_served route.verb) then Err fault.NoRoute
+    else if asks_for_formulas route.query then Err fault.BadQuery
+    else if is_none (book_with route.book books) then Err fault.NoBook
+    else if request.coded then Err fault.BadBody
+    else said_by (call_of route request.body)
+
+abbrev pub asked_for : List PlaceBook → Wire → Result Route RouteFault → Result Call Fault
+asked_for books request (Ok route) = asked_on books request route
+asked_for books request (Err unrouted.NoRoute) = Err fault.NoRoute
+asked_for books request (Err unrouted.BadQuery) = Err fault.BadQuery
+asked_for books request (Err unrouted.NoMemory) = Err fault.NoRoute
+
+-- the request asks for that call, or has that fault
+pub record IsAsked (books : List PlaceBook) (request : Wire) (asked : Result Call Fault) : Type 0 where
+  pub routed : Result Route RouteFault
+  pub told : routed ≢ Err unrouted.NoMemory
+  pub is_route : IsRoute request.method request.target routed
+  pub asked_is : asked ≡ asked_for books request routed
+
+-- ---- answers
+
+-- a broken rule is a fault of the request
+abbrev pub as_fault : Result Answer Rule → Result Answer Fault
+as_fault (Ok answer) = Ok answer
+as_fault (Err broken) = Err (fault.Broken broken)
+
+-- the call is answered on the spreadsheets
+pub record IsCalled (books : List PlaceBook) (call : Call) (told : Result Answer Fault) (effect : Effect) : Type 0 where
+  pub answer : Result Answer Rule
+  pub answered : IsAnswered call books answer effect
+  pub told_is : told ≡ as_fault answer
+
+-- a request that is no call makes nothing of them
+abbrev pub Ends : List PlaceBook → Result Call Fault → Result Answer Fault → Effect → Type 0
+Ends books (Ok call) told effect = IsCalled books call told effect
+Ends books (Err found) told effect = (told ≡ Err found) × (effect ≡ Effect.Nothing)
+
+-- the request is answered so, or has that fault, and makes that of the spreadsheets
+pub record IsStep (books : List PlaceBook) (request : Wire) (told : Result Answer Fault) (effect : Effect) : Type 0
+  where
+    pub asked : Result Call Fault
+    pub is_asked : IsAsked books request asked
+    pub ends : Ends books asked told effect
+
+-- the spreadsheets after it are told where it makes something of them
+pub record Makes (books : List PlaceBook) (request : Wire) (told : Result Answer Fault)
+    (next : Option (List PlaceBook)) : Type 0 where
+  pub effect : Effect
+  pub is_step : IsStep books request told effect
+  pub is_next : IsNext books effect next
+
+-- what is told of a call, as of its request
+abbrev pub told_by : Outcome → Result Answer Fault
+told_by (outcome.Answered answer) = Ok answer
+told_by (outcome.Refused broken) = Err (fault.Broken broken)
+
+-- a call, likewise
+pub record Performs (books : List PlaceBook) (call : Call) (told : Result Answer Fault) (next : Option (List PlaceBook))
+    : Type 0 where
+  pub effect : Effect
+  pub is_called : IsCalled books call told effect
+  pub is_next : IsNext books effect next
+
+-- ---- responses
+
+-- the status of a fault: one of what the request names, of its user's rights, or of itself
+abbrev pub status_of_rule : Rule → ℕ
+status_of_rule (rule.Protected id) = 403
+status_of_rule rule.NotEditor = 403
+status_of_rule _ = 400
+
+abbrev pub status_of_fault : Fault → ℕ
+status_of_fault fault.NoRoute = 404
+status_of_fault fault.NoBook = 404
+status_of_fault fault.BadQuery = 400
+status_of_fault fault.BadBody = 400
+status_of_fault fault.EmptyBatch = 400
+status_of_fault (fault.Broken broken) = status_of_rule broken
+
+abbrev pub message_of : Fault → List ℕ
+message_of fault.NoRoute = codes "NoRoute"
+message_of fault.NoBook = codes "NoBook"
+message_of fault.BadQuery = codes "BadQuery"
+message_of fault.BadBody = codes "BadBody"
+message_of fault.EmptyBatch = codes "EmptyBatch"
+message_of (fault.Broken broken) = rule_text broken
+
+-- the response to a request that is answered so; `close` says that it is the last
+abbrev pub response_of : Bool → Result Answer Fault → List ℕ
+response_of close (Ok answer) = text_of_response 200 close (compact_text (answer_data answer))
+response_of close (Err found) =
+    text_of_response (status_of_fault found) close (compact_text (refusal_data (status_of_fault found) (message_of found)))

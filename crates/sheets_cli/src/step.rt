@@ -1,0 +1,127 @@
+ghost use Rattle.std.specs.Prelude.{◌≡◌, IfOk};
+ghost use Rattle.batch_engine.specs.Calls.{HasItsBook};
+ghost use Rattle.sheets_cli.specs.Step.{is_served, has_word, asks_for_formulas, asked_on, IsAsked, Makes, Performs, told_by};
+
+use crate::fault::Fault;
+use batch_engine::{Applied, Caller, Outcome, apply};
+use cell_value::{Items, NoMemory, Text};
+use dimension_ops::World;
+use sheets_http::{Route, RouteFault, Verb, Wire, route};
+use sheets_json::{Answer, Call, CallFault, read_call};
+use std::alloc::Global;
+
+/// What a request is answered, and the spreadsheets after it, where it makes something of them.
+#[derive(Drop)]
+pub(crate) struct Stepped {
+    pub(crate) told: Result<Answer, Fault>,
+    pub(crate) next: Option<World>,
+}
+
+/// Answers a request on the spreadsheets, which stay as they are.
+///
+/// # Errors
+///
+/// [`NoMemory`] where memory runs out.
+pub(crate) fn step(alloc: Global, world: &World, request: &Wire) -> Result<Stepped, NoMemory>
+    ensures { IfOk result (λ step. Makes world.now request.now step.told step.next) }
+{
+    match asked(alloc, world, request)? {
+        Ok(call) => called(alloc, world, &call),
+        Err(fault) => Ok(Stepped {
+            told: Err(fault),
+            next: None,
+        }),
+    }
+}
+
+/// The call that a request asks for, or its first fault.
+fn asked(alloc: Global, world: &World, request: &Wire) -> Result<Result<Call, Fault>, NoMemory>
+    ensures asked { IfOk result (IsAsked world.now request.now) }
+    ensures there { IfOk result (λ asked. IfOk asked (λ call. HasItsBook call world.now)) }
+{
+    match route(alloc, request.method.as_str(), request.target.as_str()) {
+        Ok(route) => asked_on(alloc, world, request, &route),
+        Err(RouteFault::NoRoute) => Ok(Err(Fault::NoRoute)),
+        Err(RouteFault::BadQuery) => Ok(Err(Fault::BadQuery)),
+        Err(RouteFault::NoMemory) => Err(NoMemory),
+    }
+}
+
+/// The call that a request with that route asks for, or its first fault.
+fn asked_on(
+    alloc: Global,
+    world: &World,
+    request: &Wire,
+    route: &Route,
+) -> Result<Result<Call, Fault>, NoMemory>
+    ensures asked { IfOk result (λ asked. asked ≡ asked_on world.now request.now route.now) }
+    ensures there { IfOk result (λ asked. IfOk asked (λ call. HasItsBook call world.now)) }
+{
+    if !is_served(route.verb) {
+        return Ok(Err(Fault::NoRoute));
+    }
+    if asks_for_formulas(&route.query) {
+        return Ok(Err(Fault::BadQuery));
+    }
+    if world.find(route.book.as_str()).is_none() {
+        return Ok(Err(Fault::NoBook));
+    }
+    if request.coded {
+        return Ok(Err(Fault::BadBody));
+    }
+    match read_call(alloc, route, request.body.as_slice()) {
+        Ok(call) => Ok(Ok(call)),
+        Err(CallFault::BadBody) => Ok(Err(Fault::BadBody)),
+        Err(CallFault::EmptyBatch) => Ok(Err(Fault::EmptyBatch)),
+        Err(CallFault::NotRead) => Ok(Err(Fault::NoRoute)),
+        Err(CallFault::NoMemory) => Err(NoMemory),
+    }
+}
+
+/// Whether the call is served.
+fn is_served(verb: Verb) -> bool
+    ensures { result ≡ is_served verb }
+{
+    matches!(verb, Verb::Read | Verb::Write | Verb::Clear)
+}
+
+/// Whether the query asks for texts to be taken as formulas, or for formulas to be shown.
+fn asks_for_formulas(query: &Items<(Text, Text)>) -> bool
+    ensures { result ≡ asks_for_formulas query.now }
+{
+    has_word(query, "valueInputOption", "USER_ENTERED")
+        || has_word(query, "valueRenderOption", "FORMULA")
+}
+
+/// Whether the query has the member with that value.
+fn has_word(query: &Items<(Text, Text)>, name: &str, value: &str) -> bool
+    ensures { result ≡ has_word name.now value.now query.now }
+{
+    query.as_slice().iter().any(|member| member.0.as_str() == name && member.1.as_str() == value)
+}
+
+/// Makes a call of the owner on the spreadsheets, which stay as they are.
+fn called(alloc: Global, world: &World, call: &Call) -> Result<Stepped, NoMemory>
+    requires { HasItsBook call.now world.now }
+    ensures { IfOk result (λ step. Performs world.now call.now step.told step.next) }
+{
+    let caller = Caller {
+        user: Text::of(String::from_str(alloc, "owner")?),
+        project: Text::of(String::new(alloc)),
+    };
+    let Applied { next, outcome } = apply(alloc, world, &caller, call)?;
+    Ok(Stepped {
+        told: told_by(outcome),
+        next,
+    })
+}
+
+/// What is told of a call, as of its request.
+fn told_by(outcome: Outcome) -> Result<Answer, Fault>
+    ensures { result ≡ told_by outcome }
+{
+    match outcome {
+        Outcome::Answered(answer) => Ok(answer),
+        Outcome::Refused(rule) => Err(Fault::Broken(rule)),
+    }
+}
