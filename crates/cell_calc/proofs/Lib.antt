@@ -1,0 +1,4 @@
+pub mod WholeTexts
+pub mod OneMore
+pub mod Taking
+pub mod AllGood

@@ -1,0 +1,10 @@
+use Rattle.std.proofs.Common.{rules}
+use Rattle.std.proofs.lemmas.Iterator.{YieldsList-from_chars, YieldsList-from_take, text_from_collect}
+use Rattle.std.proofs.lemmas.Iterator.Adapters.{YieldsList-from_skip}
+use Rattle.cell_calc.proofs.functions.texts.part.Goals as goal
+
+pub returns : goal.returns
+returns c = text_from_collect _ c.collect.ensures.ran
+    (YieldsList-from_take c.args.count
+    (YieldsList-from_skip c.args.start (YieldsList-from_chars c.args.text.now (search rules) cc) cc)
+    c.take.ensures.count)

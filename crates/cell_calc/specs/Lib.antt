@@ -1,0 +1,11 @@
+pub mod Conversion
+pub mod Outcome
+pub mod Comparison
+pub mod Operators
+pub mod NumberFunctions
+pub mod LogicFunctions
+pub mod TextFunctions
+pub mod Arguments
+pub mod GatheringFunctions
+pub mod Lent
+pub mod Taken
