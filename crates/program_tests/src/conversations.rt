@@ -1,5 +1,5 @@
 use crate::common::check;
-use crate::rows::{CONVERSATIONS, Conversation, EXCHANGES, Exchange};
+use crate::rows::{CHANGES, CONVERSATIONS, Conversation, Exchange, NO_CALLS, RANGES, WRITES};
 use cell_value::{Bytes, Items};
 use sheets_cli::{cut_off_laws, reply_laws, sheets_main};
 use sheets_http::{MemorySink, MemorySource};
@@ -80,8 +80,29 @@ fn is_answered_in_pieces(rt: &HostRuntime, row: &Conversation, piece: u64) -> bo
 }
 
 #[test]
-fn answers_requests(rt: HostRuntime) {
-    for row in &EXCHANGES {
+fn refuses_what_is_no_call(rt: HostRuntime) {
+    for row in &NO_CALLS {
+        check(&rt, &row.3, is_answered(&rt, row));
+    }
+}
+
+#[test]
+fn reads_ranges(rt: HostRuntime) {
+    for row in &RANGES {
+        check(&rt, &row.3, is_answered(&rt, row));
+    }
+}
+
+#[test]
+fn writes_values(rt: HostRuntime) {
+    for row in &WRITES {
+        check(&rt, &row.3, is_answered(&rt, row));
+    }
+}
+
+#[test]
+fn shows_what_was_changed(rt: HostRuntime) {
+    for row in &CHANGES {
         check(&rt, &row.3, is_answered(&rt, row));
     }
 }

@@ -85,8 +85,8 @@ const BAD_REQUEST: &str = "400 Bad Request";
 
 const CLOSE: &str = "Connection: close\r\n";
 
-/// Requests and their answers, known from outside.
-pub(crate) static EXCHANGES: [Exchange; 79] = [
+/// Requests that are no call, and ranges, and their answers, known from outside.
+pub(crate) static NO_CALLS: [Exchange; 20] = [
     (
         &[("GET /v4/spreadsheets/book1", "Host: localhost\r\n", "")],
         NOT_FOUND,
@@ -262,6 +262,10 @@ pub(crate) static EXCHANGES: [Exchange; 79] = [
         "",
         "{\"majorDimension\":\"ROWS\",\"range\":\"Sheet1!A1:Z2\"}",
     ),
+];
+
+/// Reads of ranges and their answers, known from outside.
+pub(crate) static RANGES: [Exchange; 21] = [
     (
         &[("GET /v4/spreadsheets/book1/values/A5:B", "", "")],
         OK,
@@ -432,6 +436,10 @@ pub(crate) static EXCHANGES: [Exchange; 79] = [
         "",
         "{\"error\":{\"code\":400,\"message\":\"BadBody\",\"status\":\"INVALID_ARGUMENT\"}}",
     ),
+];
+
+/// Writes and their answers, known from outside.
+pub(crate) static WRITES: [Exchange; 20] = [
     (
         &[(
             "PUT /v4/spreadsheets/book1/values/A1?valueInputOption=RAW",
@@ -632,6 +640,10 @@ pub(crate) static EXCHANGES: [Exchange; 79] = [
         "",
         "{\"error\":{\"code\":400,\"message\":\"NoSheet\",\"status\":\"INVALID_ARGUMENT\"}}",
     ),
+];
+
+/// Writes and clears, and what is read behind them, known from outside.
+pub(crate) static CHANGES: [Exchange; 18] = [
     (
         &[(
             "PUT /v4/spreadsheets/book1/values/ZZZ1?valueInputOption=RAW",
