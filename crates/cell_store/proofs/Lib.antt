@@ -6,3 +6,4 @@ pub mod Filling
 pub mod Listed
 pub mod Going
 pub mod Moving
+pub mod Turned

@@ -7,11 +7,12 @@ ghost use Rattle.cell_store.specs.Moved.{GoesWithLines, IsRoomAfter, lines_on};
 ghost use Rattle.cell_store.specs.Places.{AreFilledPlaces};
 
 use crate::grid::Grid;
+use crate::tree::TreeGrid;
 use cell_value::{Duplicate, Items, NoMemory};
 use grid_range::{Area, Axis, Change};
 
 /// What a sheet asks of its cells: a [`Grid`] in which each write may want memory, as it does where
-/// copies share what they hold. Each `Grid` is one.
+/// copies share what they hold.
 pub trait CellStore<T: Duplicate> {
     /// The sheet's size and its items.
     ghost table: { Self → Table T };
@@ -86,8 +87,8 @@ pub trait CellStore<T: Duplicate> {
         ensures { IfOk result (λ copy. table copy ≡ table self.now) };
 }
 
-impl<T: Duplicate, G: Grid<T>> CellStore<T> for G {
-    ghost table = { λ grid. G.table grid };
+impl<T: Duplicate + Drop> CellStore<T> for TreeGrid<T> {
+    ghost table = { λ grid. grid };
 
     fn rows(&self) -> u32 {
         Grid::rows(self)
@@ -122,7 +123,7 @@ impl<T: Duplicate, G: Grid<T>> CellStore<T> for G {
         Grid::filled(self)
     }
 
-    fn copy(&self) -> Result<G, NoMemory> {
+    fn copy(&self) -> Result<TreeGrid<T>, NoMemory> {
         Grid::copy(self)
     }
 }

@@ -3,7 +3,6 @@ use Rattle.std.proofs.Common.{◌≡◌, ℕ, suc, zero, ◌+◌, ◌<◌, Optio
 use Rattle.std.specs.Prelude.{slice_get}
 use Rattle.std.specs.List.{swap}
 use Rattle.std.specs.Option.{option_map}
-use Rattle.std.proofs.lemmas.List.{get_or-map}
 use Rattle.indexmap.specs.IndexMap.{set_value_at}
 use Rattle.cell_value.specs.Entries.{entry_followed}
 use Rattle.cell_value.proofs.InPlace.{Keeps, Keeps-read, Keeps-lost, Keeps-between, Keeps-swapped}

@@ -1,8 +1,9 @@
--- Laws of what lists have: from the first element on, and what `filter` and `filter_map` leave.
-use Rattle.std.proofs.Common.{◌≡◌, ◌<◌, ◌⊎◌, inl, inr, ℕ, zero, suc, List, [], ◌∷◌, length, get_or, Bool, true, false, cond, refl, sym, ap, subst, ◌∙◌, arith}
+-- Laws of what lists have: from the first element on, and what `map`, `filter`, `filter_map` and one list behind
+-- another make.
+use Rattle.std.proofs.Common.{◌≡◌, ◌<◌, ◌⊎◌, inl, inr, ℕ, zero, suc, List, [], ◌∷◌, ◌++◌, length, get_or, map, Bool, true, false, cond, refl, sym, ap, subst, ◌∙◌, arith}
 use Rattle.std.specs.Prelude.{Option, Some, None, Contains}
-use Rattle.std.specs.List.{IsDistinct, filter, filter_map, cons_option}
-use Rattle.std.proofs.lemmas.List.Elements.{All-from_recursion, recursion_from_All, All-filter}
+use Rattle.std.specs.List.{AllByRecursion, IsDistinct, filter, filter_map, cons_option}
+use Rattle.std.proofs.lemmas.List.Elements.{All-contains, All-from_recursion, recursion_from_All, All-filter, Contains-get_or, Contains-append_cases}
 use Rattle.std.proofs.lemmas.Map.Keys.{IsDistinct-head, IsDistinct-tail, IsDistinct-cons}
 
 module _ {X : Type 0} where
@@ -22,9 +23,46 @@ module _ {X : Type 0} where
       by_index zero within found = inl found
       by_index (suc k) within found = inr (k, omega arith, found)
 
+  -- what holds of each element that a list has, as std's two forms of `All` say it
+  pub each_from : (P : X → Type 0) (xs : List X) → ((x : X) → Contains xs x → P x) → AllByRecursion P xs
+  each_from P xs holds =
+      recursion_from_All P xs (λ k d less. holds (get_or xs k d) (Contains-get_or xs k d less))
+
+  pub from_each : (P : X → Type 0) (xs : List X) → AllByRecursion P xs → (x : X) → Contains xs x → P x
+  from_each P xs holds x has = All-contains P xs x (All-from_recursion P xs holds) has
+
   pub IsDistinct-none : (eq : X → X → Bool) → IsDistinct eq []
   unfolding IsDistinct
   IsDistinct-none eq = tt
+
+  -- one list behind another, of elements that differ, also from those of the other list
+  pub IsDistinct-append : (eq : X → X → Bool) (xs ys : List X) → IsDistinct eq xs → IsDistinct eq ys
+      → ((x y : X) → Contains xs x → Contains ys y → eq x y ≡ false) → IsDistinct eq (xs ++ ys)
+  IsDistinct-append eq [] ys one two apart = two
+  IsDistinct-append eq (x ∷ xs) ys one two apart =
+      IsDistinct-cons eq x (xs ++ ys)
+      (each_from (λ y. eq x y ≡ false) (xs ++ ys) (λ y has. elim (Contains-append_cases xs ys y has) [
+        | inl first ↦ from_each (λ z. eq x z ≡ false) xs (IsDistinct-head eq x xs one) y first
+        | inr second ↦ apart x y (Contains-head x xs) second
+      ]))
+      (IsDistinct-append eq xs ys (IsDistinct-tail eq x xs one) two (λ a b has. apart a b (Contains-cons x a xs has)))
+
+module _ {X Y : Type 0} (f : X → Y) where
+  -- what `map` makes of an element is in its list
+  pub Contains-map : (xs : List X) (x : X) → Contains xs x → Contains (map f xs) (f x)
+  Contains-map [] x has = absurd (nothing_in x has)
+  Contains-map (head ∷ rest) x has = elim (Contains-cons_cases head x rest has) [
+    | inl here ↦ subst (λ y. Contains (f head ∷ map f rest) (f y)) here (Contains-head (f head) (map f rest))
+    | inr there ↦ Contains-cons (f head) (f x) (map f rest) (Contains-map rest x there)
+  ]
+
+  -- and each of its list is made of one
+  pub Contains-map_from : (xs : List X) (y : Y) → Contains (map f xs) y → (x : X) × Contains xs x × (f x ≡ y)
+  Contains-map_from [] y has = absurd (nothing_in y has)
+  Contains-map_from (head ∷ rest) y has = elim (Contains-cons_cases (f head) y (map f rest) has) [
+    | inl here ↦ (head, Contains-head head rest, here)
+    | inr there ↦ let (x, had, is) = Contains-map_from rest y there in (x, Contains-cons head x rest had, is)
+  ]
 
 module _ {X : Type 0} (test : X → Bool) where
   -- what passes a test is left by a filter

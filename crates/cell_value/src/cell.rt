@@ -1,5 +1,5 @@
 use crate::entered::Input;
-use crate::{Items, Text};
+use crate::{Duplicate, Items, NoMemory, Text};
 
 /// An error that a cell shows (Sheets API v4 reference, ErrorType).
 #[derive(Clone, Copy, Debug, PartialEq, Eq)]
@@ -33,6 +33,18 @@ pub enum Value {
     Truth(bool),
     /// An error.
     Error(Kind),
+}
+
+impl Duplicate for Value {
+    fn duplicate(&self) -> Result<Value, NoMemory> {
+        match self {
+            Value::Blank => Ok(Value::Blank),
+            Value::Number(number) => Ok(Value::Number(*number)),
+            Value::Text(text) => Ok(Value::Text(text.duplicate()?)),
+            Value::Truth(truth) => Ok(Value::Truth(*truth)),
+            Value::Error(kind) => Ok(Value::Error(*kind)),
+        }
+    }
 }
 
 /// How values are shown (Sheets API v4 reference, ValueRenderOption).

@@ -15,4 +15,8 @@ mod links;
 #[cfg(test)]
 mod maps;
 #[cfg(test)]
+mod sheets;
+#[cfg(test)]
+mod trees;
+#[cfg(test)]
 mod versions;

@@ -63,11 +63,20 @@ fn versions(alloc: Global) -> Result<Vec<SharedMap<u64>>, NoMemory> {
 
 fn write(map: &mut SharedMap<u64>, key: u64, item: Option<u64>) -> Result<(), NoMemory> {
     match item {
-        Some(item) => match map.put(key, item) {
-            Ok(_) => Ok(()),
-            Err((_, no_memory)) => Err(no_memory),
-        },
+        Some(item) => set(map, key, item),
         None => map.take(key).map(|_| ()),
+    }
+}
+
+/// Puts the item at the key, or changes the one there to it.
+fn set(map: &mut SharedMap<u64>, key: u64, item: u64) -> Result<(), NoMemory> {
+    if map.get(key).is_some() {
+        *map.get_mut(key)? = item;
+        return Ok(());
+    }
+    match map.put(key, item) {
+        Ok(_) => Ok(()),
+        Err((_, no_memory)) => Err(no_memory),
     }
 }
 

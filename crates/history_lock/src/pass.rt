@@ -62,6 +62,11 @@ impl<E> Drop for Pass<E> {
 }
 
 impl fmt::Display for Spent {
+    ghost use Rattle.std.specs.Prelude.{Some};
+    ghost use Rattle.history_lock.specs.Faults.{spent_text};
+
+    ghost output = { λ _. Some spent_text };
+
     fn fmt<W: fmt::Write>(&self, f: &mut fmt::Formatter<W>) -> fmt::Result {
         f.write_str("all numbers were given")
     }

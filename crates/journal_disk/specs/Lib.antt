@@ -5,3 +5,4 @@ pub mod Log
 pub mod Memory
 pub mod Recorded
 pub mod Records
+pub mod Faults

@@ -34,6 +34,11 @@ impl From<NoMemory> for LogFault {
 }
 
 impl fmt::Display for LogFault {
+    ghost use Rattle.std.specs.Prelude.{Some};
+    ghost use Rattle.journal_disk.specs.Faults.{fault_text};
+
+    ghost output = { λ fault. Some (fault_text fault) };
+
     fn fmt<W: fmt::Write>(&self, f: &mut fmt::Formatter<W>) -> fmt::Result {
         f.write_str(match self {
             LogFault::Failed => "the disk failed",

@@ -7,7 +7,7 @@ use Rattle.std.specs.List.{IsDistinct}
 use Rattle.std.proofs.lemmas.Bool.{cases_eq, ne_eqb}
 use Rattle.std.proofs.lemmas.List.{length-map, length-set, map-append}
 use Rattle.std.proofs.lemmas.Map.Keys.{IsDistinct-cons}
-use Rattle.cell_value.specs.Elements.{Contains-cons, Contains-cons_cases}
+use Rattle.cell_value.specs.Elements.{Contains-cons, Contains-cons_cases, IsDistinct-append, Contains-map_from}
 use Rattle.link_store.specs.declared.cells.Cell.{Cell}
 use Rattle.link_store.specs.declared.cells.Cells.{Cells}
 use Rattle.link_store.specs.declared.cells.Link.{Link}
@@ -18,7 +18,6 @@ use Rattle.link_store.specs.Crossings.{IsGrid, IsCellAt, AreCrossed, ChangesAt, 
 use Rattle.link_store.proofs.Members.{without_none, without_same, without_other, without_lacking}
 use Rattle.link_store.proofs.Replaced.{put}
 use Rattle.cell_value.specs.Elements.{nothing_in, IsDistinct-none}
-use Rattle.link_store.proofs.Elements.{IsDistinct-append, Contains-map_from}
 use Rattle.link_store.proofs.LineLists.{same_line}
 use Rattle.link_store.proofs.Uses.{entries_with, entries_beside, pushed_from, pushed_old, pushed_new, put_from}
 use Rattle.link_store.proofs.Uses.{put_old, put_new}

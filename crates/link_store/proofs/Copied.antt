@@ -9,7 +9,7 @@ use Rattle.std.proofs.lemmas.Cmp.{eq_by_cmp_equiv}
 use Rattle.std.proofs.lemmas.List.{append-nil}
 use Rattle.std.proofs.lemmas.List.Elements.{Contains-append_right}
 use Rattle.std.proofs.lemmas.Map.Keys.{IsDistinct-head, IsDistinct-tail}
-use Rattle.cell_value.specs.Elements.{Contains-cons}
+use Rattle.cell_value.specs.Elements.{Contains-cons, Contains-map, from_each}
 use Rattle.grid_range.specs.Area.{by_rows}
 use Rattle.cell_store.specs.Entries.{entry_at}
 use Rattle.link_store.proofs.ByRows.{by_rows_total, entry_added}
@@ -17,7 +17,7 @@ use Rattle.link_store.specs.declared.cells.Cell.{Cell}
 use Rattle.link_store.specs.declared.cells.Cells.{Cells}
 use Rattle.link_store.specs.Lines.{ArePositions, line_entries, list_of}
 use Rattle.link_store.specs.Crossings.{IsGrid, IsCellAt, ChangesAt, HasFirstRows, column_of, first_rows, sheet_items}
-use Rattle.link_store.proofs.Elements.{Contains-map, IsDistinct-range, from_each}
+use Rattle.link_store.proofs.Elements.{IsDistinct-range}
 use Rattle.link_store.proofs.Gathered.{list_noted, place_told, placed, rows_more}
 use Rattle.link_store.proofs.Sheets.{column_is, distinct_rows, has_column, item_from}
 

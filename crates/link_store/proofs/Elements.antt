@@ -1,33 +1,18 @@
 -- What lists that are made of others have.
 use Rattle.std.proofs.Common.{◌≡◌, inl, inr, ℕ, zero, suc, ◌+◌, ◌-◌, ◌<◌, ◌≤◌, List, [], ◌∷◌}
-use Rattle.std.proofs.Common.{◌++◌, Bool, false, refl, sym, ap, subst, ◌∙◌, arith, map}
+use Rattle.std.proofs.Common.{Bool, false, refl, sym, ap, subst, ◌∙◌, arith, map}
 use Rattle.std.specs.Prelude.{Option, Some, None, Contains, nat_eq, slice_get}
 use Rattle.std.specs.Option.{unwrap_or}
 use Rattle.std.proofs.lemmas.Bool.{ne_eqb}
-use Rattle.std.specs.List.{AllByRecursion, IsDistinct, flat_map, range_with_len}
+use Rattle.std.specs.List.{IsDistinct, flat_map, range_with_len}
 use Rattle.std.proofs.lemmas.List.Elements.{Contains-append_left, Contains-append_right, Contains-append_cases}
 use Rattle.std.proofs.lemmas.List.Elements.{Contains-get_or, All-contains}
 use Rattle.std.proofs.lemmas.List.FromFn.{length-range_with_len, get_or-range_with_len}
 use Rattle.std.proofs.lemmas.Map.Keys.{IsDistinct-head, IsDistinct-tail, IsDistinct-cons}
-use Rattle.cell_value.specs.Elements.{Contains-cons, Contains-cons_cases, nothing_in, IsDistinct-none}
+use Rattle.cell_value.specs.Elements.{Contains-map, Contains-map_from, Contains-cons, Contains-cons_cases, nothing_in}
+use Rattle.cell_value.specs.Elements.{each_from, from_each, IsDistinct-none}
 
 module _ {X Y : Type 0} where
-  pub Contains-map : (f : X → Y) (xs : List X) (x : X) → Contains xs x → Contains (map f xs) (f x)
-  Contains-map f [] x has = absurd (nothing_in x has)
-  Contains-map f (head ∷ xs) x has = elim (Contains-cons_cases head x xs has) [
-    | inl here ↦ subst (λ y. Contains (f head ∷ map f xs) (f y)) here (0, omega arith, refl)
-    | inr there ↦ Contains-cons (f head) (f x) (map f xs) (Contains-map f xs x there)
-  ]
-
-  pub Contains-map_from : (f : X → Y) (xs : List X) (y : Y) → Contains (map f xs) y
-      → (x : X) × Contains xs x × (f x ≡ y)
-  Contains-map_from f [] y has = absurd (nothing_in y has)
-  Contains-map_from f (head ∷ xs) y has = elim (Contains-cons_cases (f head) y (map f xs) has) [
-    | inl here ↦ (head, (0, omega arith, refl), here)
-    | inr there ↦ let found = Contains-map_from f xs y
-        there in (found.0, Contains-cons head found.0 xs found.1, found.2)
-  ]
-
   pub Contains-flat_map : (f : X → List Y) (xs : List X) (x : X) (y : Y) → Contains xs x → Contains (f x) y
       → Contains (flat_map f xs) y
   Contains-flat_map f [] x y has held = absurd (nothing_in x has)
@@ -75,33 +60,6 @@ range_has a n i low high =
     let there : i - a < n = omega arith in
     subst (Contains (range_with_len a n)) (get_or-range_with_len a n (i - a) 0 there ∙ omega arith)
     (Contains-get_or (range_with_len a n) (i - a) 0 (omega (arith, length-range_with_len a n)))
-
-module _ {X : Type 0} where
-  pub each_from : (P : X → Type 0) (xs : List X) → ((x : X) → Contains xs x → P x) → AllByRecursion P xs
-  each_from P [] holds = tt
-  each_from P (x ∷ xs) holds = (
-    holds x (0, omega arith, refl),
-    each_from P xs
-        (λ y has. holds y (Contains-cons x y xs has)),
-  )
-
-  pub from_each : (P : X → Type 0) (xs : List X) → AllByRecursion P xs → (x : X) → Contains xs x → P x
-  from_each P [] holds x has = absurd (nothing_in x has)
-  from_each P (head ∷ xs) holds x has = elim (Contains-cons_cases head x xs has) [
-    | inl here ↦ subst P here holds.0
-    | inr there ↦ from_each P xs holds.1 x there
-  ]
-
-  pub IsDistinct-append : (eq : X → X → Bool) (xs ys : List X) → IsDistinct eq xs → IsDistinct eq ys
-      → ((x y : X) → Contains xs x → Contains ys y → eq x y ≡ false) → IsDistinct eq (xs ++ ys)
-  IsDistinct-append eq [] ys one two apart = two
-  IsDistinct-append eq (x ∷ xs) ys one two apart =
-      IsDistinct-cons eq x (xs ++ ys)
-      (each_from (λ y. eq x y ≡ false) (xs ++ ys) (λ y has. elim (Contains-append_cases xs ys y has) [
-        | inl first ↦ from_each (λ z. eq x z ≡ false) xs (IsDistinct-head eq x xs one) y first
-        | inr second ↦ apart x y (0, omega arith, refl) second
-      ]))
-      (IsDistinct-append eq xs ys (IsDistinct-tail eq x xs one) two (λ a b has. apart a b (Contains-cons x a xs has)))
 
 -- keys made of elements that differ, by a function that tells these apart
 pub IsDistinct-map : {X K L : Type 0} (eq : K → K → Bool) (other : L → L → Bool) (f : X → K) (g : X → L)

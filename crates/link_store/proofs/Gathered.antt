@@ -27,11 +27,11 @@ use Rattle.link_store.specs.Lists.{entries_of, HasNodesOnce}
 use Rattle.link_store.specs.Lines.{AreLines, ArePositions, line_entries, list_of}
 use Rattle.link_store.specs.Crossings.{IsGrid, IsCellAt, ArePlacesOn, HasPlacesOf, column_of, first_rows, place_in}
 use Rattle.link_store.specs.Crossings.{row_items, sheet_items}
-use Rattle.cell_value.specs.Elements.{Contains-cons}
-use Rattle.link_store.proofs.Elements.{Contains-map, Contains-map_from, Contains-flat_map}
+use Rattle.cell_value.specs.Elements.{Contains-cons, Contains-map, Contains-map_from, IsDistinct-append, from_each}
+use Rattle.link_store.proofs.Elements.{Contains-flat_map}
 use Rattle.cell_value.specs.Elements.{IsDistinct-none}
-use Rattle.link_store.proofs.Elements.{Contains-flat_map_from, IsDistinct-append, IsDistinct-map}
-use Rattle.link_store.proofs.Elements.{IsDistinct-range, from_each, range_has, range_high}
+use Rattle.link_store.proofs.Elements.{Contains-flat_map_from, IsDistinct-map}
+use Rattle.link_store.proofs.Elements.{IsDistinct-range, range_has, range_high}
 use Rattle.link_store.proofs.Holding.{one_cell}
 use Rattle.link_store.proofs.LineLists.{range_more, line_of, list_within, links_as_lists, place_is}
 use Rattle.link_store.proofs.Sheets.{cell_from, column_is, has_column, item_from, other_column, other_row}

@@ -9,7 +9,7 @@ use Rattle.std.proofs.lemmas.Bool.{cases_Bool, eq-eqb, false≢true}
 use Rattle.std.proofs.lemmas.Cmp.{eq_by_cmp_equiv}
 use Rattle.std.proofs.lemmas.Map.Keys.{IsDistinct-head, IsDistinct-tail}
 use Rattle.std.proofs.lemmas.Map.Views.{tells_apart}
-use Rattle.cell_value.specs.Elements.{Contains-cons_cases}
+use Rattle.cell_value.specs.Elements.{Contains-cons_cases, from_each, Contains-map}
 use Rattle.grid_range.specs.Area.{by_rows}
 use Rattle.cell_store.specs.Entries.{entry_at}
 use Rattle.link_store.proofs.ByRows.{by_rows_total, by_rows_exact}
@@ -20,7 +20,6 @@ use Rattle.link_store.specs.Lists.{entries_of}
 use Rattle.link_store.specs.Lines.{AreLines, list_of}
 use Rattle.link_store.specs.Crossings.{IsGrid, IsCellAt, ChangesAt, HasSameItems, sheet_items}
 use Rattle.cell_value.specs.Elements.{nothing_in}
-use Rattle.link_store.proofs.Elements.{from_each, Contains-map}
 use Rattle.link_store.proofs.LineLists.{same_line}
 use Rattle.link_store.proofs.Sheets.{item_from, cell_from}
 

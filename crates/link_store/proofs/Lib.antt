@@ -3,7 +3,6 @@ pub mod Members
 pub mod Standing
 pub mod Stores
 pub mod Cursors
-pub mod Turns
 pub mod LineLists
 pub mod Moving
 pub mod Opening

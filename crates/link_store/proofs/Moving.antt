@@ -1,8 +1,6 @@
 -- Lines after a change, where two parts of their lists changed places.
-use Rattle.std.proofs.Common.{◌≡◌, ◌⊎◌, inl, inr, ℕ, ◌+◌, ◌-◌, ◌<◌, ◌≤◌, [], length, sym, ap, subst, ◌∙◌, arith}
-use Rattle.std.proofs.Common.{nat_lt, cond}
-use Rattle.std.specs.Prelude.{Some, None, IfSome, slice_index}
-use Rattle.std.specs.Option.{option_map}
+use Rattle.std.proofs.Common.{◌≡◌, ◌⊎◌, inl, inr, ℕ, ◌<◌, ◌≤◌, [], length, sym, ap, subst, ◌∙◌, arith}
+use Rattle.std.specs.Prelude.{Some, slice_index}
 use Rattle.std.specs.List.{range_with_len}
 use Rattle.std.specs.List.Sorted.{IsPermutation}
 use Rattle.std.proofs.lemmas.Bool.Decides.{nat_tests}
@@ -10,12 +8,13 @@ use Rattle.std.proofs.lemmas.List.Sorted.{IsPermutation-trans}
 use Rattle.grid_range.specs.declared.change.Change.{Change}
 use Rattle.grid_range.specs.declared.change.Change.TheVariants.{Delete, Move}
 use Rattle.grid_range.specs.Change.{Fits, count_after}
-use Rattle.grid_range.specs.Tracking.{place_of, closed_up, span_moved}
+use Rattle.grid_range.specs.Tracking.{place_of}
 use Rattle.grid_range.specs.TrackingLaws.{PlacesStayApart, PlacesStayBelow}
+use Rattle.cell_store.specs.Turning.{source}
+use Rattle.cell_store.specs.TurningLaws.{source_last, source_within, goes_below, deleted_place, moved_back, moved_on}
 use Rattle.link_store.specs.declared.lines.Lines.{Lines}
-use Rattle.link_store.proofs.Turns.{source_last, source_within}
 use Rattle.link_store.specs.Lists.{entries_of}
-use Rattle.link_store.specs.Lines.{AreLines, AreMoved, line_entries, list_of, source}
+use Rattle.link_store.specs.Lines.{AreLines, AreMoved, line_entries, list_of}
 
 -- what stands at each place after the change, by the parts that changed places
 pub record Turns (change : Change) (count all start middle end : ℕ) (Gone : ℕ → Type 0) : Type 0 where
@@ -28,30 +27,6 @@ pub record Turns (change : Change) (count all start middle end : ℕ) (Gone : �
   pub spare : (index : ℕ) → count_after change count ≤ index → index < all
       → (source start middle end index < all) × ((count ≤ source start middle end index) ⊎ Gone
       (source start middle end index))
-
--- where a line goes is below the number of lines
-pub goes_below : PlacesStayBelow → (change : Change) (count line place : ℕ) → Fits change count → line < count
-    → place_of change line ≡ Some place
-    → place < count_after change count
-goes_below below change count line place fits there goes =
-    subst (λ o. IfSome o (λ p. p < count_after change count)) goes (below change count line fits there)
-
-chosen : (a b p : ℕ) → a < b → a ≡ p → option_map (λ (s : ℕ × ℕ). s.0) (cond (nat_lt a b) (Some (a, b)) None) ≡ Some p
-chosen a b p less is = grind (arith, nat_tests)
-
-deleted_place : (start end count p : ℕ) → start < end → end ≤ count → p < count - (end - start)
-    → place_of (Delete start end) (source start end count p) ≡ Some p
-deleted_place start end count p some order there =
-    chosen (closed_up start end (source start end count p)) (closed_up start end (source start end count p + 1)) p
-    (grind (arith, nat_tests)) (grind (arith, nat_tests))
-
-moved_back : (start end to p : ℕ) → start < end → to < start
-    → (span_moved (source to start end p) (source to start end p + 1) start end to).0 ≡ p
-moved_back start end to p some order = grind (arith, nat_tests)
-
-moved_on : (start end to p : ℕ) → start < end → end < to
-    → (span_moved (source start end to p) (source start end to p + 1) start end to).0 ≡ p
-moved_on start end to p some order = grind (arith, nat_tests)
 
 -- no line
 abbrev pub Nothing : ℕ → Type 0

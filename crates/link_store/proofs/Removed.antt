@@ -15,8 +15,7 @@ use Rattle.link_store.specs.Lists.{entries_of, live_nodes, without, without_node
 use Rattle.link_store.specs.Lines.{list_of}
 use Rattle.link_store.specs.Crossings.{IsGrid, IsCellAt, AreCrossed, ChangesAt, sheet_items}
 use Rattle.link_store.proofs.Members.{without_same, without_other}
-use Rattle.cell_value.specs.Elements.{nothing_in}
-use Rattle.link_store.proofs.Elements.{each_from, from_each, Contains-map, Contains-map_from}
+use Rattle.cell_value.specs.Elements.{nothing_in, each_from, from_each, Contains-map, Contains-map_from}
 use Rattle.link_store.proofs.Uses.{one_place, entries_without, stayed_from, stayed_in, left_from}
 use Rattle.link_store.proofs.Holding.{lines_kept, one_cell, one_cell_place, changes_at, same_option, holds_iff}
 
@@ -51,9 +50,9 @@ module _ {T : Type 0} where
     pub columns_once : HasNodesOnce before.columns.links
     pub rows : after.rows.links ≡ without_node before.rows.links node
     pub columns : after.columns.links ≡ without_node before.columns.links cell.column_node
-    pub row_lists : after.rows.lists.items ≡ before.rows.lists.items
+    pub kept_rows : after.rows.lists.items ≡ before.rows.lists.items
     pub row_count : after.rows.count ≡ before.rows.count
-    pub column_lists : after.columns.lists.items ≡ before.columns.lists.items
+    pub kept_columns : after.columns.lists.items ≡ before.columns.lists.items
     pub column_count : after.columns.count ≡ before.columns.count
     pub live_rows : live_nodes after.rows.links ≡ after.filled
     pub live_columns : live_nodes after.columns.links ≡ after.filled
@@ -108,12 +107,12 @@ module _ {T : Type 0} where
 
     pub grid_left : IsGrid after
     grid_left = record {
-      rows_are = lines_kept before.rows after.rows are.rows_are is.row_lists is.row_count
+      rows_are = lines_kept before.rows after.rows are.rows_are is.kept_rows is.row_count
           (ap length is.rows ∙ length-map before.rows.links (without node))
           (λ index entry past inside has.
           nothing_in entry (subst (λ es. Contains es entry) (are.rows_are.spare index past inside)
           (row_from (list_of before.rows index) entry has).0));
-      columns_are = lines_kept before.columns after.columns are.columns_are is.column_lists is.column_count
+      columns_are = lines_kept before.columns after.columns are.columns_are is.kept_columns is.column_count
           (ap length is.columns ∙ length-map before.columns.links (without cell.column_node))
           (λ index entry past inside has.
           nothing_in entry (subst (λ es. Contains es entry) (are.columns_are.spare index past inside)
@@ -129,12 +128,12 @@ module _ {T : Type 0} where
         → IsCellAt before row column n one × (n ≢ node)
     cell_was row column n one at =
         let was = row_from (list_of before.rows row) (n, one)
-        (subst (λ xs. Contains (entries_of after.rows.links (get_or xs row 0)) (n, one)) is.row_lists
+        (subst (λ xs. Contains (entries_of after.rows.links (get_or xs row 0)) (n, one)) is.kept_rows
         at.stands) in (
           record {
             there = (omega (arith, at.there.0, is.row_count), omega (arith, at.there.1, is.column_count));
             stands = was.0;
-            column_is = at.column_is ∙ ap (λ xs. get_or xs column 0) is.column_lists;
+            column_is = at.column_is ∙ ap (λ xs. get_or xs column 0) is.kept_columns;
           },
           was.1,
         )
@@ -143,9 +142,9 @@ module _ {T : Type 0} where
         → IsCellAt after row column n one
     cell_stays row column n one at differs = record {
       there = (omega (arith, at.there.0, is.row_count), omega (arith, at.there.1, is.column_count));
-      stands = subst (λ xs. Contains (entries_of after.rows.links (get_or xs row 0)) (n, one)) (sym is.row_lists)
+      stands = subst (λ xs. Contains (entries_of after.rows.links (get_or xs row 0)) (n, one)) (sym is.kept_rows)
           (row_in (list_of before.rows row) (n, one) at.stands differs);
-      column_is = at.column_is ∙ ap (λ xs. get_or xs column 0) (sym is.column_lists);
+      column_is = at.column_is ∙ ap (λ xs. get_or xs column 0) (sym is.kept_columns);
     }
 
     pub changes_left : (row column : ℕ) → IsCellAt before row column node cell

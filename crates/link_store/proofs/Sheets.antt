@@ -18,9 +18,9 @@ use Rattle.link_store.specs.declared.cells.Cells.{Cells}
 use Rattle.link_store.specs.Lists.{entries_of}
 use Rattle.link_store.specs.Lines.{line_entries, list_of}
 use Rattle.link_store.specs.Crossings.{IsGrid, IsCellAt, column_of, row_items, sheet_items}
-use Rattle.link_store.proofs.Elements.{Contains-map, Contains-map_from, Contains-flat_map, Contains-flat_map_from}
-use Rattle.link_store.proofs.Elements.{Contains-range, Contains-range_from, from_each, IsDistinct-append}
-use Rattle.cell_value.specs.Elements.{IsDistinct-none}
+use Rattle.link_store.proofs.Elements.{Contains-flat_map, Contains-flat_map_from}
+use Rattle.link_store.proofs.Elements.{Contains-range, Contains-range_from}
+use Rattle.cell_value.specs.Elements.{IsDistinct-none, Contains-map, Contains-map_from, from_each, IsDistinct-append}
 use Rattle.link_store.proofs.Elements.{IsDistinct-map, IsDistinct-range}
 use Rattle.link_store.proofs.LineLists.{line_of, place_is}
 

@@ -22,7 +22,7 @@ use Rattle.link_store.specs.Lines.{AreLines, AreMoved, AreSameLines, HasSameEntr
 use Rattle.link_store.specs.Crossings.{IsGrid, IsCellAt, AreCrossed, GoesAlong, HasSameItems, KeepsItems}
 use Rattle.link_store.specs.Crossings.{TakesListsAgain}
 use Rattle.cell_value.specs.Elements.{nothing_in}
-use Rattle.link_store.proofs.Moving.{goes_below}
+use Rattle.cell_store.specs.TurningLaws.{goes_below}
 use Rattle.link_store.proofs.Sheets.{item_from, cell_from}
 use Rattle.link_store.proofs.Holding.{same_items}
 

@@ -5,14 +5,13 @@ use Rattle.std.specs.Prelude.{Contains}
 use Rattle.std.proofs.lemmas.Bool.{cases_eq}
 use Rattle.std.proofs.lemmas.List.{get_or-set_same, get_or-set_other}
 use Rattle.std.proofs.lemmas.List.Elements.{Contains-append_left, Contains-push, Contains-push_cases}
-use Rattle.cell_value.specs.Elements.{Contains-cons, Contains-cons_cases}
+use Rattle.cell_value.specs.Elements.{Contains-cons, Contains-cons_cases, Contains-map, Contains-map_from}
 use Rattle.link_store.specs.Lists.{entries_of, without, without_node, with_entry, with_item_at, HasNodesOnce}
 use Rattle.link_store.specs.Nodes.{Lacks}
 use Rattle.link_store.proofs.Members.{HasOnce, Lacks-not, without_same, without_other}
 use Rattle.link_store.proofs.Cursors.{once_from}
 use Rattle.link_store.proofs.Replaced.{put, put_here, put_other}
 use Rattle.cell_value.specs.Elements.{nothing_in}
-use Rattle.link_store.proofs.Elements.{Contains-map, Contains-map_from}
 
 module _ {T : Type 0} where
   -- a node has one entry

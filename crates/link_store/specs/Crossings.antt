@@ -14,7 +14,7 @@ use Rattle.grid_range.specs.declared.axis.Axis.TheVariants.{Rows, Columns}
 use Rattle.grid_range.specs.declared.change.Change.{Change}
 use Rattle.grid_range.specs.declared.area.Area.{Area}
 use Rattle.grid_range.specs.Area.{Holds}
-use Rattle.link_store.specs.Grid.{ListedTable}
+use Rattle.cell_store.specs.Kept.{KeptTable}
 use Rattle.link_store.specs.declared.cells.Cell.{Cell}
 use Rattle.link_store.specs.declared.cells.Cells.{Cells}
 use Rattle.link_store.specs.declared.cells.Link.{Link}
@@ -51,11 +51,11 @@ module _ {T : Type 0} where
   sheet_items cells = first_rows cells cells.rows.count
 
   -- the sheet that the lists stand for, and how many they are
-  abbrev pub listed_table : Cells T → ListedTable T
+  abbrev pub listed_table : Cells T → KeptTable T
   listed_table cells = record {
     table = table_of cells.rows.count cells.columns.count (sheet_items cells);
-    row_lists = length cells.rows.lists.items;
-    column_lists = length cells.columns.lists.items;
+    kept_rows = length cells.rows.lists.items;
+    kept_columns = length cells.columns.lists.items;
   }
 
   -- each cell stands in the list of its row and in the list of its column, and each of the two

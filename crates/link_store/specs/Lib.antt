@@ -3,5 +3,4 @@ pub mod Nodes
 pub mod Entries
 pub mod Lines
 pub mod Crossings
-pub mod Grid
 pub mod Lending

@@ -1,5 +1,5 @@
 -- The lines of one axis, each with a list of entries. No public clause cites this module.
-use Rattle.std.specs.Prelude.{◌≡◌, ℕ, ◌+◌, ◌-◌, ◌<◌, ◌≤◌, ◌⊎◌, nat_lt, if◌then◌else◌, List, [], length, Some}
+use Rattle.std.specs.Prelude.{◌≡◌, ℕ, ◌+◌, ◌<◌, ◌≤◌, ◌⊎◌, List, [], length, Some}
 use Rattle.std.specs.Prelude.{slice_index, ⊤}
 use Rattle.std.specs.List.{range_with_len}
 use Rattle.std.specs.List.Sorted.{IsPermutation}
@@ -10,15 +10,6 @@ use Rattle.grid_range.specs.Tracking.{place_of}
 use Rattle.cell_store.specs.Table.{most_lines}
 use Rattle.link_store.specs.declared.lines.Lines.{Lines}
 use Rattle.link_store.specs.Lists.{entries_of, live_nodes}
-
--- where the number stood that stands at that index once the part from `middle` to `end` stands
--- before the part from `start` to `middle`
-abbrev pub source : ℕ → ℕ → ℕ → ℕ → ℕ
-source start middle end index =
-    if nat_lt index start then index
-    else if nat_lt index (start + (end - middle)) then index + (middle - start)
-    else if nat_lt index end then index - (end - middle)
-    else index
 
 -- where the number may have stood that stands at that index once numbers from behind the first
 -- `count` stand at `at`, in any order, and all from there on so many places later

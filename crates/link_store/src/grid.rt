@@ -24,12 +24,12 @@ pub struct LinkGrid<T> {
 }
 
 impl<T> Model for LinkGrid<T> {
-    ghost use Rattle.link_store.specs.Grid.{ListedTable, listed_table_code};
+    ghost use Rattle.cell_store.specs.Kept.{KeptTable, kept_table_code};
     ghost use Rattle.link_store.specs.Crossings.{IsGrid, listed_table};
 
-    ghost Value = { ListedTable T };
+    ghost Value = { KeptTable T };
 
-    ghost coded = { listed_table_code T.code };
+    ghost coded = { kept_table_code T.code };
 
     ghost view = { λ g. listed_table g.cells };
 
@@ -37,7 +37,7 @@ impl<T> Model for LinkGrid<T> {
 }
 
 impl<T: Drop> LinkGrid<T> {
-    ghost use Rattle.link_store.specs.Grid.{ReusesLists};
+    ghost use Rattle.cell_store.specs.Kept.{ReusesLines};
 
     /// A sheet of that size with nothing in it.
     ///
@@ -47,7 +47,7 @@ impl<T: Drop> LinkGrid<T> {
     pub fn new(alloc: Global, rows: u32, cols: u32) -> Result<LinkGrid<T>, NoMemory>
         requires { rows + cols ≤ most_lines }
         ensures empty { IfOk result (λ grid. grid.table ≡ empty_table rows cols) }
-        ensures lists { IfOk result (λ grid. (grid.row_lists ≡ rows) × (grid.column_lists ≡ cols)) }
+        ensures lists { IfOk result (λ grid. (grid.kept_rows ≡ rows) × (grid.kept_columns ≡ cols)) }
     {
         tables_by_items::<T>();
         Ok(LinkGrid {
@@ -75,7 +75,7 @@ impl<T: Drop> LinkGrid<T> {
         ensures moved { OnOk result (GoesWithLines axis change.now self.old.table self.new.table) }
         ensures unchanged { OnErr result (self.new.table ≡ self.old.table) }
         ensures filled { filled_places self.new.table ≤ filled_places self.old.table }
-        ensures lists { ReusesLists axis change.now self.old self.new }
+        ensures lists { ReusesLines axis change.now self.old self.new }
         ensures steps { steps.new ≤ steps.old + 2 * lines_on axis self.old.table.rows self.old.table.cols
             + 2 * lines_on axis (size_after axis change.now self.old.table.rows self.old.table.cols).0
             (size_after axis change.now self.old.table.rows self.old.table.cols).1
@@ -100,7 +100,7 @@ impl<T: Drop> LinkGrid<T> {
         ensures moved { OnOk result (GoesWithLines axis change.now self.old.table self.new.table) }
         ensures unchanged { OnErr result (self.new.table ≡ self.old.table) }
         ensures filled { filled_places self.new.table ≤ filled_places self.old.table }
-        ensures lists { ReusesLists axis change.now self.old self.new }
+        ensures lists { ReusesLines axis change.now self.old self.new }
     {
         let mut steps = Steps::<L>::new(blank);
         self.change_counted(axis, change, &mut steps)
@@ -108,7 +108,7 @@ impl<T: Drop> LinkGrid<T> {
 }
 
 impl<T: Duplicate + Drop> Grid<T> for LinkGrid<T> {
-    ghost use Rattle.link_store.specs.Grid.{ReusesLists};
+    ghost use Rattle.cell_store.specs.Kept.{ReusesLines};
 
     ghost table = { λ g. g.table };
 
@@ -155,7 +155,7 @@ impl<T: Duplicate + Drop> Grid<T> for LinkGrid<T> {
         ensures moved { OnOk result (GoesWithLines axis change.now self.old.table self.new.table) }
         ensures filled { filled_places self.new.table ≤ filled_places self.old.table }
         ensures unchanged { OnErr result (self.new.table ≡ self.old.table) }
-        ensures lists { ReusesLists axis change.now self.old self.new }
+        ensures lists { ReusesLines axis change.now self.old self.new }
     {
         self.change_alone::<Brand>(axis, change, Blank::new(1))
     }

@@ -16,6 +16,7 @@ mod lines;
 mod listing;
 mod lists;
 mod nodes;
+mod store;
 
 pub use counting::Steps;
 pub use entries::Entries;

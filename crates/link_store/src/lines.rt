@@ -2,10 +2,12 @@ ghost use Rattle.std.specs.Prelude.{◌≡◌, ℕ, ◌+◌, ◌-◌, ◌*◌, �
 ghost use Rattle.std.specs.List.Sorted.{IsPermutation};
 ghost use Rattle.cell_store.specs.Table.{most_lines};
 ghost use Rattle.link_store.specs.Lists.{entries_of, live_nodes};
-ghost use Rattle.link_store.specs.Lines.{AreLines, AreSameLines, HasSameEntries, list_of, source};
+ghost use Rattle.cell_store.specs.Turning.{source};
+ghost use Rattle.link_store.specs.Lines.{AreLines, AreSameLines, HasSameEntries, list_of};
 
 use crate::counting::Steps;
 use crate::lists::Links;
+use cell_store::turn;
 use cell_value::NoMemory;
 use std::alloc::Global;
 use std::marker::Brand;
@@ -123,6 +125,6 @@ impl<E> Lines<E> {
         ensures steps { steps.new ≡ steps.old + (end - start) }
     {
         steps.add(end - start);
-        self.lists[start as usize..end as usize].rotate_left((middle - start) as usize);
+        turn(&mut self.lists, start, middle, end);
     }
 }

@@ -1,18 +1,18 @@
 -- The lines after a change, where two parts of their numbers changed places.
-use Rattle.std.proofs.Common.{◌≡◌, ◌⊎◌, inl, inr, ℕ, ◌+◌, ◌-◌, ◌<◌, ◌≤◌, List, length, sym, ap, subst, ◌∙◌, arith}
-use Rattle.std.proofs.Common.{nat_lt, cond, get_or}
-use Rattle.std.specs.Prelude.{Some, None, IfSome}
-use Rattle.std.specs.Option.{option_map}
+use Rattle.std.proofs.Common.{◌≡◌, ◌⊎◌, inl, inr, ℕ, ◌+◌, ◌<◌, ◌≤◌, List, length, sym, ap, subst, ◌∙◌, arith}
+use Rattle.std.proofs.Common.{get_or}
+use Rattle.std.specs.Prelude.{Some}
 use Rattle.std.proofs.lemmas.Bool.{cases_lt}
 use Rattle.std.proofs.lemmas.Bool.Decides.{nat_tests}
 use Rattle.grid_range.specs.declared.change.Change.{Change}
 use Rattle.grid_range.specs.declared.change.Change.TheVariants.{Insert, Delete, Move}
 use Rattle.grid_range.specs.Change.{Fits, count_after}
-use Rattle.grid_range.specs.Tracking.{place_of, closed_up, span_moved, start_opened}
+use Rattle.grid_range.specs.Tracking.{place_of, span_moved, start_opened}
 use Rattle.grid_range.specs.TrackingLaws.{PlacesStayApart, PlacesStayBelow}
+use Rattle.cell_store.specs.Turning.{source}
+use Rattle.cell_store.specs.TurningLaws.{source_within, goes_below, deleted_place, moved_back, moved_on}
 use Rattle.shared_grid.specs.declared.order.Order.{Order}
-use Rattle.shared_grid.specs.Orders.{AreMoved, AreNumbers, IsOrder, number_of, parts_of, source}
-use Rattle.shared_grid.proofs.Turned.{source_within}
+use Rattle.shared_grid.specs.Orders.{AreMoved, AreNumbers, IsOrder, number_of, parts_of}
 
 -- what stands at each place after the change, by the parts that changed places
 pub record Turns (change : Change) (count start middle end : ℕ) : Type 0 where
@@ -23,30 +23,6 @@ pub record Turns (change : Change) (count start middle end : ℕ) : Type 0 where
       ⊎ (count ≤ source start middle end place)
   pub going : (line place : ℕ) → line < count → place_of change line ≡ Some place
       → (place < count_after change count) × (source start middle end place ≡ line)
-
--- where a line goes is below the number of lines
-pub goes_below : PlacesStayBelow → (change : Change) (count line place : ℕ) → Fits change count → line < count
-    → place_of change line ≡ Some place
-    → place < count_after change count
-goes_below below change count line place fits there goes =
-    subst (λ o. IfSome o (λ p. p < count_after change count)) goes (below change count line fits there)
-
-pub chosen : (a b p : ℕ) → a < b → a ≡ p → option_map (λ (s : ℕ × ℕ). s.0) (cond (nat_lt a b) (Some (a, b)) None) ≡ Some p
-chosen a b p less is = grind (arith, nat_tests)
-
-deleted_place : (start end count p : ℕ) → start < end → end ≤ count → p < count - (end - start)
-    → place_of (Delete start end) (source start end count p) ≡ Some p
-deleted_place start end count p some order there =
-    chosen (closed_up start end (source start end count p)) (closed_up start end (source start end count p + 1)) p
-    (grind (arith, nat_tests)) (grind (arith, nat_tests))
-
-moved_back : (start end to p : ℕ) → start < end → to < start
-    → (span_moved (source to start end p) (source to start end p + 1) start end to).0 ≡ p
-moved_back start end to p some order = grind (arith, nat_tests)
-
-moved_on : (start end to p : ℕ) → start < end → end < to
-    → (span_moved (source start end to p) (source start end to p + 1) start end to).0 ≡ p
-moved_on start end to p some order = grind (arith, nat_tests)
 
 unmoved : (start end to p : ℕ) → start ≤ to → to ≤ end → (span_moved p (p + 1) start end to).0 ≡ p
 unmoved start end to p low high = grind (arith, nat_tests)

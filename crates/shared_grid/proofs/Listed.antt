@@ -22,7 +22,7 @@ use Rattle.cell_store.specs.Laws.{TablesByItems}
 use Rattle.shared_grid.specs.declared.order.Order.{Order}
 use Rattle.shared_grid.specs.Orders.{number_of, place_noted}
 use Rattle.shared_grid.specs.Cells.{line_in, across_in, AreKeysOnRow}
-use Rattle.shared_grid.specs.Grid.{NumberedTable}
+use Rattle.cell_store.specs.Kept.{KeptTable}
 use Rattle.shared_grid.specs.Sheets.{key_at, place_in, numbered_table, IsOnLines, IsSheet, AreOnRows}
 use Rattle.shared_grid.proofs.Numbers.{same_place, line-key, across-key, small, place-key, place-line}
 use Rattle.shared_grid.proofs.Views.{item-view, inside-view}
@@ -100,7 +100,7 @@ no_rows first table = record {
 }
 
 module _ {X : Type 0} (laws : TablesByItems X) (rows columns : Order) (items : fin.FinMap nat_cmp X)
-    (is : IsSheet rows columns items) (sheet : NumberedTable X) (view : numbered_table rows columns items ≡ sheet)
+    (is : IsSheet rows columns items) (sheet : KeptTable X) (view : numbered_table rows columns items ≡ sheet)
     (row number : ℕ) (row_there : row < rows.count) (number_is : number ≡ number_of rows row) (keys : List ℕ)
     (listed : AreKeysOnRow number items keys) where
   abbrev pub place : ℕ → ℕ × ℕ

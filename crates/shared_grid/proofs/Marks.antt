@@ -104,3 +104,17 @@ module _ {T M : Type 0} (items : map.FinMap nat_cmp T) (marks : map.FinMap nat_c
   taken_item key after taken = subst (λ left. HasMarks left marks) (sym taken) (record {
     each = λ r c small fits some. are.each r c small fits (taken_before items key (key_of r c) some).1;
   })
+
+  -- an item in place of another has its mark
+  pub put_over : (key : ℕ) → IsSome (map.get items key) → (item : T) (after : map.FinMap nat_cmp T)
+      → after ≡ map.insert items key item → HasMarks after marks
+  put_over key held item after put = subst (λ now. HasMarks now marks) (sym put) (record {
+    each = λ r c small fits some.
+        elim (eq_by_cmp nat_cmp (key_of r c) key) as (λ b. eq_by_cmp nat_cmp (key_of r c) key ≡ b
+        → IsSome (map.get marks (key_of c r))) [
+          | true ↦ λ same. are.each r c small fits
+              (subst (λ at. IsSome (map.get items at)) (sym (same_key (key_of r c) key same)) held)
+          | false ↦ λ differs. are.each r c small fits (put_other items key item (key_of r c)
+              (λ same. false≢true (sym differs ∙ ap (λ k. eq_by_cmp nat_cmp k key) same ∙ key_itself key)) some)
+        ] refl;
+  })

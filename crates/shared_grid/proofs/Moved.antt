@@ -6,6 +6,7 @@ use Rattle.std.specs.Ordering.{nat_cmp}
 use Rattle.std.specs.FinMap as fin
 use Rattle.std.proofs.lemmas.Bool.{false≢true, cases_lt, ltb-true}
 use Rattle.std.proofs.lemmas.Bool.Decides.{nat_tests}
+use Rattle.grid_range.specs.declared.axis.Axis.{Axis}
 use Rattle.grid_range.specs.declared.axis.Axis.TheVariants.{Rows, Columns}
 use Rattle.grid_range.specs.declared.change.Change.{Change}
 use Rattle.grid_range.specs.declared.change.Change.TheVariants.{Insert, Delete, Move}
@@ -17,12 +18,12 @@ use Rattle.cell_store.specs.Moved.{GoesWithLines, CameFrom, IsRoomAfter}
 use Rattle.cell_store.specs.Laws.{TablesByItems}
 use Rattle.shared_grid.specs.declared.order.Order.{Order}
 use Rattle.shared_grid.specs.Orders.{AreMoved, IsOrder, number_of}
-use Rattle.shared_grid.specs.Cells.{numbers, key_of, line_in, across_in, HasFewer}
-use Rattle.shared_grid.specs.Grid.{NumberedTable, ReusesNumbers}
-use Rattle.shared_grid.specs.Sheets.{sheet_of, numbered_table, deleted, IsSheet, AreCleared}
+use Rattle.shared_grid.specs.Cells.{numbers, key_of, line_in, across_in, number_on, HasFewer}
+use Rattle.cell_store.specs.Kept.{KeptTable, ReusesLines}
+use Rattle.shared_grid.specs.Sheets.{sheet_of, numbered_table, deleted, IsOnLines, IsSheet, AreCleared}
 use Rattle.shared_grid.proofs.Numbers.{line-key, across-key, small}
 use Rattle.shared_grid.proofs.Placed.{item-place, inside, filled}
-use Rattle.shared_grid.proofs.Changed.{chosen, goes_below}
+use Rattle.cell_store.specs.TurningLaws.{chosen, goes_below}
 use Rattle.shared_grid.proofs.Views.{item-view, inside-view, filled-view}
 
 same_end : (start end line : ℕ) → start ≤ line → line < end → closed_up start end (line + 1) ≤ closed_up start end line
@@ -129,7 +130,7 @@ fits_key : (key line across : ℕ) → line < numbers → across < numbers → k
 fits_key key line across one two is = omega arith
 
 module _ {X : Type 0} (laws : TablesByItems X) (below : PlacesStayBelow) (change : Change) (rows columns after : Order)
-    (items left : fin.FinMap nat_cmp X) (is : IsSheet rows columns items) (sheet : NumberedTable X)
+    (items left : fin.FinMap nat_cmp X) (is : IsSheet rows columns items) (sheet : KeptTable X)
     (view : numbered_table rows columns items ≡ sheet) (after_is : IsOrder after) where
   rows_same : rows.count ≡ sheet.table.rows
   rows_same = ap (λ s. s.table.rows) view
@@ -142,6 +143,15 @@ module _ {X : Type 0} (laws : TablesByItems X) (below : PlacesStayBelow) (change
 
   col_small : (col : ℕ) → col < columns.count → number_of columns col < numbers
   col_small col there = small columns is.columns_are col there
+
+  -- no item is left on a deleted line
+  none_deleted : (axis : Axis) (order : Order) → AreCleared axis order (deleted change).0 (deleted change).1 items left
+      → (key : ℕ) → IsOnLines rows columns key → (line : ℕ) → (deleted change).0 ≤ line → line < (deleted change).1
+      → number_on axis key ≡ number_of order line → IsSome (fin.get left key) → ⊥
+  none_deleted axis order cleared key on line low high same =
+      never items left key (cleared.gone line key low high
+      (fits_key key (number_of rows on.row) (number_of columns on.column)
+      (row_small on.row on.there.0) (col_small on.column on.there.1) on.is) same)
 
   on_row : (col : ℕ) → col < columns.count → (number : ℕ) → IsSome (fin.get items (key_of number (number_of columns col)))
       → (line : ℕ) × (line < rows.count) × (number ≡ number_of rows line)
@@ -183,11 +193,9 @@ module _ {X : Type 0} (laws : TablesByItems X) (below : PlacesStayBelow) (change
                 );
                 is = on.is ∙ ap (λ (n : ℕ). key_of n (number_of columns on.column)) (sym (moved.going on.row goes.0 on.there.0 goes.1));
               }
-              | inr gone ↦ absurd (never items left key (cleared.gone on.row key gone.0 gone.1
-                  (fits_key key (number_of rows on.row) (number_of columns on.column)
-                  (row_small on.row on.there.0) (col_small on.column on.there.1) on.is)
+              | inr gone ↦ absurd (none_deleted Rows rows cleared key on on.row gone.0 gone.1
                   (ap line_in on.is
-                  ∙ line-key (number_of rows on.row) (number_of columns on.column) (col_small on.column on.there.1))) some)
+                  ∙ line-key (number_of rows on.row) (number_of columns on.column) (col_small on.column on.there.1)) some)
             ];
       };
       size = omega (arith, moved.count, room);
@@ -258,11 +266,9 @@ module _ {X : Type 0} (laws : TablesByItems X) (below : PlacesStayBelow) (change
                 );
                 is = on.is ∙ ap (key_of (number_of rows on.row)) (sym (moved.going on.column goes.0 on.there.1 goes.1));
               }
-              | inr gone ↦ absurd (never items left key (cleared.gone on.column key gone.0 gone.1
-                  (fits_key key (number_of rows on.row) (number_of columns on.column)
-                  (row_small on.row on.there.0) (col_small on.column on.there.1) on.is)
+              | inr gone ↦ absurd (none_deleted Columns columns cleared key on on.column gone.0 gone.1
                   (ap across_in on.is
-                  ∙ across-key (number_of rows on.row) (number_of columns on.column) (col_small on.column on.there.1))) some)
+                  ∙ across-key (number_of rows on.row) (number_of columns on.column) (col_small on.column on.there.1)) some)
             ];
       };
       size = omega (arith, moved.count, room);
@@ -315,7 +321,7 @@ module _ {X : Type 0} (laws : TablesByItems X) (below : PlacesStayBelow) (change
     )
 
 -- the change fits the lines, and there is room, as the sheet that callers see has it
-module _ {X : Type 0} (change : Change) (rows columns : Order) (items : fin.FinMap nat_cmp X) (sheet : NumberedTable X)
+module _ {X : Type 0} (change : Change) (rows columns : Order) (items : fin.FinMap nat_cmp X) (sheet : KeptTable X)
     (view : numbered_table rows columns items ≡ sheet) where
   pub rows_fit : Fits change sheet.table.rows → Fits change rows.count
   rows_fit fits = subst (Fits change) (sym (ap (λ s. s.table.rows) view)) fits
@@ -333,18 +339,18 @@ module _ {X : Type 0} (change : Change) (rows columns : Order) (items : fin.FinM
 
   -- the numbers that there were, or those that the lines need
   pub rows_reused : (after : Order) (left : fin.FinMap nat_cmp X) → length after.numbers.items ≤ max (length rows.numbers.items) (count_after change rows.count)
-      → ReusesNumbers Rows change sheet (numbered_table after columns left)
+      → ReusesLines Rows change sheet (numbered_table after columns left)
   rows_reused after left few = record {
     rows = subst (λ (n : ℕ). length after.numbers.items ≤ n)
-        (ap (λ s. max s.row_numbers (count_after change s.table.rows)) view) few;
-    columns = omega (arith, ap (λ s. s.column_numbers) view);
+        (ap (λ s. max s.kept_rows (count_after change s.table.rows)) view) few;
+    columns = omega (arith, ap (λ s. s.kept_columns) view);
   }
 
   pub columns_reused : (after : Order) (left : fin.FinMap nat_cmp X)
       → length after.numbers.items ≤ max (length columns.numbers.items) (count_after change columns.count)
-      → ReusesNumbers Columns change sheet (numbered_table rows after left)
+      → ReusesLines Columns change sheet (numbered_table rows after left)
   columns_reused after left few = record {
-    rows = omega (arith, ap (λ s. s.row_numbers) view);
+    rows = omega (arith, ap (λ s. s.kept_rows) view);
     columns = subst (λ (n : ℕ). length after.numbers.items ≤ n)
-        (ap (λ s. max s.column_numbers (count_after change s.table.cols)) view) few;
+        (ap (λ s. max s.kept_columns (count_after change s.table.cols)) view) few;
   }

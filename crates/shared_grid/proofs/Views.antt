@@ -1,12 +1,13 @@
 -- What a sheet that is seen by callers has, by the items that stand for it.
 use Rattle.std.proofs.Common.{◌≡◌, ℕ, ◌<◌, sym, ap, subst, ◌∙◌}
 use Rattle.std.specs.Prelude.{Result, Ok, Err, OnOk, None}
+use Rattle.std.specs.Option.{IsSome}
 use Rattle.std.specs.Ordering.{nat_cmp}
 use Rattle.std.specs.FinMap as map
 use Rattle.cell_store.specs.Table.{item_at, filled_places, HasItemsInside, with_item, without_item}
 use Rattle.cell_store.specs.Laws.{TablesByItems}
 use Rattle.shared_grid.specs.declared.order.Order.{Order}
-use Rattle.shared_grid.specs.Grid.{NumberedTable}
+use Rattle.cell_store.specs.Kept.{KeptTable}
 use Rattle.shared_grid.specs.Sheets.{key_at, sheet_of, numbered_table, IsSheet}
 use Rattle.shared_grid.proofs.Placed.{item-place, inside, none_outside, filled}
 use Rattle.shared_grid.proofs.Written.{put_on_lines, taken_on_lines, put_sheet, taken_sheet, none_taken}
@@ -17,7 +18,7 @@ on_ok follows (Ok value) p = follows p
 on_ok follows (Err error) p = tt
 
 module _ {X : Type 0} (laws : TablesByItems X) (rows columns : Order) (items : map.FinMap nat_cmp X)
-    (is : IsSheet rows columns items) (sheet : NumberedTable X) (view : numbered_table rows columns items ≡ sheet) where
+    (is : IsSheet rows columns items) (sheet : KeptTable X) (view : numbered_table rows columns items ≡ sheet) where
   pub item-view : (row col : ℕ) → row < rows.count → col < columns.count
       → map.get items (key_at rows columns row col) ≡ item_at sheet.table row col
   item-view row col row_there col_there =
@@ -32,6 +33,10 @@ module _ {X : Type 0} (laws : TablesByItems X) (rows columns : Order) (items : m
   pub inside-view : HasItemsInside sheet.table
   inside-view = subst (λ s. HasItemsInside s.table) view
       (inside laws rows columns is.rows_are is.columns_are items is.lines)
+
+  -- a place that holds an item is of the sheet
+  pub held-view : (row col : ℕ) → IsSome (item_at sheet.table row col) → (row < rows.count) × (col < columns.count)
+  held-view row col some = subst (λ s. (row < s.table.rows) × (col < s.table.cols)) (sym view) (inside-view row col some)
 
   pub filled-view : map.len items ≡ filled_places sheet.table
   filled-view = sym (filled laws rows columns is.rows_are is.columns_are items is.lines)

@@ -1,4 +1,3 @@
 pub mod Orders
 pub mod Cells
-pub mod Grid
 pub mod Sheets

@@ -1,6 +1,6 @@
 -- The lines of one axis in their order, each by a number that no change of lines alters. No public
 -- clause cites this module.
-use Rattle.std.specs.Prelude.{◌≡◌, ◌≢◌, ◌⊎◌, ℕ, ◌+◌, ◌-◌, ◌<◌, ◌≤◌, nat_lt, if◌then◌else◌, List, length, slice_index}
+use Rattle.std.specs.Prelude.{◌≡◌, ◌≢◌, ◌⊎◌, ℕ, ◌+◌, ◌<◌, ◌≤◌, nat_lt, if◌then◌else◌, List, length, slice_index}
 use Rattle.std.specs.Prelude.{Some}
 use Rattle.grid_range.specs.declared.change.Change.{Change}
 use Rattle.grid_range.specs.declared.change.Change.TheVariants.{Insert, Delete, Move}
@@ -30,15 +30,6 @@ pub record IsOrder (order : Order) : Type 0 where
   pub each : AreNumbers order.numbers.items
   pub long : length order.places.items ≡ length order.numbers.items
   pub noted : (line : ℕ) → line < order.count → place_noted order (number_of order line) ≡ line
-
--- where the number stood that stands at that index once the part from `middle` to `end` stands
--- before the part from `start` to `middle`
-abbrev pub source : ℕ → ℕ → ℕ → ℕ → ℕ
-source start middle end index =
-    if nat_lt index start then index
-    else if nat_lt index (start + (end - middle)) then index + (middle - start)
-    else if nat_lt index end then index - (end - middle)
-    else index
 
 -- the two parts of the numbers that change places where there are `count` lines: where the first
 -- begins, and where it and the second end

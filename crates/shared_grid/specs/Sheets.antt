@@ -13,7 +13,7 @@ use Rattle.cell_store.specs.Entries.{table_of}
 use Rattle.shared_grid.specs.declared.order.Order.{Order}
 use Rattle.shared_grid.specs.Orders.{IsOrder, number_of, place_noted}
 use Rattle.shared_grid.specs.Cells.{key_of, line_in, across_in, number_on, HasFewer}
-use Rattle.shared_grid.specs.Grid.{NumberedTable}
+use Rattle.cell_store.specs.Kept.{KeptTable}
 
 -- the place of the lines whose numbers are in the key
 abbrev pub place_in : Order → Order → ℕ → ℕ × ℕ
@@ -33,11 +33,11 @@ module _ {T : Type 0} where
   sheet_of rows columns items = table_of rows.count columns.count (placed rows columns items)
 
   -- and with it how many numbers its lines have
-  abbrev pub numbered_table : Order → Order → fin.FinMap nat_cmp T → NumberedTable T
+  abbrev pub numbered_table : Order → Order → fin.FinMap nat_cmp T → KeptTable T
   numbered_table rows columns items = record {
     table = sheet_of rows columns items;
-    row_numbers = length rows.numbers.items;
-    column_numbers = length columns.numbers.items;
+    kept_rows = length rows.numbers.items;
+    kept_columns = length columns.numbers.items;
   }
 
 -- the key has the numbers of a row and of a column

@@ -1,10 +1,12 @@
-ghost use Rattle.std.specs.Prelude.{◌≡◌, ◌≤◌, IfOk, OnOk, OnErr, IfErr};
+ghost use Rattle.std.specs.Prelude.{◌≡◌, ◌≤◌, Some, IfOk, OnOk, OnErr, IfErr};
 ghost use Rattle.std.specs.Option.{option_copied, IsSome};
+ghost use Rattle.std.specs.Borrow.{sem, LendsSoOk};
 ghost use Rattle.std.specs.FinMap as map;
 ghost use Rattle.grid_range.specs.declared.axis.Axis.TheVariants.{Rows, Columns};
 ghost use Rattle.shared_grid.specs.Cells.{across_in, key_of, AreKeysOnRow, IsCleared};
 ghost use Rattle.shared_grid.specs.Orders.{IsOrder};
 ghost use Rattle.shared_grid.specs.Sheets.{AreCleared};
+ghost use Rattle.shared_grid.specs.contracts.cells.Cells.{the_row};
 
 use crate::order::Order;
 use cell_value::{Duplicate, Items, NoMemory};
@@ -74,6 +76,24 @@ impl<T: Duplicate + Drop> Cells<T> {
         ensures { option_copied result ≡ map.get self.now (key_of row column) }
     {
         self.items.get(key(row, column))
+    }
+
+    /// The item at the place, which holds one, lent to be changed there.
+    ///
+    /// # Errors
+    ///
+    /// [`NoMemory`] where memory runs out; the items are as they were.
+    pub(crate) fn get_mut(&mut self, row: u32, column: u32) -> Result<&mut T, NoMemory>
+        requires held { IsSome (map.get self.old (key_of row column)) }
+        ensures* writes_back { sem 𝓛 (LendsSoOk (the_row T.row) T.row self.entry result
+            (λ after item. after ≡ map.insert self.old (key_of row column) item)
+            (λ after. after ≡ self.old)) }
+        ensures item { IfOk result (λ item. map.get self.old (key_of row column) ≡ Some item.now) }
+    {
+        match self.items.get_mut(key(row, column)) {
+            Ok(item) => Ok(item),
+            Err(no_memory) => Err(no_memory),
+        }
     }
 
     /// Puts the item at the place, and gives the one that was there.

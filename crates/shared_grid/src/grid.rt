@@ -1,5 +1,7 @@
-ghost use Rattle.std.specs.Prelude.{◌≡◌, ℕ, ◌+◌, ◌++◌, ◌<◌, ◌≤◌, length, map, max, None, Contains, IfOk, OnOk, OnErr, IfErr};
+ghost use Rattle.std.specs.Prelude.{◌≡◌, ℕ, ◌+◌, ◌++◌, ◌<◌, ◌≤◌, length, map, max};
+ghost use Rattle.std.specs.Prelude.{Some, None, Contains, IfOk, OnOk, OnErr, IfErr};
 ghost use Rattle.std.specs.Option.{option_copied, IsSome};
+ghost use Rattle.std.specs.Borrow.{sem, LendsSoOk};
 ghost use Rattle.cell_store.specs.Table.{empty_table, most_lines, item_at, filled_places, most_filled};
 ghost use Rattle.cell_store.specs.Table.{HasPlace, HasItemsInside, with_item, without_item};
 ghost use Rattle.cell_store.specs.Moved.{GoesWithLines, IsRoomAfter, lines_on};
@@ -9,11 +11,12 @@ ghost use Rattle.grid_range.specs.declared.axis.Axis.TheVariants.{Rows, Columns}
 ghost use Rattle.shared_grid.specs.Cells.{across_in};
 ghost use Rattle.shared_grid.specs.Orders.{AreMoved, IsOrder, number_of, place_noted};
 ghost use Rattle.shared_grid.specs.Sheets.{AreCleared, AreOnRows, deleted};
+ghost use Rattle.shared_grid.specs.contracts.grid.SharedGrid.{the_row};
 
 use crate::cells::{Cells, across};
 use crate::held::Held;
 use crate::order::Order;
-use cell_store::{held_by_rows, tables_by_items};
+use cell_store::{CellStore, held_by_rows, tables_by_items};
 use cell_value::{Duplicate, Items, NoMemory};
 use grid_range::{Area, Axis, Change, places_stay_below};
 use std::alloc::Global;
@@ -31,12 +34,12 @@ pub struct SharedGrid<T: Duplicate + Drop> {
 }
 
 impl<T: Duplicate + Drop> Model for SharedGrid<T> {
-    ghost use Rattle.shared_grid.specs.Grid.{NumberedTable, numbered_table_code};
+    ghost use Rattle.cell_store.specs.Kept.{KeptTable, kept_table_code};
     ghost use Rattle.shared_grid.specs.Sheets.{IsSheet, numbered_table};
 
-    ghost Value = { NumberedTable T };
+    ghost Value = { KeptTable T };
 
-    ghost coded = { numbered_table_code T.code };
+    ghost coded = { kept_table_code T.code };
 
     ghost view = { λ g. numbered_table g.rows g.columns g.cells };
 
@@ -44,7 +47,7 @@ impl<T: Duplicate + Drop> Model for SharedGrid<T> {
 }
 
 impl<T: Duplicate + Drop> SharedGrid<T> {
-    ghost use Rattle.shared_grid.specs.Grid.{ReusesNumbers};
+    ghost use Rattle.cell_store.specs.Kept.{ReusesLines};
 
     /// A sheet of that size with nothing in it.
     ///
@@ -54,7 +57,7 @@ impl<T: Duplicate + Drop> SharedGrid<T> {
     pub fn new(alloc: Global, rows: u32, cols: u32) -> Result<SharedGrid<T>, NoMemory>
         requires { rows + cols ≤ most_lines }
         ensures empty { IfOk result (λ grid. grid.table ≡ empty_table rows cols) }
-        ensures numbers { IfOk result (λ grid. (grid.row_numbers ≡ rows) × (grid.column_numbers ≡ cols)) }
+        ensures numbers { IfOk result (λ grid. (grid.kept_rows ≡ rows) × (grid.kept_columns ≡ cols)) }
     {
         tables_by_items::<T>();
         let row_order = Order::new(alloc, rows)?;
@@ -70,96 +73,26 @@ impl<T: Duplicate + Drop> SharedGrid<T> {
         })
     }
 
-    /// How many rows the sheet has.
-    pub fn rows(&self) -> u32
-        ensures { result ≡ self.now.table.rows }
-    {
-        count(&self.rows)
-    }
-
-    /// How many columns the sheet has.
-    pub fn cols(&self) -> u32
-        ensures { result ≡ self.now.table.cols }
-    {
-        count(&self.columns)
-    }
-
-    /// The item at the place, lent; None where it holds none.
-    pub fn get(&self, row: u32, column: u32) -> Option<&T>
-        ensures item { option_copied result ≡ item_at self.now.table row column }
-        ensures inside { HasItemsInside self.now.table }
-    {
-        tables_by_items::<T>();
-        if row >= count(&self.rows) {
-            return None;
-        }
-        if column >= count(&self.columns) {
-            return None;
-        }
-        let row_number = number(&self.rows, row);
-        let column_number = number(&self.columns, column);
-        self.cells.get(row_number, column_number)
-    }
-
-    /// Puts the item at the place, and gives the one that was there.
+    /// The item at the place, which holds one, lent to be changed there. The place has afterwards what the
+    /// borrower left, and each other place what it had.
     ///
     /// # Errors
     ///
-    /// [`NoMemory`] with the item where memory runs out; the sheet is as it was.
-    pub fn put(&mut self, row: u32, column: u32, item: T) -> Result<Option<T>, (T, NoMemory)>
-        requires inside { HasPlace self.old.table row column }
-        requires room { item_at self.old.table row column ≡ None → filled_places self.old.table < most_filled }
-        ensures old { IfOk result (λ old. old ≡ item_at self.old.table row column) }
-        ensures put { OnOk result (self.new.table ≡ with_item self.old.table row column item) }
-        ensures back { IfErr result (λ refused. refused.0 ≡ item) }
-        ensures unchanged { OnErr result (self.new.table ≡ self.old.table) }
+    /// [`NoMemory`] where memory runs out for what other versions share; the sheet is as it was.
+    pub fn get_mut(&mut self, row: u32, column: u32) -> Result<&mut T, NoMemory>
+        requires held { IsSome (item_at self.old.table row column) }
+        ensures* writes_back { sem 𝓛 (LendsSoOk (the_row T.row) T.row self.entry result
+            (λ after item. after.table ≡ with_item self.old.table row column item)
+            (λ after. after.table ≡ self.old.table)) }
+        ensures item { IfOk result (λ item. item_at self.old.table row column ≡ Some item.now) }
     {
         tables_by_items::<T>();
         let row_number = number(&self.rows, row);
         let column_number = number(&self.columns, column);
-        self.cells.put(row_number, column_number, item)
-    }
-
-    /// Takes the item out of the place; None where it holds none, and then no memory is wanted.
-    ///
-    /// # Errors
-    ///
-    /// [`NoMemory`] where memory runs out; the sheet is as it was.
-    pub fn take(&mut self, row: u32, column: u32) -> Result<Option<T>, NoMemory>
-        ensures item { IfOk result (λ item. item ≡ item_at self.old.table row column) }
-        ensures taken { OnOk result (self.new.table ≡ without_item self.old.table row column) }
-        ensures unchanged { OnErr result (self.new.table ≡ self.old.table) }
-        ensures held { OnErr result (IsSome (item_at self.old.table row column)) }
-    {
-        tables_by_items::<T>();
-        if row >= count(&self.rows) {
-            return Ok(None);
+        match self.cells.get_mut(row_number, column_number) {
+            Ok(item) => Ok(item),
+            Err(no_memory) => Err(no_memory),
         }
-        if column >= count(&self.columns) {
-            return Ok(None);
-        }
-        let row_number = number(&self.rows, row);
-        let column_number = number(&self.columns, column);
-        self.cells.take(row_number, column_number)
-    }
-
-    /// Makes the change of the rows or of the columns. Each item goes with its line without being moved,
-    /// and the items of deleted lines are dropped: only what stands in one part of a map with such an item
-    /// is copied. The numbers of deleted lines are used again.
-    ///
-    /// # Errors
-    ///
-    /// [`NoMemory`] where memory runs out; the sheet is as it was.
-    pub fn change(&mut self, axis: Axis, change: &Change) -> Result<(), NoMemory>
-        requires fits { Fits change.now (lines_on axis self.old.table.rows self.old.table.cols) }
-        requires room { IsRoomAfter axis change.now self.old.table }
-        ensures moved { OnOk result (GoesWithLines axis change.now self.old.table self.new.table) }
-        ensures filled { filled_places self.new.table ≤ filled_places self.old.table }
-        ensures unchanged { OnErr result (self.new.table ≡ self.old.table) }
-        ensures numbers { OnOk result (ReusesNumbers axis change.now self.old self.new) }
-    {
-        *self = self.changed(axis, change)?;
-        Ok(())
     }
 
     /// The sheet after the change.
@@ -168,7 +101,7 @@ impl<T: Duplicate + Drop> SharedGrid<T> {
         requires room { IsRoomAfter axis change.now self.now.table }
         ensures moved { IfOk result (λ grid. GoesWithLines axis change.now self.now.table grid.table) }
         ensures filled { IfOk result (λ grid. filled_places grid.table ≤ filled_places self.now.table) }
-        ensures numbers { IfOk result (ReusesNumbers axis change.now self.now) }
+        ensures numbers { IfOk result (ReusesLines axis change.now self.now) }
     {
         match axis {
             Axis::Rows => self.rows_changed(change),
@@ -182,7 +115,7 @@ impl<T: Duplicate + Drop> SharedGrid<T> {
         requires room { IsRoomAfter Rows change.now self.now.table }
         ensures moved { IfOk result (λ grid. GoesWithLines Rows change.now self.now.table grid.table) }
         ensures filled { IfOk result (λ grid. filled_places grid.table ≤ filled_places self.now.table) }
-        ensures numbers { IfOk result (ReusesNumbers Rows change.now self.now) }
+        ensures numbers { IfOk result (ReusesLines Rows change.now self.now) }
     {
         tables_by_items::<T>();
         places_stay_below();
@@ -203,7 +136,7 @@ impl<T: Duplicate + Drop> SharedGrid<T> {
         requires room { IsRoomAfter Columns change.now self.now.table }
         ensures moved { IfOk result (λ grid. GoesWithLines Columns change.now self.now.table grid.table) }
         ensures filled { IfOk result (λ grid. filled_places grid.table ≤ filled_places self.now.table) }
-        ensures numbers { IfOk result (ReusesNumbers Columns change.now self.now) }
+        ensures numbers { IfOk result (ReusesLines Columns change.now self.now) }
     {
         tables_by_items::<T>();
         places_stay_below();
@@ -216,23 +149,6 @@ impl<T: Duplicate + Drop> SharedGrid<T> {
             columns,
             cells,
         })
-    }
-
-    /// The filled places of the area, by rows. Only the rows of the area are visited, and its sheet isn't
-    /// looked at.
-    ///
-    /// # Errors
-    ///
-    /// [`NoMemory`] where memory runs out.
-    pub fn places(&self, area: &Area) -> Result<Items<(u32, u32)>, NoMemory>
-        ensures { IfOk result (AreFilledPlaces area.now self.now.table) }
-    {
-        tables_by_items::<T>();
-        let rows = count(&self.rows);
-        let end = area.rows.end_line(rows).min(rows);
-        let first = area.rows.first_line().min(end);
-        let places = self.places_on_rows(first, end)?;
-        Ok(held_by_rows(places, area))
     }
 
     /// The filled places of the rows from `first` to `end - 1`.
@@ -257,11 +173,99 @@ impl<T: Duplicate + Drop> SharedGrid<T> {
         let keys = self.cells.on_row(number(&self.rows, row))?;
         put_places(row, self.columns.value(), keys.as_slice(), places)
     }
+}
 
-    /// How many places are filled.
-    pub fn filled(&self) -> u64
-        ensures { result ≡ filled_places self.now.table }
+impl<T: Duplicate + Drop> CellStore<T> for SharedGrid<T> {
+    ghost use Rattle.cell_store.specs.Kept.{ReusesLines};
+
+    ghost table = { λ grid. grid.table };
+
+    fn rows(&self) -> u32 {
+        count(&self.rows)
+    }
+
+    fn cols(&self) -> u32 {
+        count(&self.columns)
+    }
+
+    fn get(&self, row: u32, column: u32) -> Option<&T> {
+        tables_by_items::<T>();
+        if row >= count(&self.rows) {
+            return None;
+        }
+        if column >= count(&self.columns) {
+            return None;
+        }
+        let row_number = number(&self.rows, row);
+        let column_number = number(&self.columns, column);
+        self.cells.get(row_number, column_number)
+    }
+
+    fn put(&mut self, row: u32, column: u32, item: T) -> Result<Option<T>, (T, NoMemory)> {
+        tables_by_items::<T>();
+        let row_number = number(&self.rows, row);
+        let column_number = number(&self.columns, column);
+        self.cells.put(row_number, column_number, item)
+    }
+
+    /// Takes the item out of the place; None where it holds none, and then no memory is wanted.
+    ///
+    /// # Errors
+    ///
+    /// [`NoMemory`] where memory runs out; the sheet is as it was.
+    fn take(&mut self, row: u32, column: u32) -> Result<Option<T>, NoMemory>
+        ensures item { IfOk result (λ item. item ≡ item_at self.old.table row column) }
+        ensures taken { OnOk result (self.new.table ≡ without_item self.old.table row column) }
+        ensures unchanged { OnErr result (self.new.table ≡ self.old.table) }
+        ensures held { OnErr result (IsSome (item_at self.old.table row column)) }
     {
+        tables_by_items::<T>();
+        if row >= count(&self.rows) {
+            return Ok(None);
+        }
+        if column >= count(&self.columns) {
+            return Ok(None);
+        }
+        let row_number = number(&self.rows, row);
+        let column_number = number(&self.columns, column);
+        self.cells.take(row_number, column_number)
+    }
+
+    /// Makes the change of the rows or of the columns. Each item goes with its line without being moved,
+    /// and the items of deleted lines are dropped: only what stands in one part of a map with such an item
+    /// is copied. The numbers of deleted lines are used again.
+    ///
+    /// # Errors
+    ///
+    /// [`NoMemory`] where memory runs out; the sheet is as it was.
+    fn change(&mut self, axis: Axis, change: &Change) -> Result<(), NoMemory>
+        requires fits { Fits change.now (lines_on axis self.old.table.rows self.old.table.cols) }
+        requires room { IsRoomAfter axis change.now self.old.table }
+        ensures moved { OnOk result (GoesWithLines axis change.now self.old.table self.new.table) }
+        ensures filled { filled_places self.new.table ≤ filled_places self.old.table }
+        ensures unchanged { OnErr result (self.new.table ≡ self.old.table) }
+        ensures numbers { OnOk result (ReusesLines axis change.now self.old self.new) }
+    {
+        *self = self.changed(axis, change)?;
+        Ok(())
+    }
+
+    /// The filled places of the area, by rows. Only the rows of the area are visited, and its sheet isn't
+    /// looked at.
+    ///
+    /// # Errors
+    ///
+    /// [`NoMemory`] where memory runs out.
+    fn places(&self, area: &Area) -> Result<Items<(u32, u32)>, NoMemory> {
+        tables_by_items::<T>();
+        let rows = count(&self.rows);
+        let end = area.rows.end_line(rows).min(rows);
+        let first = area.rows.first_line().min(end);
+        let places = self.places_on_rows(first, end)?;
+        Ok(held_by_rows(places, area))
+    }
+
+    fn filled(&self) -> u64 {
         tables_by_items::<T>();
         self.cells.count()
     }
@@ -271,8 +275,9 @@ impl<T: Duplicate + Drop> SharedGrid<T> {
     /// # Errors
     ///
     /// [`NoMemory`] where memory runs out.
-    pub fn copy(&self) -> Result<SharedGrid<T>, NoMemory>
-        ensures { IfOk result (λ copy. copy ≡ self.now) }
+    fn copy(&self) -> Result<SharedGrid<T>, NoMemory>
+        ensures table { IfOk result (λ copy. copy.table ≡ self.now.table) }
+        ensures same { IfOk result (λ copy. copy ≡ self.now) }
     {
         Ok(SharedGrid {
             alloc: self.alloc,

@@ -2,8 +2,9 @@ ghost use Rattle.std.specs.Prelude.{◌≡◌, ℕ, ◌<◌, ◌≤◌, length, 
 ghost use Rattle.grid_range.specs.Change.{Fits, count_after};
 ghost use Rattle.cell_store.specs.Table.{most_lines};
 ghost use Rattle.shared_grid.specs.Orders.{AreMoved, AreNumbers, IsOrder};
-ghost use Rattle.shared_grid.specs.Orders.{number_of, parts_of, place_noted, source};
+ghost use Rattle.shared_grid.specs.Orders.{number_of, parts_of, place_noted};
 
+use cell_store::turn;
 use cell_value::NoMemory;
 use grid_range::{Change, places_stay_apart, places_stay_below};
 use std::alloc::Global;
@@ -148,15 +149,4 @@ fn parts_of(change: &Change, count: u32) -> (u32, u32, u32)
             }
         }
     }
-}
-
-/// Puts the part of the numbers from `middle` to `end` before the one from `start` to `middle`.
-fn turn(numbers: &mut Vec<u32>, start: u32, middle: u32, end: u32)
-    requires order { (start ≤ middle) × (middle ≤ end) }
-    requires end { end ≤ length numbers.old.items }
-    ensures long { length numbers.new.items ≡ length numbers.old.items }
-    ensures order { (index : ℕ) → index < length numbers.old.items
-        → slice_index numbers.new.items index ≡ slice_index numbers.old.items (source start middle end index) }
-{
-    numbers[start as usize..end as usize].rotate_left((middle - start) as usize);
 }

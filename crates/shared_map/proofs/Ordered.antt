@@ -12,7 +12,6 @@ use Rattle.std.specs.List.{AllByRecursion}
 use Rattle.std.specs.List.Sorted.{IsStrictlySortedBy}
 use Rattle.std.specs.Ordering.{nat_cmp}
 use Rattle.std.specs.declared.cmp.Ordering.TheVariants.{Less}
-use Rattle.std.specs.FinMap as map
 use Rattle.shared_map.specs.Found.{keys_found}
 use Rattle.shared_map.specs.Map.{map_of, AreKeysWithin}
 use Rattle.shared_map.proofs.Maps.{last_or, get-map_of}

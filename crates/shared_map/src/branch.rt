@@ -75,6 +75,14 @@ impl<C: Part + Drop, const SPAN: u64> Part for Branch<C, SPAN> {
         }
     }
 
+    fn get_mut(&mut self, key: u64) -> Result<&mut C::Item, NoMemory> {
+        let span = span::<SPAN>();
+        match &mut self.parts[(key / span) as usize] {
+            Some(part) => part.get_mut(key % span),
+            None => unreachable!(),
+        }
+    }
+
     fn put(&mut self, key: u64, item: C::Item) -> Result<Option<C::Item>, (C::Item, NoMemory)> {
         let span = span::<SPAN>();
         let index = key / span;

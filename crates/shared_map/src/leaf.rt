@@ -32,6 +32,13 @@ impl<T: Duplicate + Drop> Part for Leaf<T> {
         }
     }
 
+    fn get_mut(&mut self, key: u64) -> Result<&mut T, NoMemory> {
+        match &mut self.places[key as usize] {
+            Some(item) => Ok(item),
+            None => unreachable!(),
+        }
+    }
+
     fn put(&mut self, key: u64, item: T) -> Result<Option<T>, (T, NoMemory)> {
         match reach(&mut self.places, key) {
             Ok(()) => Ok(self.places[key as usize].replace(item)),

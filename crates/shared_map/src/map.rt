@@ -1,7 +1,9 @@
-ghost use Rattle.std.specs.Prelude.{◌≡◌, IfOk, OnOk, OnErr, IfErr};
+ghost use Rattle.std.specs.Prelude.{◌≡◌, Some, IfOk, OnOk, OnErr, IfErr};
 ghost use Rattle.std.specs.Option.{option_copied, IsSome};
 ghost use Rattle.std.specs.FinMap as map;
 ghost use Rattle.shared_map.specs.Map.{AreKeysWithin};
+ghost use Rattle.std.specs.Borrow.{sem, LendsSoOk};
+ghost use Rattle.shared_map.specs.contracts.map.SharedMap.{the_row};
 
 use crate::branch::Branch;
 use crate::leaf::Leaf;
@@ -78,6 +80,26 @@ impl<T: Duplicate + Drop> SharedMap<T> {
         ensures { option_copied result ≡ map.get self.now key }
     {
         self.root.get(key)
+    }
+
+    /// The item at the key, which holds one, lent to be changed there. The map is afterwards as it was,
+    /// with what the borrower left at the key.
+    ///
+    /// # Errors
+    ///
+    /// [`NoMemory`] where memory runs out for the parts that other versions share; the map is as it
+    /// was.
+    pub fn get_mut(&mut self, key: u64) -> Result<&mut T, NoMemory>
+        requires held { IsSome (map.get self.old key) }
+        ensures* writes_back { sem 𝓛 (LendsSoOk (the_row T.row) T.row self.entry result
+            (λ after item. after ≡ map.insert self.old key item)
+            (λ after. after ≡ self.old)) }
+        ensures item { IfOk result (λ item. map.get self.old key ≡ Some item.now) }
+    {
+        match self.root.get_mut(key) {
+            Ok(item) => Ok(item),
+            Err(no_memory) => Err(no_memory),
+        }
     }
 
     /// Puts the item at the key, and gives the one that was there.

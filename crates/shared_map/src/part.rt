@@ -1,5 +1,6 @@
 ghost use Rattle.std.specs.Prelude.{◌≡◌, ℕ, ◌+◌, ◌++◌, ◌<◌, ◌^◌, Option, None, Some, IfOk, OnOk, OnErr, IfErr};
-ghost use Rattle.std.specs.Option.{option_copied};
+ghost use Rattle.std.specs.Option.{option_copied, IsSome};
+ghost use Rattle.std.specs.Borrow.{sem, LendsSoOk};
 ghost use Rattle.shared_map.specs.Finding.{FindsSame, Updates};
 ghost use Rattle.shared_map.specs.Found.{keys_found};
 
@@ -21,6 +22,19 @@ pub trait Part {
     /// The item at the key, lent.
     fn get(&self, key: u64) -> Option<&Self::Item>
         ensures { option_copied result ≡ at self.now key };
+
+    /// The item at the key, lent to be changed there. The key holds afterwards what the borrower left,
+    /// and each other key what it held.
+    ///
+    /// # Errors
+    ///
+    /// [`NoMemory`] where memory runs out; each key holds what it held.
+    fn get_mut(&mut self, key: u64) -> Result<&mut Self::Item, NoMemory>
+        requires held { IsSome (at self.old key) }
+        ensures* writes_back { sem 𝓛 (LendsSoOk Self.row Self.Item.row self.entry result
+            (λ after item. Updates (at self.old) (at after) key (Some item))
+            (λ after. FindsSame (at self.old) (at after))) }
+        ensures item { IfOk result (λ item. at self.old key ≡ Some item.now) };
 
     /// Puts the item at the key, and gives the one that was there.
     ///

@@ -1,7 +1,9 @@
 ghost use Rattle.std.specs.Prelude.{◌≡◌, ℕ, ◌+◌, ◌++◌, ◌<◌, ◌^◌, Option, None, Some, IfOk, OnOk, OnErr, IfErr};
-ghost use Rattle.std.specs.Option.{option_copied};
+ghost use Rattle.std.specs.Option.{option_copied, IsSome};
+ghost use Rattle.std.specs.Borrow.{sem, LendsSoOk};
 ghost use Rattle.shared_map.specs.Finding.{FindsSame, Updates};
 ghost use Rattle.shared_map.specs.Found.{keys_found};
+ghost use Rattle.shared_map.specs.contracts.shared.Shared.{the_row};
 
 use crate::part::Part;
 use cell_value::NoMemory;
@@ -73,6 +75,20 @@ impl<C: Part + Drop> Shared<C> {
         ensures { option_copied result ≡ C.at self.now key }
     {
         self.shared.part.get(key)
+    }
+
+    /// [`Part::get_mut`].
+    pub fn get_mut(&mut self, key: u64) -> Result<&mut C::Item, NoMemory>
+        requires held { IsSome (C.at self.old key) }
+        ensures* writes_back { sem 𝓛 (LendsSoOk (the_row C.row) C.Item.row self.entry result
+            (λ after item. Updates (C.at self.old) (C.at after) key (Some item))
+            (λ after. FindsSame (C.at self.old) (C.at after))) }
+        ensures item { IfOk result (λ item. C.at self.old key ≡ Some item.now) }
+    {
+        match Arc::make_mut(&mut self.shared) {
+            Ok(own) => own.part.get_mut(key),
+            Err(_) => Err(NoMemory),
+        }
     }
 
     /// [`Part::put`].

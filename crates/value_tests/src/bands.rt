@@ -108,13 +108,19 @@ static FOLLOWED: [(Band, Change, Option<Band>); 15] = [
 #[test]
 fn bands_follow_changes(rt: HostRuntime) {
     for row in &FOLLOWED {
-        check(&rt, row, follows(row.0, &row.1, row.2));
+        check(&rt, row, follows(20, row.0, &row.1, row.2));
     }
+    check(&rt, &LAST, follows(4, LAST, &DELETED, None));
 }
 
-/// Whether the band of 20 lines becomes what is expected.
-fn follows(band: Band, change: &Change, expected: Option<Band>) -> bool {
-    change.fits(20) && band.within(20) && track(band, 20, change) == expected
+/// The last of 4 lines, and a change that deletes it.
+const LAST: Band = Band::Span(3, 4);
+
+const DELETED: Change = Change::Delete { start: 3, end: 4 };
+
+/// Whether the band of so many lines becomes what is expected.
+fn follows(count: u32, band: Band, change: &Change, expected: Option<Band>) -> bool {
+    change.fits(count) && band.within(count) && track(band, count, change) == expected
 }
 
 /// Lines of a sheet of 5, and where each is once lines 1 and 2 were moved before line 4, deleted, and

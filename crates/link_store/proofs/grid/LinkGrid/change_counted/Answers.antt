@@ -1,7 +1,7 @@
 use Rattle.std.proofs.Common.{◌+◌, ◌-◌, ◌*◌, ◌≤◌, ap, subst, ◌∙◌, arith}
 use Rattle.cell_store.specs.Table.{filled_places}
 use Rattle.cell_store.specs.Moved.{GoesWithLines, lines_on, size_after}
-use Rattle.link_store.specs.Grid.{ReusesLists}
+use Rattle.cell_store.specs.Kept.{ReusesLines}
 use Rattle.link_store.specs.Crossings.{listed_table}
 use Rattle.link_store.proofs.Transferred.{ok_then, err_both}
 use Rattle.link_store.proofs.Views.{table_moved, table_same, filled-table, table_from}
@@ -34,7 +34,7 @@ returns-clause-filled g c =
 pub returns-clause-lists : goal.returns-clause-lists
 returns-clause-lists g c =
     let took = c.change.ensures.lists in
-    subst (λ sheet. ReusesLists c.args.axis c.args.change.now sheet (listed_table c.change.new.self)) c.self.view_is
+    subst (λ sheet. ReusesLines c.args.axis c.args.change.now sheet (listed_table c.change.new.self)) c.self.view_is
     (record { rows = took.rows; columns = took.columns })
 
 pub returns-clause-steps : goal.returns-clause-steps

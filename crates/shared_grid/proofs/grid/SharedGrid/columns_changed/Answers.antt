@@ -3,7 +3,7 @@ use Rattle.grid_range.specs.declared.axis.Axis.TheVariants.{Columns}
 use Rattle.cell_store.specs.Table.{filled_places}
 use Rattle.cell_store.specs.Moved.{GoesWithLines}
 use Rattle.shared_grid.specs.declared.order.Order.{Order}
-use Rattle.shared_grid.specs.Grid.{ReusesNumbers}
+use Rattle.cell_store.specs.Kept.{ReusesLines}
 use Rattle.shared_grid.specs.Sheets.{IsSheet, sheet_of, numbered_table}
 use Rattle.shared_grid.proofs.Moved.{columns_fit, columns_room, columns_sheet, columns_go, columns_fewer, columns_reused}
 use Rattle.shared_grid.proofs.grid.SharedGrid.columns_changed.Goals as goal
@@ -57,7 +57,7 @@ returns-clause-filled g c = subst (λ (other : Order). filled_places (sheet_of o
     (columns_room c.args.change.now c.self.inside.rows c.self.inside.columns c.self.inside.cells c.args.self.now c.self.view_is c.requires.room))
 
 pub returns-clause-numbers : goal.returns-clause-numbers
-returns-clause-numbers g c = subst (λ (other : Order). ReusesNumbers Columns c.args.change.now c.args.self.now
+returns-clause-numbers g c = subst (λ (other : Order). ReusesLines Columns c.args.change.now c.args.self.now
     (numbered_table other c.in_ok-columns.columns c.in_ok-cells.cells)) (sym c.in_ok-rows.ensures)
     (columns_reused c.args.change.now c.self.inside.rows c.self.inside.columns c.self.inside.cells c.args.self.now c.self.view_is
     c.in_ok-columns.columns c.in_ok-cells.cells c.in_ok-columns.ensures.numbers)

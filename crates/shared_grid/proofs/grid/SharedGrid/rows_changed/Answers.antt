@@ -3,7 +3,7 @@ use Rattle.grid_range.specs.declared.axis.Axis.TheVariants.{Rows}
 use Rattle.cell_store.specs.Table.{filled_places}
 use Rattle.cell_store.specs.Moved.{GoesWithLines}
 use Rattle.shared_grid.specs.declared.order.Order.{Order}
-use Rattle.shared_grid.specs.Grid.{ReusesNumbers}
+use Rattle.cell_store.specs.Kept.{ReusesLines}
 use Rattle.shared_grid.specs.Sheets.{IsSheet, sheet_of, numbered_table}
 use Rattle.shared_grid.proofs.Moved.{rows_fit, rows_room, rows_sheet, rows_go, rows_fewer, rows_reused}
 use Rattle.shared_grid.proofs.grid.SharedGrid.rows_changed.Goals as goal
@@ -57,7 +57,7 @@ returns-clause-filled g c = subst (λ (other : Order). filled_places (sheet_of c
     (rows_room c.args.change.now c.self.inside.rows c.self.inside.columns c.self.inside.cells c.args.self.now c.self.view_is c.requires.room))
 
 pub returns-clause-numbers : goal.returns-clause-numbers
-returns-clause-numbers g c = subst (λ (other : Order). ReusesNumbers Rows c.args.change.now c.args.self.now
+returns-clause-numbers g c = subst (λ (other : Order). ReusesLines Rows c.args.change.now c.args.self.now
     (numbered_table c.in_ok-rows.rows other c.in_ok-cells.cells)) (sym c.in_ok-columns.ensures)
     (rows_reused c.args.change.now c.self.inside.rows c.self.inside.columns c.self.inside.cells c.args.self.now c.self.view_is
     c.in_ok-rows.rows c.in_ok-cells.cells c.in_ok-rows.ensures.numbers)

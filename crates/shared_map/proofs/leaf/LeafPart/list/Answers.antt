@@ -1,7 +1,6 @@
-use Rattle.std.proofs.Common.{◌≡◌, ◌+◌, ◌<◌, ◌≤◌, inl, inr, ◌∷◌, [], ◌++◌, true, false, ap, sym, ◌∙◌, arith}
-use Rattle.std.specs.Prelude.{is_some, min}
+use Rattle.std.proofs.Common.{◌≡◌, ◌+◌, ◌<◌, ◌≤◌, inl, inr, ◌∷◌, [], ◌++◌, ap, sym, ◌∙◌, arith}
+use Rattle.std.specs.Prelude.{is_some}
 use Rattle.shared_map.specs.Places.{place_at}
-use Rattle.shared_map.specs.Found.{keys_found}
 use Rattle.shared_map.proofs.Keys.{all_listed, none_listed, listed_none, listed_more, found_more, found_none, is_some-copied, no_place}
 use Rattle.shared_map.proofs.leaf.LeafPart.list.Goals.{then-is_some+in_ok-push, else-is_some, then-last-count, else-last-count}
 use Rattle.shared_map.proofs.leaf.LeafPart.list.Goals as goal

@@ -1,5 +1,4 @@
-use Rattle.std.proofs.Common.{◌≡◌, ◌<◌, ◌^◌, ℕ, List, [], ◌++◌, ap, sym, subst, ◌∙◌, arith}
-use Rattle.std.specs.FinMap as map
+use Rattle.std.proofs.Common.{◌<◌, ◌^◌, sym, subst, ◌∙◌, arith}
 use Rattle.shared_map.specs.Root.{in_root}
 use Rattle.shared_map.specs.Map.{map_of, AreKeysWithin}
 use Rattle.shared_map.proofs.Keys.{behind_nothing}

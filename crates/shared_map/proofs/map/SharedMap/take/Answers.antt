@@ -1,5 +1,5 @@
-use Rattle.std.proofs.Common.{◌≡◌, true, false, not, ap, sym, ◌∙◌, arith, ◌-◌, ◌<◌}
-use Rattle.std.specs.Prelude.{Option, None, is_some, Result, Ok, Err, OnErr}
+use Rattle.std.proofs.Common.{◌≡◌, true, not, ap, sym, ◌∙◌, arith, ◌-◌, ◌<◌}
+use Rattle.std.specs.Prelude.{None, is_some, Result, Ok, Err, OnErr}
 use Rattle.std.specs.FinMap as map
 use Rattle.shared_map.specs.Root.{in_root}
 use Rattle.shared_map.specs.Map.{map_of}

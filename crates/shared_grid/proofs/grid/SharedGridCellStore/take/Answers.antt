@@ -6,7 +6,7 @@ use Rattle.shared_grid.specs.Cells.{key_of}
 use Rattle.shared_grid.specs.Sheets.{sheet_of, IsSheet}
 use Rattle.shared_grid.proofs.Marks.{either}
 use Rattle.shared_grid.proofs.Views.{item-view, none-view, none_taken-view, taken-view, taken_is, on_ok}
-use Rattle.shared_grid.proofs.grid.SharedGrid.take.Goals as goal
+use Rattle.shared_grid.proofs.grid.SharedGridCellStore.take.Goals as goal
 
 pub returns-then-row-count-clause-item : goal.returns-then-row-count-clause-item
 returns-then-row-count-clause-item g c = none-view c.tables_by_items.ensures c.self.inside.rows c.self.inside.columns c.self.inside.cells

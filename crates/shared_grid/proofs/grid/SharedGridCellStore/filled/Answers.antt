@@ -1,6 +1,6 @@
 use Rattle.std.proofs.Common.{◌∙◌}
 use Rattle.shared_grid.proofs.Views.{filled-view}
-use Rattle.shared_grid.proofs.grid.SharedGrid.filled.Goals as goal
+use Rattle.shared_grid.proofs.grid.SharedGridCellStore.filled.Goals as goal
 
 pub returns : goal.returns
 returns g c = c.count.ensures

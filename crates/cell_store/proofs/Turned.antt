@@ -2,40 +2,12 @@
 use Rattle.std.proofs.Common.{◌≡◌, inl, inr, ℕ, ◌+◌, ◌-◌, ◌<◌, ◌≤◌, List, ◌++◌, length, sym, ap, subst, ◌∙◌, arith}
 use Rattle.std.proofs.Common.{get_or, take, drop}
 use Rattle.std.proofs.lemmas.Bool.{cases_lt}
-use Rattle.std.proofs.lemmas.Bool.Decides.{nat_tests}
 use Rattle.std.proofs.lemmas.List.{take-append-drop, take_at, length-append, length-take, length-drop, get_or-take}
 use Rattle.std.proofs.lemmas.List.{get_or-drop, get_or_append_left, get_or-append_right}
 use Rattle.std.specs.List.Sorted.{IsPermutation}
 use Rattle.std.proofs.lemmas.List.Sorted.{IsPermutation-append_comm, IsPermutation-put_mid}
-use Rattle.link_store.specs.Lines.{source}
-
--- where an index past the start, and past both parts, stood
-pub source_first : (start middle end i : ℕ) → i < start → source start middle end i ≡ i
-source_first start middle end i h = grind (arith, nat_tests)
-
-source_second : (start middle end i : ℕ) → start ≤ i → i < start + (end - middle)
-    → source start middle end i ≡ i + (middle - start)
-source_second start middle end i l h = grind (arith, nat_tests)
-
-source_third : (start middle end i : ℕ) → start ≤ middle → middle ≤ end → start + (end - middle) ≤ i → i < end
-    → source start middle end i ≡ i - (end - middle)
-source_third start middle end i s m l h = grind (arith, nat_tests)
-
-pub source_last : (start middle end i : ℕ) → start ≤ middle → middle ≤ end → end ≤ i → source start middle end i ≡ i
-source_last start middle end i s m l = grind (arith, nat_tests)
-
-pub source_within : (start middle end i all : ℕ) → start ≤ middle → middle ≤ end → end ≤ all → i < all
-    → source start middle end i < all
-source_within start middle end i all s m l h = elim (cases_lt i start) [
-  | inl first ↦ omega (arith, source_first start middle end i first)
-  | inr past ↦ elim (cases_lt i end) [
-    | inr last ↦ omega (arith, source_last start middle end i s m last)
-    | inl inside ↦ elim (cases_lt i (start + (end - middle))) [
-      | inl second ↦ omega (arith, source_second start middle end i past second)
-      | inr third ↦ omega (arith, source_third start middle end i s m third inside)
-    ]
-  ]
-]
+use Rattle.cell_store.specs.Turning.{source}
+use Rattle.cell_store.specs.TurningLaws.{source_first, source_second, source_third, source_last}
 
 module _ (xs ys : List ℕ) (start middle end : ℕ) (some : start ≤ middle) (order : middle ≤ end)
     (within : end ≤ length xs)

@@ -1,7 +1,7 @@
 use Rattle.std.proofs.Common.{ap, arith}
 use Rattle.shared_grid.proofs.Listed.{are_places}
 use Rattle.shared_grid.proofs.Views.{inside-view}
-use Rattle.shared_grid.proofs.grid.SharedGrid.places.Goals as goal
+use Rattle.shared_grid.proofs.grid.SharedGridCellStore.places.Goals as goal
 
 pub places_on_rows-requires : goal.places_on_rows-requires
 places_on_rows-requires g c = (

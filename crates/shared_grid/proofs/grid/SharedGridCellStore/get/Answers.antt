@@ -2,7 +2,7 @@ use Rattle.std.proofs.Common.{ap, ◌∙◌, arith}
 use Rattle.std.specs.FinMap as map
 use Rattle.shared_grid.specs.Cells.{key_of}
 use Rattle.shared_grid.proofs.Views.{item-view, none-view, inside-view}
-use Rattle.shared_grid.proofs.grid.SharedGrid.get.Goals as goal
+use Rattle.shared_grid.proofs.grid.SharedGridCellStore.get.Goals as goal
 
 pub returns-then-row-count-clause-item : goal.returns-then-row-count-clause-item
 returns-then-row-count-clause-item g c = none-view c.tables_by_items.ensures c.self.inside.rows c.self.inside.columns c.self.inside.cells

@@ -5,7 +5,7 @@ use Rattle.shared_grid.specs.Cells.{key_of}
 use Rattle.shared_grid.specs.Sheets.{sheet_of, IsSheet}
 use Rattle.shared_grid.proofs.Marks.{either}
 use Rattle.shared_grid.proofs.Views.{item-view, put-view, put_is, on_ok}
-use Rattle.shared_grid.proofs.grid.SharedGrid.put.Goals as goal
+use Rattle.shared_grid.proofs.grid.SharedGridCellStore.put.Goals as goal
 
 pub number-row_number-requires : goal.number-row_number-requires
 number-row_number-requires g c = record {

@@ -1,0 +1,69 @@
+//! One write to a sheet of which an older version is kept, on a grid whose copies share their cells and
+//! on a tree grid.
+//!
+//! It writes the sums of the items before the write and after it. With the argument `time` it also writes
+//! how many nanoseconds the calls of both grids take, on the average, and their ratios: put, get, a copy
+//! and one write, and places, in sheets of 1,000, 100,000 and 1,000,000 items; and changes of rows in a
+//! sheet of 1,000 rows and 1,000 columns.
+#![tactic(auto)]
+
+mod cases;
+mod sheets;
+mod times;
+
+use cases::{CALLS, CHANGES, Call, SIZES};
+use cell_store::CellStore;
+use sheets::{Sheet, shared, tree};
+use std::alloc::Global;
+use std::time::Clock;
+use std::{env, io};
+use times::compare;
+
+fn main(rt: HostRuntime) -> anyhow::Result<()> {
+    write(&rt, &mut tree(rt.alloc(), 100, 26))?;
+    write(&rt, &mut shared(rt.alloc(), 100, 26)?)?;
+    if is_timed(&rt)? {
+        time(&rt, rt.alloc())
+    } else {
+        Ok(())
+    }
+}
+
+/// Whether the program was given the word `time`.
+fn is_timed(rt: &HostRuntime) -> io::Result<bool> {
+    let mut timed = false;
+    for word in env::args(rt)?.skip(1) {
+        timed = timed || word.as_str() == "time";
+    }
+    Ok(timed)
+}
+
+/// Fills the sheet, writes to it once, and prints the sum of its items and that of the older version's.
+fn write<G: CellStore<u64> + Drop, R: Print>(rt: &R, sheet: &mut Sheet<G>) -> anyhow::Result<()> {
+    sheet.make(&Call::Fill)?;
+    sheet.make(&Call::Write)?;
+    let (name, before, after) = (sheet.name, sheet.sum_before(), sheet.sum());
+    println!(rt; "{name}: the items' sum is {before} before a write, and {after} after it")?;
+    Ok(())
+}
+
+fn time<R: Clock + Print>(rt: &R, alloc: Global) -> anyhow::Result<()> {
+    for (rows, columns) in &SIZES {
+        time_calls(rt, alloc, *rows, *columns)?;
+    }
+    Ok(())
+}
+
+/// Times the calls on sheets of that size, which the first of them fills, and changes of their rows.
+fn time_calls<R: Clock + Print>(
+    rt: &R,
+    alloc: Global,
+    rows: u32,
+    columns: u32,
+) -> anyhow::Result<()> {
+    println!(rt; "{rows} rows, {columns} columns:")?;
+    let mut shared = shared(alloc, rows, columns)?;
+    let mut tree = tree(alloc, rows, columns);
+    compare(rt, &CALLS, &mut shared, &mut tree)?;
+    compare(rt, &CHANGES, &mut shared, &mut tree)
+}
