@@ -1,6 +1,6 @@
 -- What a progress of reading answers is what comes next in the stream.
 use Rattle.std.proofs.Common.{◌≡◌, ℕ, ◌+◌, ◌-◌, ◌<◌, ◌≤◌, inl, inr, Bool, true, false, List, [], ◌∷◌, ◌++◌, length, take, drop, refl, sym, ap, ◌∙◌, subst, arith, append-nil}
-use Rattle.std.specs.Prelude.{Option, Some, None, Result, Ok, Err, IfSome, is_none, unwrap_or, nat_lt, ◌||◌, ◌&&◌, if◌then◌else◌, codes}
+use Rattle.std.specs.Prelude.{min, Option, Some, None, Result, Ok, Err, IfSome, is_none, unwrap_or, nat_lt, ◌||◌, ◌&&◌, if◌then◌else◌, codes}
 use Rattle.std.proofs.lemmas.Bool.{ltb-false}
 use Rattle.std.proofs.lemmas.List.{length-append, length-drop, length-take, take-take, drop-take}
 use Rattle.httparse.specs.Grammar.{ReadsRequest}
@@ -171,6 +171,12 @@ pub untold : (most : ℕ) (held : Buffered) → BeginsWith (take (room_of most h
     → ¬ (HoldsMessage most held)
 untold most held is (message, begins, whole) =
     whole (one_first (take (room_of most held) held.pending) message incomplete_message begins is)
+
+-- a request that has more bytes than are held within the bound isn't whole
+pub not_whole : (room known least whole : ℕ) (pending held : List ℕ) → known ≡ room → held ≡ pending
+    → least ≡ min (length held) known → least < whole → length (take room pending) < whole
+not_whole room known least whole pending held same is both more =
+    omega (arith, same, ap length is, both, more, length-take room pending)
 
 -- nor where the body of a request isn't
 pub body_untold : (most : ℕ) (old mid : Buffered) (n : ℕ) (summary : HeadSummary) → mid ≡ old

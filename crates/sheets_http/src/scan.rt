@@ -1,4 +1,5 @@
-ghost use Rattle.std.specs.Prelude.{◌≡◌, ◌≢◌, ℕ, ◌+◌, ◌^◌, ◌<◌, ◌≤◌, length, take, slice_index};
+ghost use Rattle.std.specs.Prelude.{◌≡◌, ◌≢◌, ℕ, ◌+◌, ◌^◌, ◌<◌, ◌≤◌, length, take, slice_index, nat_eq};
+ghost use Rattle.std.specs.List.{ends_with};
 ghost use Rattle.sheets_http.specs.Heads.{is_break, ends_with_empty_line, head_limit, line_limit, is_too_long, head_state};
 ghost use Rattle.sheets_http.specs.Scanning.{IsScan, scan_after};
 
@@ -146,7 +147,15 @@ fn line_length(bytes: &[u8]) -> usize
 fn ends_with_empty_line(bytes: &[u8]) -> bool
     ensures { result ≡ ends_with_empty_line bytes.now }
 {
-    bytes.ends_with(b"\n\n") || bytes.ends_with(b"\n\r\n")
+    has_end(bytes, b"\n\n") || has_end(bytes, b"\n\r\n")
+}
+
+/// Whether the bytes end with these, as `ends_with` says, but without a call where these are
+/// constant.
+fn has_end(bytes: &[u8], end: &[u8]) -> bool
+    ensures { result ≡ ends_with nat_eq bytes.now end.now }
+{
+    end == &bytes[bytes.len().saturating_sub(end.len())..]
 }
 
 /// Whether a head that isn't whole has too many bytes or lines.

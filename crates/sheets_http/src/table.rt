@@ -123,11 +123,9 @@ fn is_rendering(value: &str) -> bool
     value == "FORMATTED_VALUE" || value == "UNFORMATTED_VALUE" || value == "FORMULA"
 }
 
-/// A line of the table of calls.
+/// A line of the table of calls, but for the method.
 #[derive(Clone, Copy, Debug)]
 pub(crate) struct Line {
-    /// The method.
-    pub(crate) method: &'static str,
     /// The segments of the path.
     pub(crate) path: &'static [Segment],
     /// The verb at the end of the path, with its colon.
@@ -141,20 +139,17 @@ pub(crate) struct Line {
 impl Line {
     /// A line with these parts.
     fn of(
-        method: &'static str,
         path: &'static [Segment],
         verb: &'static str,
         required: &'static [Member],
         optional: &'static [Member],
     ) -> Line
-        ensures method { result.method.now ≡ method.now }
         ensures path { result.path.now ≡ path.now }
         ensures verb { result.verb.now ≡ verb.now }
         ensures required { result.required.now ≡ required.now }
         ensures optional { result.optional.now ≡ optional.now }
     {
         Line {
-            method,
             path,
             verb,
             required,
@@ -241,28 +236,38 @@ const APPENDING: &[Member] = &[
 ];
 
 impl Verb {
-    /// Its line in the table.
+    /// The method of its line in the table.
+    pub(crate) fn method(self) -> &'static str
+        ensures { result.now ≡ (line self).method }
+    {
+        match self {
+            Verb::Get | Verb::Read | Verb::ReadMany | Verb::Item => "GET",
+            Verb::Write => "PUT",
+            _ => "POST",
+        }
+    }
+
+    /// What else its line has.
     pub(crate) fn line(self) -> Line
-        ensures method { result.method.now ≡ (line self).method }
         ensures path { result.path.now ≡ (line self).path }
         ensures verb { result.verb.now ≡ (line self).verb }
         ensures required { result.required.now ≡ (line self).required }
         ensures optional { result.optional.now ≡ (line self).optional }
     {
         match self {
-            Verb::Create => Line::of("POST", SPREADSHEETS, "", NONE, NONE),
-            Verb::Get => Line::of("GET", SPREADSHEET, "", NONE, GRID),
-            Verb::Batch => Line::of("POST", SPREADSHEET, ":batchUpdate", NONE, NONE),
-            Verb::Read => Line::of("GET", RANGE, "", NONE, READING),
-            Verb::Write => Line::of("PUT", RANGE, "", INPUT, WRITING),
-            Verb::Append => Line::of("POST", RANGE, ":append", INPUT, APPENDING),
-            Verb::Clear => Line::of("POST", RANGE, ":clear", NONE, NONE),
-            Verb::ReadMany => Line::of("GET", VALUES, ":batchGet", NONE, READING_MANY),
-            Verb::WriteMany => Line::of("POST", VALUES, ":batchUpdate", NONE, NONE),
-            Verb::ClearMany => Line::of("POST", VALUES, ":batchClear", NONE, NONE),
-            Verb::ReadFiltered => Line::of("POST", VALUES, ":batchGetByDataFilter", NONE, NONE),
-            Verb::Item => Line::of("GET", ITEM, "", NONE, NONE),
-            Verb::Search => Line::of("POST", METADATA, ":search", NONE, NONE),
+            Verb::Create => Line::of(SPREADSHEETS, "", NONE, NONE),
+            Verb::Get => Line::of(SPREADSHEET, "", NONE, GRID),
+            Verb::Batch => Line::of(SPREADSHEET, ":batchUpdate", NONE, NONE),
+            Verb::Read => Line::of(RANGE, "", NONE, READING),
+            Verb::Write => Line::of(RANGE, "", INPUT, WRITING),
+            Verb::Append => Line::of(RANGE, ":append", INPUT, APPENDING),
+            Verb::Clear => Line::of(RANGE, ":clear", NONE, NONE),
+            Verb::ReadMany => Line::of(VALUES, ":batchGet", NONE, READING_MANY),
+            Verb::WriteMany => Line::of(VALUES, ":batchUpdate", NONE, NONE),
+            Verb::ClearMany => Line::of(VALUES, ":batchClear", NONE, NONE),
+            Verb::ReadFiltered => Line::of(VALUES, ":batchGetByDataFilter", NONE, NONE),
+            Verb::Item => Line::of(ITEM, "", NONE, NONE),
+            Verb::Search => Line::of(METADATA, ":search", NONE, NONE),
         }
     }
 }

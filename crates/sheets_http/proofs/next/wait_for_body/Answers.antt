@@ -1,10 +1,10 @@
-use Rattle.std.proofs.Common.{◌≡◌, List, length, take, refl, ap, ◌∙◌, sym, subst, arith, ℕ, length-take}
+use Rattle.std.proofs.Common.{◌≡◌, List, length, take, refl, ap, ◌∙◌, sym, subst, arith, ℕ, ◌+◌}
 use Rattle.std.specs.Prelude.{Ok}
 use Rattle.sheets_http.specs.declared.request.Next.{Next}
 use Rattle.sheets_http.specs.Heads.{skip_breaks}
 use Rattle.sheets_http.specs.Requests.{room_of, stream_of}
 use Rattle.sheets_http.specs.Buffering.{end_answer}
-use Rattle.sheets_http.proofs.AnswerLemmas.{Answers, room_is, few_bytes, scanned_with_more, body_untold, body_too_long, body_cut}
+use Rattle.sheets_http.proofs.AnswerLemmas.{Answers, room_is, not_whole, few_bytes, scanned_with_more, body_untold, body_too_long, body_cut}
 use Rattle.sheets_http.proofs.next.wait_for_body.Goals as goal
 
 pub overflow_add-whole : goal.overflow_add-whole
@@ -21,14 +21,9 @@ returns-then-room-held-clause-body g c =
     (g.L.Source.left c.body.link) (stream_of c.body.buffer (g.L.Source.left c.body.link))
     (room_of c.args.most c.body.buffer) c.args.end c.args.summary.now c.body.invariant.stream
     c.body.invariant.used c.body.invariant.head
-    (omega (
-      arith,
-      room,
-      length-take (room_of c.args.most c.args.buffer.now) c.body.buffer.pending,
-      c.min.ensures,
-      c.if-whole-min.false,
-      ap length c.pending.ensures,
-    ))
+    (not_whole (room_of c.args.most c.args.buffer.now) c.saturating_sub-room.result c.min.result
+    (c.args.end + c.args.summary.now.length) c.body.buffer.pending c.pending.result.now room
+    c.pending.ensures (omega (arith, c.min.ensures)) (omega (arith, c.if-whole-min.false)))
     (omega (arith, room, c.if-room-held.true, ap length c.pending.ensures))
 
 pub returns-in-Ok-eq0-clause-body : goal.returns-in-Ok-eq0-clause-body
@@ -44,15 +39,9 @@ returns-in-Ok-eq0-clause-body g c =
     (stream_of c.fill.new.self (g.L.Source.left c.fill.new.source)) (room_of c.args.most c.fill.new.self)
     c.args.end c.args.summary.now (c.body.invariant.stream ∙ c.fill.ensures.stream)
     (c.fill.ensures.used ∙ c.body.invariant.used) head
-    (omega (
-      arith,
-      room,
-      length-take (room_of c.args.most c.args.buffer.now) c.fill.new.self.pending,
-      c.min.ensures,
-      c.if-whole-min.false,
-      ap length c.pending.ensures,
-      ap length same,
-    ))
+    (not_whole (room_of c.args.most c.args.buffer.now) c.saturating_sub-room.result c.min.result
+    (c.args.end + c.args.summary.now.length) c.fill.new.self.pending c.pending.result.now room
+    (c.pending.ensures ∙ sym same) (omega (arith, c.min.ensures)) (omega (arith, c.if-whole-min.false)))
     (omega (arith, room, c.if-room-held.false, ap length c.pending.ensures, ap length same))
     refl (c.fill.ensures.no_more nothing) in
     let told : c.end_of.result ≡ end_answer (skip_breaks c.fill.new.self.pending) =
@@ -67,14 +56,9 @@ returns-in-Ok-eq0-clause-held g c holds =
     c.saturating_sub-room.ensures c.used.ensures in
     absurd (body_untold c.args.most c.args.buffer.now c.body.buffer c.args.end c.args.summary.now
     (c.body.invariant.held holds).1 c.body.invariant.head
-    (omega (
-      arith,
-      room,
-      length-take (room_of c.args.most c.args.buffer.now) c.body.buffer.pending,
-      c.min.ensures,
-      c.if-whole-min.false,
-      ap length c.pending.ensures,
-    )) holds)
+    (not_whole (room_of c.args.most c.args.buffer.now) c.saturating_sub-room.result c.min.result
+    (c.args.end + c.args.summary.now.length) c.body.buffer.pending c.pending.result.now room
+    c.pending.ensures (omega (arith, c.min.ensures)) (omega (arith, c.if-whole-min.false))) holds)
 
 pub returns-in-Err-Failed-clause-held : goal.returns-in-Err-Failed-clause-held
 returns-in-Err-Failed-clause-held g c holds =
@@ -82,14 +66,9 @@ returns-in-Err-Failed-clause-held g c holds =
     c.saturating_sub-room.ensures c.used.ensures in
     absurd (body_untold c.args.most c.args.buffer.now c.body.buffer c.args.end c.args.summary.now
     (c.body.invariant.held holds).1 c.body.invariant.head
-    (omega (
-      arith,
-      room,
-      length-take (room_of c.args.most c.args.buffer.now) c.body.buffer.pending,
-      c.min.ensures,
-      c.if-whole-min.false,
-      ap length c.pending.ensures,
-    )) holds)
+    (not_whole (room_of c.args.most c.args.buffer.now) c.saturating_sub-room.result c.min.result
+    (c.args.end + c.args.summary.now.length) c.body.buffer.pending c.pending.result.now room
+    c.pending.ensures (omega (arith, c.min.ensures)) (omega (arith, c.if-whole-min.false))) holds)
 
 pub returns-in-Err-NoMemory-clause-held : goal.returns-in-Err-NoMemory-clause-held
 returns-in-Err-NoMemory-clause-held g c holds =
@@ -97,14 +76,9 @@ returns-in-Err-NoMemory-clause-held g c holds =
     c.saturating_sub-room.ensures c.used.ensures in
     absurd (body_untold c.args.most c.args.buffer.now c.body.buffer c.args.end c.args.summary.now
     (c.body.invariant.held holds).1 c.body.invariant.head
-    (omega (
-      arith,
-      room,
-      length-take (room_of c.args.most c.args.buffer.now) c.body.buffer.pending,
-      c.min.ensures,
-      c.if-whole-min.false,
-      ap length c.pending.ensures,
-    )) holds)
+    (not_whole (room_of c.args.most c.args.buffer.now) c.saturating_sub-room.result c.min.result
+    (c.args.end + c.args.summary.now.length) c.body.buffer.pending c.pending.result.now room
+    c.pending.ensures (omega (arith, c.min.ensures)) (omega (arith, c.if-whole-min.false))) holds)
 
 pub body-preserved : goal.body-preserved
 body-preserved g c = record {
@@ -117,14 +91,9 @@ body-preserved g c = record {
       c.saturating_sub-room.ensures c.used.ensures in
       absurd (body_untold c.args.most c.args.buffer.now c.body.buffer c.args.end c.args.summary.now
       (c.body.invariant.held holds).1 c.body.invariant.head
-      (omega (
-        arith,
-        room,
-        length-take (room_of c.args.most c.args.buffer.now) c.body.buffer.pending,
-        c.min.ensures,
-        c.if-whole-min.false,
-        ap length c.pending.ensures,
-      )) holds);
+      (not_whole (room_of c.args.most c.args.buffer.now) c.saturating_sub-room.result c.min.result
+      (c.args.end + c.args.summary.now.length) c.body.buffer.pending c.pending.result.now room
+      c.pending.ensures (omega (arith, c.min.ensures)) (omega (arith, c.if-whole-min.false))) holds);
   later = omega (arith, c.body.invariant.later, c.fill.ensures.later);
   steady = λ s.
       let before = c.body.invariant.steady s in
