@@ -2,7 +2,7 @@ use crate::common::check;
 use crate::steps::is_step;
 
 /// Requests for cells: their kinds, their members, and what they are.
-static CELLS: [(&str, &str, &str); 56] = [
+static CELLS: [(&str, &str, &str); 31] = [
     (
         "updateCells",
         "{\"rows\":[{\"values\":[{\"userEnteredValue\":{\"numberValue\":1}},{}]},{}],\"fields\":\"userEnteredValue\",\"start\":{\"sheetId\":1,\"rowIndex\":2,\"columnIndex\":3}}",
@@ -108,6 +108,40 @@ static CELLS: [(&str, &str, &str); 56] = [
         "Unsupported",
     ),
     ("updateCells", "{\"fields\":7,\"start\":{}}", "BadShape"),
+    (
+        "appendCells",
+        "{\"sheetId\":7,\"rows\":[{\"values\":[{\"userEnteredValue\":{\"numberValue\":1}}]}],\"fields\":\"*\"}",
+        "AppendCells { sheet_id: 7, rows: Block { columns_first: false, values: Items { items: [Items { items: [Number(1)] }] } } }",
+    ),
+    (
+        "appendCells",
+        "{\"rows\":[],\"fields\":\"userEnteredValue\"}",
+        "AppendCells { sheet_id: 0, rows: Block { columns_first: false, values: Items { items: [] } } }",
+    ),
+    ("appendCells", "{\"fields\":\"*\"}", "BadShape"),
+    ("appendCells", "{\"rows\":[]}", "BadShape"),
+    (
+        "appendCells",
+        "{\"rows\":[],\"fields\":\"*\",\"start\":{}}",
+        "Unsupported",
+    ),
+    (
+        "appendCells",
+        "{\"sheetId\":\"0\",\"rows\":[],\"fields\":\"*\"}",
+        "BadShape",
+    ),
+];
+
+#[test]
+fn cells_are_changed(rt: HostRuntime) {
+    for row in &CELLS {
+        let holds = is_step(rt.alloc(), row.0, row.1, row.2);
+        check(&rt, row, holds);
+    }
+}
+
+/// Updates of a cell, and what they are.
+static VALUES: [(&str, &str, &str); 25] = [
     (
         "updateCells",
         "{\"rows\":[{\"values\":[null]}],\"fields\":\"*\",\"start\":{}}",
@@ -233,33 +267,11 @@ static CELLS: [(&str, &str, &str); 56] = [
         "{\"rows\":[{\"values\":[{\"userEnteredValue\":{\"numberValue\":1.5,\"errorValue\":{}}}]}],\"fields\":\"*\",\"start\":{}}",
         "Unsupported",
     ),
-    (
-        "appendCells",
-        "{\"sheetId\":7,\"rows\":[{\"values\":[{\"userEnteredValue\":{\"numberValue\":1}}]}],\"fields\":\"*\"}",
-        "AppendCells { sheet_id: 7, rows: Block { columns_first: false, values: Items { items: [Items { items: [Number(1)] }] } } }",
-    ),
-    (
-        "appendCells",
-        "{\"rows\":[],\"fields\":\"userEnteredValue\"}",
-        "AppendCells { sheet_id: 0, rows: Block { columns_first: false, values: Items { items: [] } } }",
-    ),
-    ("appendCells", "{\"fields\":\"*\"}", "BadShape"),
-    ("appendCells", "{\"rows\":[]}", "BadShape"),
-    (
-        "appendCells",
-        "{\"rows\":[],\"fields\":\"*\",\"start\":{}}",
-        "Unsupported",
-    ),
-    (
-        "appendCells",
-        "{\"sheetId\":\"0\",\"rows\":[],\"fields\":\"*\"}",
-        "BadShape",
-    ),
 ];
 
 #[test]
-fn cells_are_changed(rt: HostRuntime) {
-    for row in &CELLS {
+fn values_are_entered(rt: HostRuntime) {
+    for row in &VALUES {
         let holds = is_step(rt.alloc(), row.0, row.1, row.2);
         check(&rt, row, holds);
     }

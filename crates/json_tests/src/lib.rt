@@ -18,6 +18,8 @@ mod creations;
 #[cfg(test)]
 mod lines;
 #[cfg(test)]
+mod ranges;
+#[cfg(test)]
 mod refusals;
 #[cfg(test)]
 mod sheets;

@@ -1,6 +1,7 @@
 use crate::common::{check, is_answer, text};
 use cell_value::Items;
 use grid_range::{Area, Band};
+use named_ranges::NamedRange;
 use sheets_json::{Answer, Reply, ShownProperties, ShownSheet, Spreadsheet};
 use std::alloc::Global;
 
@@ -19,6 +20,7 @@ fn properties(alloc: Global, id: u32, title: &str, hidden: bool) -> ShownPropert
 /// The spreadsheet `book2` with these sheets.
 fn spreadsheet(alloc: Global, sheets: Vec<ShownSheet>) -> Spreadsheet {
     Spreadsheet {
+        named_ranges: None,
         title: text(alloc, "Untitled spreadsheet"),
         sheets: Items::of(sheets),
         spreadsheet_id: text(alloc, "book2"),
@@ -69,6 +71,48 @@ fn spreadsheets_are_shown(rt: HostRuntime) {
     let wanted =
         "{\"properties\":{\"title\":\"Untitled spreadsheet\"},\"sheets\":[{\"merges\":[{\"endColumnIndex\":2,\"endRowIndex\":3,\"sheetId\":1,\"startColumnIndex\":1,\"startRowIndex\":0},{\"sheetId\":1,\"startColumnIndex\":4},{\"sheetId\":1,\"startRowIndex\":5}],\"properties\":{\"gridProperties\":{\"columnCount\":26,\"rowCount\":1000},\"hidden\":true,\"index\":1,\"sheetId\":1,\"sheetType\":\"GRID\",\"title\":\"x\"}}],\"spreadsheetId\":\"book2\"}";
     check(&rt, &wanted, is_answer(alloc, &shown, wanted));
+}
+
+/// The named range `nr1` of a cell.
+fn named_range(alloc: Global) -> NamedRange {
+    NamedRange {
+        id: text(alloc, "nr1"),
+        name: text(alloc, "tax"),
+        area: Area {
+            sheet: 0,
+            rows: Band::Span(1, 2),
+            cols: Band::Span(3, 4),
+        },
+    }
+}
+
+#[test]
+fn named_ranges_are_shown(rt: HostRuntime) {
+    let alloc = rt.alloc();
+    let mut names = Vec::new(alloc);
+    let _ = names.push(named_range(alloc));
+    let mut spreadsheet = spreadsheet(alloc, Vec::new(alloc));
+    spreadsheet.named_ranges = Some(Items::of(names));
+    let shown = Answer::Get(spreadsheet);
+    let wanted =
+        "{\"namedRanges\":[{\"name\":\"tax\",\"namedRangeId\":\"nr1\",\"range\":{\"endColumnIndex\":4,\"endRowIndex\":2,\"sheetId\":0,\"startColumnIndex\":3,\"startRowIndex\":1}}],\"properties\":{\"title\":\"Untitled spreadsheet\"},\"sheets\":[],\"spreadsheetId\":\"book2\"}";
+    check(&rt, &wanted, is_answer(alloc, &shown, wanted));
+}
+
+#[test]
+fn new_named_ranges_are_answered(rt: HostRuntime) {
+    let alloc = rt.alloc();
+    let mut replies = Vec::new(alloc);
+    let _ = replies.push(Reply::AddNamedRange {
+        named_range: named_range(alloc),
+    });
+    let answer = Answer::Batch {
+        replies: Items::of(replies),
+        spreadsheet_id: text(alloc, "book1"),
+    };
+    let wanted =
+        "{\"replies\":[{\"addNamedRange\":{\"namedRange\":{\"name\":\"tax\",\"namedRangeId\":\"nr1\",\"range\":{\"endColumnIndex\":4,\"endRowIndex\":2,\"sheetId\":0,\"startColumnIndex\":3,\"startRowIndex\":1}}}}],\"spreadsheetId\":\"book1\"}";
+    check(&rt, &wanted, is_answer(alloc, &answer, wanted));
 }
 
 #[test]

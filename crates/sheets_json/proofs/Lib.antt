@@ -3,3 +3,4 @@ pub mod MemberLemmas
 pub mod BodyLemmas
 pub mod WholeLemmas
 pub mod CallLemmas
+pub mod ReadAgain

@@ -22,7 +22,8 @@ use Rattle.sheets_json.specs.declared.spreadsheet.Spreadsheet.{Spreadsheet}
 use Rattle.sheets_json.specs.declared.spreadsheet.Reply.{Reply}
 use Rattle.sheets_json.specs.declared.spreadsheet.Reply.TheVariants as reply
 use Rattle.sheets_json.specs.Written.{put_given, put_true, list_data, text_data}
-use Rattle.sheets_json.specs.Spreadsheets.{area_data, grid_properties_data, place_members, properties_data, sheet_data, spreadsheet_data, reply_data}
+use Rattle.named_ranges.specs.declared.range.NamedRange.{NamedRange}
+use Rattle.sheets_json.specs.Spreadsheets.{area_data, named_range_data, title_data, grid_properties_data, place_members, properties_data, sheet_data, spreadsheet_data, reply_data}
 use Rattle.sheets_json.specs.Answers.{dimension_data, cell_data, range_data, update_data, append_data, answer_data}
 use Rattle.sheets_json.specs.Refusals.{refusal_data}
 
@@ -114,15 +115,33 @@ merges_whole (Some areas) properties =
 sheet_whole : (sheet : ShownSheet) → has_float (sheet_data sheet) ≡ false
 sheet_whole sheet = merges_whole sheet.merges sheet.properties
 
+named_whole : (named : NamedRange) → has_float (named_range_data named) ≡ false
+named_whole named = or_false (has_float (area_data named.area)) false (area_whole named.area) refl
+
+sheets_whole : (sheets : List ShownSheet) → any_float sheet_data sheets || false ≡ false
+sheets_whole sheets = or_false (any_float sheet_data sheets) false (list_whole sheet_data sheet_whole sheets) refl
+
+-- a spreadsheet, whether it has named ranges or not
+names_whole : (names : Option (List NamedRange)) (title : List ℕ) (sheets : List ShownSheet) (id : List ℕ)
+    → members_have_float (put_given (codes "namedRanges") (list_data named_range_data) names
+    (put (codes "properties") (title_data title) (put (codes "sheets") (list_data sheet_data sheets)
+    (put (codes "spreadsheetId") (text_data id) no_members)))) ≡ false
+names_whole None title sheets id = sheets_whole sheets
+names_whole (Some names) title sheets id =
+    or_false (any_float named_range_data names) (any_float sheet_data sheets || false)
+    (list_whole named_range_data named_whole names) (sheets_whole sheets)
+
 spreadsheet_whole : (spreadsheet : Spreadsheet) → has_float (spreadsheet_data spreadsheet) ≡ false
-spreadsheet_whole spreadsheet =
-    or_false (any_float sheet_data spreadsheet.sheets) false (list_whole sheet_data sheet_whole spreadsheet.sheets) refl
+spreadsheet_whole spreadsheet = names_whole spreadsheet.named_ranges spreadsheet.title spreadsheet.sheets spreadsheet.spreadsheet_id
 
 reply_whole : (replied : Reply) → has_float (reply_data replied) ≡ false
 reply_whole reply.Empty = refl
 reply_whole (reply.AddSheet properties) =
     or_false (has_float (properties_data properties) || false) false
     (or_false (has_float (properties_data properties)) false (properties_whole properties) refl) refl
+reply_whole (reply.AddNamedRange named) =
+    or_false (has_float (named_range_data named) || false) false
+    (or_false (has_float (named_range_data named)) false (named_whole named) refl) refl
 
 pub answer_whole : (given : Answer) → has_float (answer_data given) ≡ false
 answer_whole (answer.Create spreadsheet) = spreadsheet_whole spreadsheet

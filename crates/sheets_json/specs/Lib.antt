@@ -17,5 +17,8 @@ pub mod SheetUpdates
 pub mod Areas
 pub mod Cells
 pub mod Dimensions
+pub mod Merges
+pub mod NamedRanges
 pub mod Requests
 pub mod Creations
+pub mod Laws

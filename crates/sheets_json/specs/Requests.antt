@@ -19,6 +19,8 @@ use Rattle.sheets_json.specs.Sheets.{add_sheet, delete_sheet}
 use Rattle.sheets_json.specs.SheetUpdates.{update_sheet_properties}
 use Rattle.sheets_json.specs.Cells.{update_cells, append_cells}
 use Rattle.sheets_json.specs.Dimensions.{insert_dimension, delete_dimension, append_dimension, move_dimension}
+use Rattle.sheets_json.specs.Merges.{merge_cells, unmerge_cells}
+use Rattle.sheets_json.specs.NamedRanges.{add_named_range, update_named_range, delete_named_range}
 
 -- ---- kinds
 
@@ -33,6 +35,11 @@ kind_named name =
     else if bytes_eq name (codes "deleteDimension") then Some kind.DeleteDimension
     else if bytes_eq name (codes "appendDimension") then Some kind.AppendDimension
     else if bytes_eq name (codes "moveDimension") then Some kind.MoveDimension
+    else if bytes_eq name (codes "mergeCells") then Some kind.MergeCells
+    else if bytes_eq name (codes "unmergeCells") then Some kind.UnmergeCells
+    else if bytes_eq name (codes "addNamedRange") then Some kind.AddNamedRange
+    else if bytes_eq name (codes "updateNamedRange") then Some kind.UpdateNamedRange
+    else if bytes_eq name (codes "deleteNamedRange") then Some kind.DeleteNamedRange
     else None
 
 abbrev pub of_kind : RequestKind → Shape Request
@@ -45,6 +52,11 @@ of_kind kind.InsertDimension = object_of insert_dimension
 of_kind kind.DeleteDimension = object_of delete_dimension
 of_kind kind.AppendDimension = object_of append_dimension
 of_kind kind.MoveDimension = object_of move_dimension
+of_kind kind.MergeCells = object_of merge_cells
+of_kind kind.UnmergeCells = object_of unmerge_cells
+of_kind kind.AddNamedRange = object_of add_named_range
+of_kind kind.UpdateNamedRange = object_of update_named_range
+of_kind kind.DeleteNamedRange = object_of delete_named_range
 
 -- another kind is judged by nothing but that its value is an object
 abbrev pub of_no_kind : Shape Request

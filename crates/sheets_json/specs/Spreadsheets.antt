@@ -1,10 +1,11 @@
--- Spreadsheets as JSON values (Google Sheets API v4 reference, Spreadsheet, Sheet, SheetProperties and GridRange),
--- and the responses of spreadsheets.batchUpdate. Members are put into an object in the order of their names.
+-- Spreadsheets as JSON values (Google Sheets API v4 reference, Spreadsheet, Sheet, SheetProperties, NamedRange and
+-- GridRange), and the responses of spreadsheets.batchUpdate. Members are put into an object in the order of their names.
 use Rattle.std.specs.Prelude.{ℕ, List, codes, Option, None, Some}
 use Rattle.serde_json.specs.Data.{Data, object, Members, no_members, put}
 use Rattle.grid_range.specs.declared.band.Band.{Band}
 use Rattle.grid_range.specs.declared.band.Band.TheVariants.{Whole, From, Span}
 use Rattle.grid_range.specs.declared.area.Area.{Area}
+use Rattle.named_ranges.specs.declared.range.NamedRange.{NamedRange}
 use Rattle.sheets_json.specs.declared.spreadsheet.ShownProperties.{ShownProperties}
 use Rattle.sheets_json.specs.declared.spreadsheet.ShownSheet.{ShownSheet}
 use Rattle.sheets_json.specs.declared.spreadsheet.Spreadsheet.{Spreadsheet}
@@ -33,6 +34,12 @@ area_data area = object (
     put (codes "sheetId") (count_data area.sheet) (
     put_given (codes "startColumnIndex") count_data (start_of area.cols) (
     put_given (codes "startRowIndex") count_data (start_of area.rows) no_members)))))
+
+abbrev pub named_range_data : NamedRange → Data
+named_range_data named = object (
+    put (codes "name") (text_data named.name) (
+    put (codes "namedRangeId") (text_data named.id) (
+    put (codes "range") (area_data named.area) no_members)))
 
 -- ---- sheets
 
@@ -67,9 +74,10 @@ title_data title = object (put (codes "title") (text_data title) no_members)
 
 abbrev pub spreadsheet_data : Spreadsheet → Data
 spreadsheet_data spreadsheet = object (
+    put_given (codes "namedRanges") (list_data named_range_data) spreadsheet.named_ranges (
     put (codes "properties") (title_data spreadsheet.title) (
     put (codes "sheets") (list_data sheet_data spreadsheet.sheets) (
-    put (codes "spreadsheetId") (text_data spreadsheet.spreadsheet_id) no_members)))
+    put (codes "spreadsheetId") (text_data spreadsheet.spreadsheet_id) no_members))))
 
 -- ---- replies
 
@@ -81,6 +89,8 @@ abbrev pub reply_data : Reply → Data
 reply_data reply.Empty = object no_members
 reply_data (reply.AddSheet properties) =
     reply_object (codes "addSheet") (codes "properties") (properties_data properties)
+reply_data (reply.AddNamedRange named) =
+    reply_object (codes "addNamedRange") (codes "namedRange") (named_range_data named)
 
 abbrev pub batch_data : List Reply → List ℕ → Data
 batch_data replies id = object (

@@ -14,6 +14,8 @@ use crate::fault::{Read, both};
 use crate::kind::{RequestKind, kind_named};
 use crate::list::ListOf;
 use crate::members::{ObjectOf, are_null, is_null, optional, required};
+use crate::merge::{MergeCellsMembers, UnmergeCellsMembers};
+use crate::named_range::{AddNamedRangeMembers, DeleteNamedRangeMembers, UpdateNamedRangeMembers};
 use crate::shape::{Fields, Shape};
 use crate::sheet::{AddSheetMembers, DeleteSheetMembers};
 use crate::sheet_update::UpdateSheetPropertiesMembers;
@@ -136,6 +138,11 @@ fn read_kind(alloc: Global, kind: RequestKind, value: Json) -> Result<Read<Reque
         RequestKind::DeleteDimension => ObjectOf(DeleteDimensionMembers).read(alloc, value),
         RequestKind::AppendDimension => ObjectOf(AppendDimensionMembers).read(alloc, value),
         RequestKind::MoveDimension => ObjectOf(MoveDimensionMembers).read(alloc, value),
+        RequestKind::MergeCells => ObjectOf(MergeCellsMembers).read(alloc, value),
+        RequestKind::UnmergeCells => ObjectOf(UnmergeCellsMembers).read(alloc, value),
+        RequestKind::AddNamedRange => ObjectOf(AddNamedRangeMembers).read(alloc, value),
+        RequestKind::UpdateNamedRange => ObjectOf(UpdateNamedRangeMembers).read(alloc, value),
+        RequestKind::DeleteNamedRange => ObjectOf(DeleteNamedRangeMembers).read(alloc, value),
     }
 }
 

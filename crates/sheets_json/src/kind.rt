@@ -13,6 +13,11 @@ pub(crate) enum RequestKind {
     DeleteDimension,
     AppendDimension,
     MoveDimension,
+    MergeCells,
+    UnmergeCells,
+    AddNamedRange,
+    UpdateNamedRange,
+    DeleteNamedRange,
 }
 
 /// The kind of that name.
@@ -29,6 +34,11 @@ pub(crate) fn kind_named(name: &str) -> Option<RequestKind>
         "deleteDimension" => Some(RequestKind::DeleteDimension),
         "appendDimension" => Some(RequestKind::AppendDimension),
         "moveDimension" => Some(RequestKind::MoveDimension),
+        "mergeCells" => Some(RequestKind::MergeCells),
+        "unmergeCells" => Some(RequestKind::UnmergeCells),
+        "addNamedRange" => Some(RequestKind::AddNamedRange),
+        "updateNamedRange" => Some(RequestKind::UpdateNamedRange),
+        "deleteNamedRange" => Some(RequestKind::DeleteNamedRange),
         _ => None,
     }
 }

@@ -13,9 +13,12 @@ mod creation;
 mod dimension;
 mod fault;
 mod kind;
+mod laws;
 mod list;
 mod mask;
 mod members;
+mod merge;
+mod named_range;
 mod place;
 mod reading;
 mod request;
@@ -34,8 +37,11 @@ mod writing;
 pub use answer::{Answer, ShownRange, Update};
 pub use call::{Call, CallFault, InsertData, NewSpreadsheet, RangeBlock, ValueRange};
 pub use fault::ShapeFault;
+pub use laws::{areas_are_read_again, named_ranges_are_read_again};
 pub use place::Place;
 pub use reading::read_call;
-pub use request::{DimensionRange, GridCoordinate, Request, Step, UpdatedArea};
+pub use request::{
+    DimensionRange, GridCoordinate, MergeType, NewNamedRange, Request, Step, UpdatedArea,
+};
 pub use spreadsheet::{Reply, ShownProperties, ShownSheet, Spreadsheet};
 pub use writing::{answer_text, refusal_text};

@@ -1,5 +1,5 @@
 use crate::ShapeFault;
-use cell_value::{Block, SheetProperties};
+use cell_value::{Block, SheetProperties, Text};
 use grid_range::{Area, Axis};
 
 /// A change that a batch asks for (Google Sheets API v4 reference, Request).
@@ -65,6 +65,37 @@ pub enum Request {
         /// The line before which they are moved, counted before they are taken away.
         destination_index: u32,
     },
+    /// MergeCellsRequest
+    MergeCells {
+        /// The cells.
+        range: Area,
+        /// Which of them become one.
+        merge_type: MergeType,
+    },
+    /// UnmergeCellsRequest
+    UnmergeCells {
+        /// The cells.
+        range: Area,
+    },
+    /// AddNamedRangeRequest
+    AddNamedRange {
+        /// What is asked of the named range.
+        named_range: NewNamedRange,
+    },
+    /// UpdateNamedRangeRequest
+    UpdateNamedRange {
+        /// The named range's id.
+        named_range_id: Text,
+        /// The new name, if the mask takes one.
+        name: Option<Text>,
+        /// The cells that it names from now on, if the mask takes them.
+        range: Option<Area>,
+    },
+    /// DeleteNamedRangeRequest
+    DeleteNamedRange {
+        /// The named range's id.
+        named_range_id: Text,
+    },
 }
 
 /// Where the rows of an update are written (Sheets API v4 reference, UpdateCellsRequest).
@@ -98,6 +129,28 @@ pub struct DimensionRange {
     pub start_index: u32,
     /// The line behind the last; the number of lines where it isn't given.
     pub end_index: Option<u32>,
+}
+
+/// How cells are merged (Sheets API v4 reference, MergeType).
+#[derive(Clone, Copy, Debug, PartialEq, Eq)]
+pub enum MergeType {
+    /// `MERGE_ALL`: all of them are one.
+    All,
+    /// `MERGE_COLUMNS`: those of each column are one.
+    Columns,
+    /// `MERGE_ROWS`: those of each row are one.
+    Rows,
+}
+
+/// What is asked of a new named range (Sheets API v4 reference, NamedRange).
+#[derive(Debug, Drop)]
+pub struct NewNamedRange {
+    /// The id, if one is given: 1 to 100 ASCII letters, digits, `_` and `-`.
+    pub named_range_id: Option<Text>,
+    /// The name.
+    pub name: Text,
+    /// The cells that it names.
+    pub range: Area,
 }
 
 /// A request of a batch as it was read. Its fault is told in its turn.

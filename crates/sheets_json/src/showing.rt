@@ -2,12 +2,13 @@ ghost use Rattle.std.specs.Prelude.{◌≡◌, IfOk};
 ghost use Rattle.serde_json.specs.Data.{put};
 ghost use Rattle.serde_json.specs.View.{view, members_view};
 ghost use Rattle.sheets_json.specs.Written.{put_true};
-ghost use Rattle.sheets_json.specs.Spreadsheets.{start_of, end_of, area_data, grid_properties_data, place_members, properties_data, sheet_data, title_data, spreadsheet_data, reply_object, reply_data, batch_data};
+ghost use Rattle.sheets_json.specs.Spreadsheets.{start_of, end_of, area_data, named_range_data, grid_properties_data, place_members, properties_data, sheet_data, title_data, spreadsheet_data, reply_object, reply_data, batch_data};
 
 use crate::writing::{Written, text_json, with, with_given};
 use crate::{Reply, ShownProperties, ShownSheet, Spreadsheet};
 use cell_value::{Items, NoMemory, Text};
 use grid_range::{Area, Band};
+use named_ranges::NamedRange;
 use serde_json::{Map, Value as Json, put};
 use std::alloc::Global;
 
@@ -43,6 +44,17 @@ impl Written for Area {
         let members = with(alloc, members, "sheetId", &self.sheet)?;
         let members = with_given(alloc, members, "endRowIndex", &end_of(self.rows))?;
         let members = with_given(alloc, members, "endColumnIndex", &end_of(self.cols))?;
+        Ok(Json::Object(members))
+    }
+}
+
+impl Written for NamedRange {
+    ghost json_data = { named_range_data };
+
+    fn to_json(&self, alloc: Global) -> Result<Json, NoMemory> {
+        let members = with(alloc, Map::new(alloc), "range", &self.area)?;
+        let members = with(alloc, members, "namedRangeId", &self.id)?;
+        let members = with(alloc, members, "name", &self.name)?;
         Ok(Json::Object(members))
     }
 }
@@ -141,6 +153,7 @@ impl Written for Spreadsheet {
         )?;
         let members = with(alloc, members, "sheets", &self.sheets)?;
         let members = with_json(alloc, members, "properties", title)?;
+        let members = with_given(alloc, members, "namedRanges", &self.named_ranges)?;
         Ok(Json::Object(members))
     }
 }
@@ -163,6 +176,10 @@ impl Written for Reply {
             Reply::AddSheet { properties } => {
                 let properties = properties.to_json(alloc)?;
                 reply_object(alloc, "addSheet", "properties", properties)
+            }
+            Reply::AddNamedRange { named_range } => {
+                let named_range = named_range.to_json(alloc)?;
+                reply_object(alloc, "addNamedRange", "namedRange", named_range)
             }
         }
     }

@@ -1,9 +1,12 @@
 use cell_value::{Items, Text};
 use grid_range::Area;
+use named_ranges::NamedRange;
 
 /// A spreadsheet as it is shown (Google Sheets API v4 reference, Spreadsheet).
 #[derive(Debug, Drop)]
 pub struct Spreadsheet {
+    /// Its named ranges, in order of creation, if there are some.
+    pub named_ranges: Option<Items<NamedRange>>,
     /// Its title.
     pub title: Text,
     /// Its sheets, in order.
@@ -47,5 +50,10 @@ pub enum Reply {
     AddSheet {
         /// The new sheet.
         properties: ShownProperties,
+    },
+    /// AddNamedRangeResponse
+    AddNamedRange {
+        /// The new named range.
+        named_range: NamedRange,
     },
 }
