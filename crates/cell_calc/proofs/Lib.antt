@@ -2,3 +2,8 @@ pub mod WholeTexts
 pub mod OneMore
 pub mod Taking
 pub mod AllGood
+pub mod Finding
+pub mod Endless
+pub mod LookUps
+pub mod Listed
+pub mod Many

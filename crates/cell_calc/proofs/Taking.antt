@@ -68,7 +68,7 @@ all_taken_given taking (a ∷ more) (g ∷ gs) stand =
     ∙ ap (λ l. values_taken (is_taken taking) g ++ l) (all_taken_given taking more gs stand.1)
 
 -- the errors of arguments are those of what they stand for
-error_is : (argument : Argument) (given : Given) → StandsFor argument given → error_lent argument ≡ error_given given
+pub error_is : (argument : Argument) (given : Given) → StandsFor argument given → error_lent argument ≡ error_given given
 error_is (Single value) given stands = ap error_given (sym stands)
 error_is (Area lent) given (cells, stands, are) = ap error_given (sym stands)
 

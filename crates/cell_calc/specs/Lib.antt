@@ -7,5 +7,12 @@ pub mod LogicFunctions
 pub mod TextFunctions
 pub mod Arguments
 pub mod GatheringFunctions
+pub mod LookUpFunctions
 pub mod Lent
 pub mod Taken
+pub mod Found
+pub mod FunctionNames
+pub mod FunctionValues
+pub mod Book
+pub mod FormulaValue
+pub mod CellValue

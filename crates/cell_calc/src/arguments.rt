@@ -1,4 +1,8 @@
-use cell_value::Value;
+ghost use Rattle.std.specs.Prelude.{◌≡◌};
+ghost use Rattle.cell_calc.specs.Taken.{error_lent};
+
+use crate::conversion::error_in;
+use cell_value::{Kind, Value};
 
 /// What a function is given.
 #[derive(Debug, Drop)]
@@ -27,4 +31,14 @@ pub struct FilledCell<'a> {
     pub place: u64,
     /// Its value, which isn't blank.
     pub value: &'a Value,
+}
+
+/// The error that the argument is; an area is none.
+pub(crate) fn error_lent(argument: &Argument) -> Option<Kind>
+    ensures { result ≡ error_lent argument.now }
+{
+    match argument {
+        Argument::Single(value) => error_in(value),
+        Argument::Area(_) => None,
+    }
 }

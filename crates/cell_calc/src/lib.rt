@@ -6,13 +6,17 @@ mod arithmetic;
 mod comparison;
 mod conversion;
 mod functions;
+mod laws;
 mod operators;
 mod outcome;
 
 pub use arguments::{AreaCells, Argument, FilledCell};
 pub use functions::{
-    absolute, all_value, any_value, chosen, count_all_value, count_value, greatest_value, is_blank,
-    is_error, is_number, is_text, joined_value, least_value, left_part, middle_part, modulo,
-    negated, right_part, same_text, sign, sum_value, text_length, unless_it_fails, whole_quotient,
+    Function, absolute, all_value, any_value, called_value, chosen, column_count, count_all_value,
+    count_value, function_named, function_value, greatest_value, indexed_value, is_blank, is_error,
+    is_number, is_text, joined_value, least_value, left_part, matched_place, matches_counted,
+    matches_summed, middle_part, modulo, negated, right_part, row_count, same_text, sign,
+    sum_value, text_length, unless_it_fails, whole_quotient,
 };
+pub use laws::counts_are_bounds;
 pub use operators::{negation, operation};

@@ -8,15 +8,15 @@ ghost use Rattle.cell_calc.specs.Lent.{StandFor};
 ghost use Rattle.cell_calc.specs.GatheringFunctions.{gathered, all_good, best_of, truth_by, sum_value, least_value, greatest_value, all_value, any_value, joined_value, count_value, count_all_value};
 ghost use Rattle.cell_calc.specs.Taken.{is_taken, cell_taken, taken_of, values_of, all_taken, error_lent};
 
-use crate::arguments::{Argument, FilledCell};
-use crate::conversion::{error_in, number_of, text_of, truth_of};
+use crate::arguments::{Argument, FilledCell, error_lent};
+use crate::conversion::{number_of, text_of, truth_of};
 use crate::outcome::{text_within, whole};
 use cell_value::{Items, Kind, NoMemory, Text, Value};
 use std::alloc::Global;
 
 /// Which cells of an area a function takes.
 #[derive(Clone, Copy, Debug, PartialEq, Eq)]
-enum Taking {
+pub(super) enum Taking {
     /// Numbers.
     Numbers,
     /// Numbers and errors.
@@ -29,7 +29,7 @@ enum Taking {
 
 impl Taking {
     /// Whether the cell is taken.
-    fn takes(self, value: &Value) -> bool
+    pub(super) fn takes(self, value: &Value) -> bool
         ensures { result ≡ is_taken self value.now }
     {
         match self {
@@ -151,7 +151,7 @@ pub fn count_all_value(alloc: Global, arguments: &[Argument]) -> Result<Value, N
 }
 
 /// What a function takes values as.
-trait Reading {
+pub(super) trait Reading {
     ghost use Rattle.std.specs.Prelude.{Result};
     ghost use Rattle.cell_value.specs.declared.cell.Kind.{Kind};
     ghost use Rattle.cell_value.specs.declared.cell.Value.{Value};
@@ -222,7 +222,7 @@ fn read_taken<T: Reading + Drop>(
 }
 
 /// What the values are, or the leftmost error.
-fn all_read<T: Reading + Drop>(
+pub(super) fn all_read<T: Reading + Drop>(
     alloc: Global,
     values: &[&Value],
 ) -> Result<Result<Items<T>, Kind>, NoMemory>
@@ -250,17 +250,7 @@ fn error_among(arguments: &[Argument]) -> Option<Kind>
     None
 }
 
-/// The error that the argument is; an area is none.
-fn error_lent(argument: &Argument) -> Option<Kind>
-    ensures { result ≡ error_lent argument.now }
-{
-    match argument {
-        Argument::Single(value) => error_in(value),
-        Argument::Area(_) => None,
-    }
-}
-
-fn sum_of(numbers: Result<Items<i64>, Kind>) -> Value
+pub(super) fn sum_of(numbers: Result<Items<i64>, Kind>) -> Value
     ensures { result ≡ value_by (λ numbers. whole (fold ◌+ℤ◌ (pos 0) numbers)) numbers }
 {
     match numbers {

@@ -24,7 +24,8 @@ pub fn chosen(condition: &Value, one: &Value, other: &Value) -> Result<Value, No
     ensures { IfOk result (λ value. value ≡ chosen condition.now one.now other.now) }
 {
     match truth_of(condition) {
-        Ok(truth) => copy_of(if truth { one } else { other }),
+        Ok(true) => one.duplicate(),
+        Ok(false) => other.duplicate(),
         Err(fault) => Ok(Value::Error(fault)),
     }
 }
@@ -38,8 +39,8 @@ pub fn unless_it_fails(value: &Value, other: &Value) -> Result<Value, NoMemory>
     ensures { IfOk result (λ kept. kept ≡ unless_it_fails value.now other.now) }
 {
     match error_in(value) {
-        Some(_) => copy_of(other),
-        None => copy_of(value),
+        Some(_) => other.duplicate(),
+        None => value.duplicate(),
     }
 }
 
@@ -69,17 +70,4 @@ pub fn is_error(value: &Value) -> bool
     ensures { result ≡ is_error value.now }
 {
     error_in(value).is_some()
-}
-
-/// A copy of the value.
-fn copy_of(value: &Value) -> Result<Value, NoMemory>
-    ensures { IfOk result (λ copy. copy ≡ value.now) }
-{
-    match value {
-        Value::Blank => Ok(Value::Blank),
-        Value::Number(number) => Ok(Value::Number(*number)),
-        Value::Text(text) => Ok(Value::Text(text.duplicate()?)),
-        Value::Truth(truth) => Ok(Value::Truth(*truth)),
-        Value::Error(fault) => Ok(Value::Error(*fault)),
-    }
 }

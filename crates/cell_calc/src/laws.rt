@@ -1,0 +1,10 @@
+//! Laws of the values of cells, as functions that do nothing, whose contracts are the laws.
+
+ghost use Rattle.cell_calc.specs.CellValue.{CountsAreBounds};
+
+/// What is the value in a place by walks without an end, and else by any recursion that is deeper than each walk
+/// from there is long, is so where lengths and depth are the number of the spreadsheet's formulas.
+#[tactic(auto, using(crate::proofs::Endless::counts_are_bounds))]
+pub fn counts_are_bounds()
+    ensures { CountsAreBounds }
+{}
