@@ -16,9 +16,8 @@ use Rattle.world_model.specs.Updating.{Updates, book_updated, sheet_updated, upd
 use Rattle.world_model.specs.World.{HasNamesBelow, WorldStandsFor, world_replaced}
 use Rattle.dimension_ops.specs.ByName.{ReplacesByName}
 use Rattle.dimension_ops.specs.World.{book_with}
-use Rattle.values_api.specs.Updates.{AreUpdated}
-use Rattle.batch_engine.specs.Effects.{Becomes, name_book_with}
-use Rattle.batch_engine.specs.Effects.Effect.{Update}
+use Rattle.batch_engine.specs.Effects.{AreChanged, Becomes, Change, book_after, book_changed, name_book_with}
+use Rattle.batch_engine.specs.Effects.Effect.{Changes}
 
 -- ---- what is found by its id
 
@@ -102,19 +101,25 @@ names_below_after next sheet updates names below =
     All-map (AreBelow next) (sheet_updated (orders_of names.sheets) sheet updates) names.sheets
     (λ k d there. sheet_below next sheet (orders_of names.sheets) updates _ (below k d there))
 
+changed_below : (next : ℕ) (changes : List Change) (names : NameBook) → HasNamesBelow next names
+    → HasNamesBelow next (book_changed changes names)
+changed_below next [] names below = below
+changed_below next (change ∷ later) names below =
+    changed_below next later (book_after names change) (names_below_after next change.sheet change.updates names below)
+
 -- ---- the world after a call
 
-pub becomes_updated : (id : List ℕ) (sheet : ℕ) (updates : Updates) (books next : List PlaceBook)
-    (before after : PlaceBook) → book_with id books ≡ Some before → AreUpdated sheet updates before after
-    → ReplacesByName after books next → Becomes (Update id sheet updates) books next
-becomes_updated id sheet updates books next before after found updated replaced = record {
+pub becomes_changed : (id : List ℕ) (changes : List Change) (books next : List PlaceBook) (before after : PlaceBook)
+    → book_with id books ≡ Some before → AreChanged changes before after → ReplacesByName after books next
+    → Becomes (Changes id changes) books next
+becomes_changed id changes books next before after found changed replaced = record {
   names = λ world stands.
       let meant = found_by_name id world.next books world.books before stands.each stands.called found in
       subst
       (λ one. WorldStandsFor next (option_map_or
-      (λ (book : NameBook). world_replaced (book_updated sheet updates book) world.next world) one world))
+      (λ (book : NameBook). world_replaced (book_changed changes book) world.next world) one world))
       (sym meant.is)
-      (replaced.replaced world (book_updated sheet updates meant.names) world.next stands
-      (updated.names meant.names meant.stands) (names_below_after world.next sheet updates meant.names meant.below)
+      (replaced.replaced world (book_changed changes meant.names) world.next stands
+      (changed.names meant.names meant.stands) (changed_below world.next changes meant.names meant.below)
       (omega arith));
 }

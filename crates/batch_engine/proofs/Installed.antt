@@ -3,7 +3,6 @@ use Rattle.std.proofs.Common.{◌≡◌, ℕ, refl, sym, subst, ◌∙◌, List}
 use Rattle.std.specs.Prelude.{Option, Some, None, IsSomeAnd, IfOk, Result, Ok, Err}
 use Rattle.std.specs.Option.{IsSome}
 use Rattle.world_model.specs.Book.{PlaceBook}
-use Rattle.world_model.specs.Updating.{Updates}
 use Rattle.dimension_ops.specs.ByName.{ReplacesByName}
 use Rattle.dimension_ops.specs.Rules.{IsUnlessNoMemory}
 use Rattle.dimension_ops.specs.World.{book_with}
@@ -19,26 +18,28 @@ use Rattle.sheets_json.specs.Reading.{Reading}
 use Rattle.sheets_json.specs.declared.call.Call.{Call}
 use Rattle.sheets_json.specs.declared.call.Call.TheVariants as call
 use Rattle.sheets_json.specs.declared.call.ValueRange.{ValueRange}
-use Rattle.batch_engine.specs.Effects.{Effect, Becomes, IsNext}
-use Rattle.batch_engine.specs.Effects.Effect.{Nothing, Update}
-use Rattle.batch_engine.specs.Calls.{OnBook, IsAnswered, IsApplied, IsChange, IsClearOf, IsInstalled, IsWriteOf, as_told, told_as}
+use Rattle.batch_engine.specs.Effects.{Effect, Becomes, Change, IsNext}
+use Rattle.batch_engine.specs.Effects.Effect.{Nothing, Changes}
+use Rattle.sheets_json.specs.declared.place.Place.TheVariants as place
+use Rattle.batch_engine.specs.Calls.{OnBook, IsAlone, IsAnswered, IsApplied, IsChange, IsInstalled, Refusal, alone, as_told, told_as}
+use Rattle.batch_engine.specs.Calls.{IsClearOf, IsClearManyOf, IsReadOf, IsReadManyOf, IsWriteOf}
 use Rattle.batch_engine.specs.declared.calls.Outcome.{Outcome}
-use Rattle.batch_engine.proofs.Becoming.{found_has_id, becomes_updated}
+use Rattle.batch_engine.proofs.Becoming.{found_has_id, becomes_changed}
 use Rattle.batch_engine.proofs.Judged.{judged_so}
 
 -- what replaces the spreadsheet is there, and so are the spreadsheets after
-is_next : (books : List PlaceBook) (id : List ℕ) (sheet : ℕ) (updates : Updates) (after : PlaceBook)
+is_next : (books : List PlaceBook) (id : List ℕ) (changes : List Change) (after : PlaceBook)
     (next : Option (List PlaceBook))
-    → ((one : List PlaceBook) → ReplacesByName after books one → Becomes (Update id sheet updates) books one)
-    → IsSomeAnd next (ReplacesByName after books) → IsNext books (Update id sheet updates) next
-is_next books id sheet updates after None becomes replaced = absurd replaced
-is_next books id sheet updates after (Some one) becomes replaced = becomes one replaced
+    → ((one : List PlaceBook) → ReplacesByName after books one → Becomes (Changes id changes) books one)
+    → IsSomeAnd next (ReplacesByName after books) → IsNext books (Changes id changes) next
+is_next books id changes after None becomes replaced = absurd replaced
+is_next books id changes after (Some one) becomes replaced = becomes one replaced
 
 none_next : (books : List PlaceBook) (next : Option (List PlaceBook)) → next ≡ None → IsNext books Nothing next
 none_next books next is = subst (IsNext books Nothing) (sym is) tt
 
 -- a call that makes nothing of the spreadsheets
-pub applied_unchanged : (called : Call) (books : List PlaceBook) (told : Result Answer Rule) (outcome : Outcome)
+pub applied_unchanged : (called : Call) (books : List PlaceBook) (told : Result Answer Refusal) (outcome : Outcome)
     (next : Option (List PlaceBook)) → IsAnswered called books told Nothing → outcome ≡ told_as told → next ≡ None
     → IsApplied called books outcome next
 applied_unchanged called books told outcome next answered is none = record {
@@ -50,11 +51,11 @@ applied_unchanged called books told outcome next answered is none = record {
 }
 
 module _ (called : Call) (id : List ℕ) (books : List PlaceBook)
-    (Answered : PlaceBook → Result Answer Rule → Effect → Type 0)
-    (is_answered : (told : Result Answer Rule) (effect : Effect)
+    (Answered : PlaceBook → Result Answer Refusal → Effect → Type 0)
+    (is_answered : (told : Result Answer Refusal) (effect : Effect)
     → OnBook id books (λ book. Answered book told effect) → IsAnswered called books told effect)
     (book : PlaceBook) (found : book_with id books ≡ Some book) where
-  on_book : (told : Result Answer Rule) (effect : Effect) → Answered book told effect
+  on_book : (told : Result Answer Refusal) (effect : Effect) → Answered book told effect
       → IsAnswered called books told effect
   on_book told effect holds =
       is_answered told effect (subst (λ one. IsSomeAnd one (λ (b : PlaceBook). Answered b told effect)) (sym found) holds)
@@ -62,41 +63,50 @@ module _ (called : Call) (id : List ℕ) (books : List PlaceBook)
   own_id : book.id ≡ id
   own_id = found_has_id id books book found
 
-  pub change_there : (judged : Result (Answer × PlaceBook) Rule) → IsChange (Answered book) book judged
+  pub change_there : (judged : Result (Answer × PlaceBook) Refusal) → IsChange (Answered book) book judged
       → IfOk judged (λ done. IsSome (book_with done.1.id books))
   change_there (Ok (told, after)) change =
-      let (sheet, updates, answered, updated) = change in
-      subst (λ key. IsSome (book_with key books)) (sym (updated.places.id ∙ own_id)) (subst IsSome (sym found) refl)
+      let (changes, answered, changed) = change in
+      subst (λ key. IsSome (book_with key books)) (sym (changed.id ∙ own_id)) (subst IsSome (sym found) refl)
   change_there (Err broken) change = tt
 
-  pub applied_change : (judged : Result (Answer × PlaceBook) Rule) (outcome : Outcome) (next : Option (List PlaceBook))
+  pub applied_change : (judged : Result (Answer × PlaceBook) Refusal) (outcome : Outcome) (next : Option (List PlaceBook))
       → IsChange (Answered book) book judged → IsInstalled books judged outcome next
       → IsApplied called books outcome next
   applied_change (Ok (told, after)) outcome next change installed =
-      let (sheet, updates, answered, updated) = change in
+      let (changes, answered, changed) = change in
       record {
         judged = Ok told;
-        effect = Update book.id sheet updates;
-        answered = on_book (Ok told) (Update book.id sheet updates) answered;
+        effect = Changes book.id changes;
+        answered = on_book (Ok told) (Changes book.id changes) answered;
         told_is = installed.0;
         next_is =
-            is_next books book.id sheet updates after next
-            (λ one replaced. becomes_updated book.id sheet updates books one book after
-            (subst (λ key. book_with key books ≡ Some book) (sym own_id) found) updated replaced)
+            is_next books book.id changes after next
+            (λ one replaced. becomes_changed book.id changes books one book after
+            (subst (λ key. book_with key books ≡ Some book) (sym own_id) found) changed replaced)
             installed.1;
       }
-  applied_change (Err broken) outcome next change installed = record {
-    judged = Err broken;
+  applied_change (Err (at, broken)) outcome next change installed = record {
+    judged = Err (at, broken);
     effect = Nothing;
-    answered = on_book (Err broken) Nothing change;
+    answered = on_book (Err (at, broken)) Nothing change;
     told_is = installed.0;
     next_is = none_next books next installed.1;
   }
 
-  pub applied_read : (told : Result Answer Rule) (outcome : Outcome) (next : Option (List PlaceBook))
+  pub applied_read : (told : Result Answer Refusal) (outcome : Outcome) (next : Option (List PlaceBook))
       → Answered book told Nothing → outcome ≡ told_as told → next ≡ None → IsApplied called books outcome next
   applied_read told outcome next holds is none =
       applied_unchanged called books told outcome next (on_book told Nothing holds) is none
+
+-- a call without members
+alone_change : (Answered : Result Answer Rule → Effect → Type 0) (book : PlaceBook)
+    (judged : Result (Answer × PlaceBook) Rule) → IsChange Answered book judged
+    → IsChange (IsAlone Answered) book (alone judged)
+alone_change Answered book (Ok (told, after)) change =
+    let (changes, answered, changed) = change in
+    (changes, record { judged = Ok told; answered = answered; told_is = refl }, changed)
+alone_change Answered book (Err broken) change = record { judged = Err broken; answered = change; told_is = refl }
 
 -- what holds of a good result
 pub if_ok : {A E : Type 0} (P Q : A → Type 0) (result : Result A E) → ((value : A) → P value → Q value)
@@ -111,61 +121,120 @@ module _ (id range : List ℕ) (mode : Mode) (values : Reading ValueRange) (book
     (told : Result (Answer × PlaceBook) RuleOr) (judged : Result (Answer × PlaceBook) Rule)
     (change : IsUnlessNoMemory (IsChange (IsWriteOf range values book) book) told) (told_is : told ≡ as_told judged)
   where
-    write_change : IsChange (IsWriteOf range values book) book judged
-    write_change = judged_so (IsChange (IsWriteOf range values book) book) judged
-        (subst (IsUnlessNoMemory (IsChange (IsWriteOf range values book) book)) told_is change)
+    abbrev Writes : PlaceBook → Result Answer Refusal → Effect → Type 0
+    Writes one = IsAlone (IsWriteOf range values one)
 
-    write_answered : (answered : Result Answer Rule) (effect : Effect)
-        → OnBook id books (λ book. IsWriteOf range values book answered effect) → IsAnswered called books answered effect
+    write_change : IsChange (Writes book) book (alone judged)
+    write_change = alone_change (IsWriteOf range values book) book judged
+        (judged_so (IsChange (IsWriteOf range values book) book) judged
+        (subst (IsUnlessNoMemory (IsChange (IsWriteOf range values book) book)) told_is change))
+
+    write_answered : (answered : Result Answer Refusal) (effect : Effect)
+        → OnBook id books (λ book. Writes book answered effect) → IsAnswered called books answered effect
     write_answered answered effect holds =
         subst (λ one. IsAnswered one books answered effect) (sym called_is) holds
 
-    pub write_there : IfOk judged (λ done. IsSome (book_with done.1.id books))
-    write_there = change_there called id books (IsWriteOf range values) write_answered book found judged write_change
+    pub write_there : IfOk (alone judged) (λ done. IsSome (book_with done.1.id books))
+    write_there = change_there called id books Writes write_answered book found (alone judged) write_change
 
-    pub write_applied : (outcome : Outcome) (next : Option (List PlaceBook)) → IsInstalled books judged outcome next
+    pub write_applied : (outcome : Outcome) (next : Option (List PlaceBook)) → IsInstalled books (alone judged) outcome next
         → IsApplied called books outcome next
     write_applied outcome next installed =
-        applied_change called id books (IsWriteOf range values) write_answered book found judged outcome next write_change
-        installed
+        applied_change called id books Writes write_answered book found (alone judged) outcome next write_change installed
 
 module _ (id range : List ℕ) (books : List PlaceBook) (book : PlaceBook) (called : Call)
     (called_is : called ≡ call.Clear id range) (found : book_with id books ≡ Some book)
     (told : Result (Answer × PlaceBook) RuleOr) (judged : Result (Answer × PlaceBook) Rule)
     (change : IsUnlessNoMemory (IsChange (IsClearOf range book) book) told) (told_is : told ≡ as_told judged) where
-  clear_change : IsChange (IsClearOf range book) book judged
-  clear_change = judged_so (IsChange (IsClearOf range book) book) judged
-      (subst (IsUnlessNoMemory (IsChange (IsClearOf range book) book)) told_is change)
+  abbrev Clears : PlaceBook → Result Answer Refusal → Effect → Type 0
+  Clears one = IsAlone (IsClearOf range one)
 
-  clear_answered : (answered : Result Answer Rule) (effect : Effect)
-      → OnBook id books (λ book. IsClearOf range book answered effect) → IsAnswered called books answered effect
+  clear_change : IsChange (Clears book) book (alone judged)
+  clear_change = alone_change (IsClearOf range book) book judged
+      (judged_so (IsChange (IsClearOf range book) book) judged
+      (subst (IsUnlessNoMemory (IsChange (IsClearOf range book) book)) told_is change))
+
+  clear_answered : (answered : Result Answer Refusal) (effect : Effect)
+      → OnBook id books (λ book. Clears book answered effect) → IsAnswered called books answered effect
   clear_answered answered effect holds =
       subst (λ one. IsAnswered one books answered effect) (sym called_is) holds
 
-  pub clear_there : IfOk judged (λ done. IsSome (book_with done.1.id books))
-  clear_there = change_there called id books (IsClearOf range) clear_answered book found judged clear_change
+  pub clear_there : IfOk (alone judged) (λ done. IsSome (book_with done.1.id books))
+  clear_there = change_there called id books Clears clear_answered book found (alone judged) clear_change
 
-  pub clear_applied : (outcome : Outcome) (next : Option (List PlaceBook)) → IsInstalled books judged outcome next
+  pub clear_applied : (outcome : Outcome) (next : Option (List PlaceBook)) → IsInstalled books (alone judged) outcome next
       → IsApplied called books outcome next
   clear_applied outcome next installed =
-      applied_change called id books (IsClearOf range) clear_answered book found judged outcome next clear_change
-      installed
+      applied_change called id books Clears clear_answered book found (alone judged) outcome next clear_change installed
+
+module _ (id : List ℕ) (ranges : List (Reading (List ℕ))) (books : List PlaceBook) (book : PlaceBook) (called : Call)
+    (called_is : called ≡ call.ClearMany id ranges) (found : book_with id books ≡ Some book)
+    (judged : Result (Answer × PlaceBook) Refusal) (change : IsChange (IsClearManyOf ranges book) book judged) where
+  clears_answered : (answered : Result Answer Refusal) (effect : Effect)
+      → OnBook id books (λ book. IsClearManyOf ranges book answered effect) → IsAnswered called books answered effect
+  clears_answered answered effect holds =
+      subst (λ one. IsAnswered one books answered effect) (sym called_is) holds
+
+  pub clears_there : IfOk judged (λ done. IsSome (book_with done.1.id books))
+  clears_there = change_there called id books (IsClearManyOf ranges) clears_answered book found judged change
+
+  pub clears_applied : (outcome : Outcome) (next : Option (List PlaceBook)) → IsInstalled books judged outcome next
+      → IsApplied called books outcome next
+  clears_applied outcome next installed =
+      applied_change called id books (IsClearManyOf ranges) clears_answered book found judged outcome next change installed
+
+-- ---- reads
+
+pub read_judged : (range : List ℕ) (dimension : Option Axis) (render : Option Render) (book : PlaceBook)
+    (told : Result Answer RuleOr) (judged : Result Answer Rule)
+    → IsUnlessNoMemory (λ told. IsReadOf range dimension render book told Nothing) told → told ≡ as_told judged
+    → IsReadOf range dimension render book judged Nothing
+read_judged range dimension render book told judged is told_is =
+    judged_so (λ told. IsReadOf range dimension render book told Nothing) judged
+    (subst (IsUnlessNoMemory (λ told. IsReadOf range dimension render book told Nothing)) told_is is)
+
+module _ (books : List PlaceBook) (book : PlaceBook) (called : Call) (outcome : Outcome) (next : Option (List PlaceBook))
+    (none : next ≡ None) where
+  pub read_applied : (id range : List ℕ) (dimension : Option Axis) (render : Option Render)
+      → called ≡ call.Read id range dimension render → book_with id books ≡ Some book → (told : Result Answer Rule)
+      → IsReadOf range dimension render book told Nothing → outcome ≡ told_as (alone told)
+      → IsApplied called books outcome next
+  read_applied id range dimension render called_is found told holds is =
+      applied_read called id books (λ one. IsAlone (IsReadOf range dimension render one))
+      (λ answered effect on. subst (λ one. IsAnswered one books answered effect) (sym called_is) on) book found (alone told)
+      outcome next (record { judged = told; answered = holds; told_is = refl }) is none
+
+  pub read_many_applied : (id : List ℕ) (ranges : List (List ℕ)) (dimension : Option Axis) (render : Option Render)
+      → called ≡ call.ReadMany id ranges dimension render → book_with id books ≡ Some book
+      → (told : Result Answer Refusal) → IsReadManyOf ranges dimension render book told Nothing → outcome ≡ told_as told
+      → IsApplied called books outcome next
+  read_many_applied id ranges dimension render called_is found told holds is =
+      applied_unchanged called books told outcome next
+      (subst (λ one. IsAnswered one books told Nothing) (sym called_is)
+      (subst (λ one. IsSomeAnd one (λ (b : PlaceBook). IsReadManyOf ranges dimension render b told Nothing)) (sym found)
+      holds)) is none
 
 -- ---- a call that isn't done yet
 
 pub other_answered : (called : Call) (books : List PlaceBook)
     → ((id range : Text) (dimension : Option Axis) (render : Option Render) → called ≡ call.Read id range dimension render → ⊥)
     → ((id range : Text) (mode : Mode) (values : Reading ValueRange) → called ≡ call.Write id range mode values → ⊥)
-    → ((id range : Text) → called ≡ call.Clear id range → ⊥) → IsAnswered called books (Err rule.Unsupported) Nothing
-other_answered (call.Read id range dimension render) books no_read no_write no_clear =
+    → ((id range : Text) → called ≡ call.Clear id range → ⊥)
+    → ((id : Text) (ranges : List Text) (dimension : Option Axis) (render : Option Render)
+    → called ≡ call.ReadMany id ranges dimension render → ⊥)
+    → ((id : Text) (ranges : List (Reading Text)) → called ≡ call.ClearMany id ranges → ⊥)
+    → IsAnswered called books (Err (place.Alone, rule.Unsupported)) Nothing
+other_answered (call.Read id range dimension render) books no_read no_write no_clear no_list no_clears =
     absurd (no_read id range dimension render refl)
-other_answered (call.Write id range mode values) books no_read no_write no_clear =
+other_answered (call.Write id range mode values) books no_read no_write no_clear no_list no_clears =
     absurd (no_write id range mode values refl)
-other_answered (call.Clear id range) books no_read no_write no_clear = absurd (no_clear id range refl)
-other_answered (call.Create spreadsheet) books no_read no_write no_clear = (refl, refl)
-other_answered (call.Get id include) books no_read no_write no_clear = (refl, refl)
-other_answered (call.Batch id requests) books no_read no_write no_clear = (refl, refl)
-other_answered (call.Append id range mode insert values) books no_read no_write no_clear = (refl, refl)
-other_answered (call.ReadMany id ranges dimension render) books no_read no_write no_clear = (refl, refl)
-other_answered (call.WriteMany id mode blocks) books no_read no_write no_clear = (refl, refl)
-other_answered (call.ClearMany id ranges) books no_read no_write no_clear = (refl, refl)
+other_answered (call.Clear id range) books no_read no_write no_clear no_list no_clears = absurd (no_clear id range refl)
+other_answered (call.Create spreadsheet) books no_read no_write no_clear no_list no_clears = (refl, refl)
+other_answered (call.Get id include) books no_read no_write no_clear no_list no_clears = (refl, refl)
+other_answered (call.Batch id requests) books no_read no_write no_clear no_list no_clears = (refl, refl)
+other_answered (call.Append id range mode insert values) books no_read no_write no_clear no_list no_clears = (refl, refl)
+other_answered (call.ReadMany id ranges dimension render) books no_read no_write no_clear no_list no_clears =
+    absurd (no_list id ranges dimension render refl)
+other_answered (call.WriteMany id mode blocks) books no_read no_write no_clear no_list no_clears = (refl, refl)
+other_answered (call.ClearMany id ranges) books no_read no_write no_clear no_list no_clears =
+    absurd (no_clears id ranges refl)

@@ -2,5 +2,6 @@ pub mod Becoming
 pub mod Judged
 pub mod Ranged
 pub mod Installed
-pub mod SameLines
 pub mod Once
+pub mod Judging
+pub mod InTurns

@@ -1,5 +1,5 @@
 -- What is done on the cells of a range, or refused, from what each step says.
-use Rattle.std.proofs.Common.{◌≡◌, ℕ, refl, ap, subst, ◌∙◌, List}
+use Rattle.std.proofs.Common.{◌≡◌, ℕ, refl, ap, subst, ◌∙◌, List, [], ◌∷◌}
 use Rattle.std.specs.Prelude.{Option, Some, None, IsSomeAnd, IfSome, Result, Ok, Err}
 use Rattle.cell_value.specs.declared.cell.Cell.{Cell}
 use Rattle.cell_value.specs.declared.cell.Render.{Render}
@@ -8,11 +8,12 @@ use Rattle.grid_range.specs.declared.axis.Axis.{Axis}
 use Rattle.world_model.specs.Book.{PlaceBook}
 use Rattle.world_model.specs.Sheet.{PlaceSheet}
 use Rattle.world_model.specs.Sound.{place_sheet_with}
+use Rattle.world_model.specs.Updating.{Updates}
 use Rattle.dimension_ops.specs.Rules.{IsUnlessNoMemory}
 use Rattle.dimension_ops.specs.declared.rule.Rule.{Rule}
 use Rattle.dimension_ops.specs.declared.rule.RuleOr.{RuleOr}
 use Rattle.dimension_ops.specs.declared.rule.RuleOr.TheVariants as refusal
-use Rattle.values_api.specs.Blocks.{IsWrite, written}
+use Rattle.values_api.specs.Blocks.{IsWrite, contents_of}
 use Rattle.values_api.specs.Ranges.{FoundArea, Resolves, area_text}
 use Rattle.values_api.specs.Sheets.{formula_sheets}
 use Rattle.values_api.specs.Shown.{area_shown}
@@ -22,16 +23,24 @@ use Rattle.sheets_json.specs.declared.answer.Answer.{Answer}
 use Rattle.sheets_json.specs.declared.answer.Answer.TheVariants as answer
 use Rattle.sheets_json.specs.declared.answer.Update.{Update as UpdateAnswer}
 use Rattle.sheets_json.specs.declared.call.ValueRange.{ValueRange}
-use Rattle.batch_engine.specs.Effects.{Effect}
+use Rattle.batch_engine.specs.Effects.{AreChanged, Change, Effect}
 use Rattle.batch_engine.specs.Effects.Effect.{Nothing}
 use Rattle.batch_engine.specs.Ranges.{IsTarget}
 use Rattle.batch_engine.specs.Calls.{OnRange, done, refused, is_columns, axis_or_rows, render_or_formatted, unless_empty}
-use Rattle.batch_engine.specs.Calls.{update_of, IsReadOf, IsClearOf, IsWriteOf, IsChange}
+use Rattle.batch_engine.specs.Calls.{update_of, IsShown, IsClearOf, IsClearedTo, IsWriteOf, IsChange}
 
 -- the thing that is there
 pub some_and : {A : Type 0} (P : A → Type 0) (found : Option A) → IsSomeAnd found P → (x : A) × (found ≡ Some x) × P x
 some_and P None holds = absurd holds
 some_and P (Some x) holds = (x, refl, holds)
+
+-- one update is one change
+abbrev pub one_change : ℕ → Updates → List Change
+one_change sheet updates = record { sheet = sheet; updates = updates } ∷ []
+
+pub one_changed : (sheet : ℕ) (updates : Updates) (before after : PlaceBook) → AreUpdated sheet updates before after
+    → AreChanged (one_change sheet updates) before after
+one_changed sheet updates before after updated = record { id = updated.places.id; names = updated.names }
 
 -- a range that breaks a rule
 module _ (Found : Result FoundArea Rule → Type 0) (sheets : List PlaceSheet)
@@ -52,9 +61,8 @@ pub read_done : (range : List ℕ) (dimension : Option Axis) (render : Option Re
     → IfSome (place_sheet_with found.0.sheet book.sheets)
     (λ sheet. shown ≡ area_shown (formula_sheets book.sheets) found.0 (is_columns (axis_or_rows dimension))
     (render_or_formatted render) sheet)
-    → IsReadOf range dimension render book
-    (Ok (answer.Read (record { range = text; major_dimension = axis_or_rows dimension; values = unless_empty shown })))
-    Nothing
+    → IsShown dimension render book range
+    (Ok (record { range = text; major_dimension = axis_or_rows dimension; values = unless_empty shown }))
 read_done range dimension render book found text shown resolves text_of shown_if =
     let (sheet, is, text_is) = some_and (λ (sheet : PlaceSheet). text ≡ area_text sheet found.0)
     (place_sheet_with found.0.sheet book.sheets) text_of in
@@ -77,19 +85,35 @@ read_done range dimension render book found text shown resolves text_of shown_if
       refl,
     )
 
-pub clear_done : (range : List ℕ) (book after : PlaceBook) (found : FoundArea) (text : List ℕ)
+pub emptied_done : (range : List ℕ) (book after : PlaceBook) (found : FoundArea) (text : List ℕ)
     → Resolves range book.sheets (Ok found)
     → IsSomeAnd (place_sheet_with found.0.sheet book.sheets) (λ sheet. text ≡ area_text sheet found.0)
-    → AreUpdated found.0.sheet (cleared found.0) book after
-    → IsChange (IsClearOf range book) book (Ok (answer.Clear text book.id, after))
-clear_done range book after found text resolves text_of updated =
+    → AreUpdated found.0.sheet (cleared found.0) book after → IsClearedTo (Ok range) book after (Ok text)
+emptied_done range book after found text resolves text_of updated =
     let (sheet, is, text_is) = some_and (λ (sheet : PlaceSheet). text ≡ area_text sheet found.0)
     (place_sheet_with found.0.sheet book.sheets) text_of in (
-      found.0.sheet,
-      cleared found.0,
+      record { sheet = found.0.sheet; updates = cleared found.0 },
       done found sheet resolves is (ap (λ told. Ok (answer.Clear told book.id)) text_is, refl),
       updated,
     )
+
+pub emptied_refused : (range : List ℕ) (book after : PlaceBook) (fault : RuleOr)
+    → IsUnlessNoMemory (Resolves range book.sheets) (Err fault)
+    → IsUnlessNoMemory (IsClearedTo (Ok range) book after) (Err fault)
+emptied_refused range book after (refusal.Rule broken) is = refused broken is refl refl
+emptied_refused range book after refusal.NoMemory is = tt
+
+-- a range that was cleared in a copy
+pub clear_done : (range : List ℕ) (book after : PlaceBook) (text : List ℕ) → IsClearedTo (Ok range) book after (Ok text)
+    → IsChange (IsClearOf range book) book (Ok (answer.Clear text book.id, after))
+clear_done range book after text (change, clears, updated) =
+    (change ∷ [], clears, one_changed change.sheet change.updates book after updated)
+
+pub clear_refused : (range : List ℕ) (book after : PlaceBook) (fault : RuleOr)
+    → IsUnlessNoMemory (IsClearedTo (Ok range) book after) (Err fault)
+    → IsUnlessNoMemory (IsChange (IsClearOf range book) book) (Err fault)
+clear_refused range book after (refusal.Rule broken) is = is
+clear_refused range book after refusal.NoMemory is = tt
 
 module _ (range : List ℕ) (values : ValueRange) (book after : PlaceBook) (found : FoundArea)
     (target : IsTarget range values.range book.sheets (Ok found)) where
@@ -106,15 +130,14 @@ module _ (range : List ℕ) (values : ValueRange) (book after : PlaceBook) (foun
       let same = ap (λ (area : Area). place_sheet_with area.sheet book.sheets) writes.answered.1.area_is in
       let told_is : update ≡ update_of book sheet wrote =
       subst (λ one. IsSomeAnd one (λ (sheet : PlaceSheet). update ≡ update_of book sheet wrote)) (same ∙ is) told in (
-        found.0.sheet,
-        written found.1 found.0 values.block sheet,
+        one_change found.0.sheet (contents_of writes.entries),
         done found sheet target is (record {
           after = after;
           wrote = Ok wrote;
           writes = writes;
           tells = (ap (λ one. Ok (answer.Write one)) told_is, refl);
         }),
-        writes.updated,
+        one_changed found.0.sheet (contents_of writes.entries) book after writes.updated,
       )
 
   pub write_refused : (fault : RuleOr)

@@ -1,7 +1,7 @@
 -- What a call is answered, and what it makes of the spreadsheets (Google Sheets API v4 reference,
--- spreadsheets.values.get, spreadsheets.values.update and spreadsheets.values.clear).
+-- spreadsheets.values.get, batchGet, update, clear and batchClear).
 use Rattle.std.specs.Prelude.{◌≡◌, ℕ, Bool, true, false, List, [], ◌∷◌, length, Option, None, Some, unwrap_or, Result, Ok, Err}
-use Rattle.std.specs.Prelude.{MatchResult, IsSomeAnd, ⊤}
+use Rattle.std.specs.Prelude.{MatchResult, IfOk, IsSomeAnd, ⊤}
 use Rattle.std.specs.Option.{IsSome}
 use Rattle.grid_range.specs.declared.area.Area.{Area}
 use Rattle.grid_range.specs.declared.axis.Axis.{Axis}
@@ -18,7 +18,7 @@ use Rattle.dimension_ops.specs.declared.rule.Rule.{Rule}
 use Rattle.dimension_ops.specs.declared.rule.Rule.TheVariants as rule
 use Rattle.dimension_ops.specs.declared.rule.RuleOr.{RuleOr}
 use Rattle.dimension_ops.specs.declared.rule.RuleOr.TheVariants as refusal
-use Rattle.values_api.specs.Blocks.{IsWrite, written}
+use Rattle.values_api.specs.Blocks.{IsWrite, contents_of}
 use Rattle.values_api.specs.Ranges.{FoundArea, Resolves, area_text}
 use Rattle.values_api.specs.Sheets.{formula_sheets}
 use Rattle.values_api.specs.Shown.{area_shown}
@@ -35,8 +35,11 @@ use Rattle.sheets_json.specs.declared.call.ValueRange.{ValueRange}
 use Rattle.sheets_json.specs.Reading.{Reading}
 use Rattle.sheets_json.specs.declared.fault.ShapeFault.{ShapeFault}
 use Rattle.sheets_json.specs.declared.fault.ShapeFault.TheVariants as fault
-use Rattle.batch_engine.specs.Effects.{Effect, IsNext}
-use Rattle.batch_engine.specs.Effects.Effect.{Nothing, Update}
+use Rattle.sheets_json.specs.declared.place.Place.{Place}
+use Rattle.sheets_json.specs.declared.place.Place.TheVariants as place
+use Rattle.batch_engine.specs.Effects.{AreChanged, Change, Effect, IsNext, Update}
+use Rattle.batch_engine.specs.Effects.Effect.{Nothing, Changes}
+use Rattle.batch_engine.specs.Members.{InOrder, InTurn, Told}
 use Rattle.batch_engine.specs.Ranges.{IsTarget}
 use Rattle.batch_engine.specs.declared.calls.Outcome.{Outcome}
 use Rattle.batch_engine.specs.declared.calls.Outcome.TheVariants as outcome
@@ -50,6 +53,23 @@ pub data OnRange (Found : Result FoundArea Rule → Type 0) (sheets : List Place
       → OnRange Found sheets IsDone told effect
   refused : (broken : Rule) → Found (Err broken) → told ≡ Err broken → effect ≡ Nothing
       → OnRange Found sheets IsDone told effect
+
+-- ---- refusals
+
+-- where in a call a rule is broken, and which
+abbrev pub Refusal : Type 0
+Refusal = Place × Rule
+
+-- a rule that a call breaks which has no members
+abbrev pub alone : {A : Type 0} → Result A Rule → Result A Refusal
+alone (Ok told) = Ok told
+alone (Err broken) = Err (place.Alone, broken)
+
+pub record IsAlone (Answered : Result Answer Rule → Effect → Type 0) (told : Result Answer Refusal) (effect : Effect)
+    : Type 0 where
+  pub judged : Result Answer Rule
+  pub answered : Answered judged effect
+  pub told_is : told ≡ alone judged
 
 -- ---- reads
 
@@ -107,7 +127,7 @@ pub record IsUpdate (book : PlaceBook) (values : ValueRange) (found : FoundArea)
   pub writes : IsWrite found.1 found.0 values.block sheet book after wrote
   pub tells : MatchResult wrote
       (λ counts. (told ≡ Ok (answer.Write (update_of book sheet counts)))
-      × (effect ≡ Update book.id found.0.sheet (written found.1 found.0 values.block sheet)))
+      × (effect ≡ Update book.id found.0.sheet (contents_of writes.entries)))
       (λ broken. (told ≡ Err broken) × (effect ≡ Nothing))
 
 -- the rule that a shape breaks
@@ -129,36 +149,94 @@ IsReadOf range dimension render book = OnRange (Resolves range book.sheets) book
 abbrev pub IsClearOf : List ℕ → PlaceBook → Result Answer Rule → Effect → Type 0
 IsClearOf range book = OnRange (Resolves range book.sheets) book.sheets (IsClear book)
 
+-- what a read of a range shows, or the rule that it breaks
+abbrev pub as_read : Result ShownRange Rule → Result Answer Rule
+as_read (Ok shown) = Ok (answer.Read shown)
+as_read (Err broken) = Err broken
+
+abbrev pub IsShown : Option Axis → Option Render → PlaceBook → List ℕ → Result ShownRange Rule → Type 0
+IsShown dimension render book range shown = IsReadOf range dimension render book (as_read shown) Nothing
+
+abbrev pub all_read : PlaceBook → Told ShownRange → Result Answer Refusal
+all_read book (Ok shown) = Ok (answer.ReadMany book.id shown)
+all_read book (Err (at, broken)) = Err (place.Ranges at, broken)
+
+-- ranges are read one after another
+pub record IsReadManyOf (ranges : List (List ℕ)) (dimension : Option Axis) (render : Option Render) (book : PlaceBook)
+    (told : Result Answer Refusal) (effect : Effect) : Type 0 where
+  pub shown : Told ShownRange
+  pub each : InOrder (IsShown dimension render book) 0 ranges shown
+  pub told_is : told ≡ all_read book shown
+  pub nothing : effect ≡ Nothing
+
+-- what a clear of a range is answered and makes of the spreadsheet, or the rule that it breaks
+abbrev pub as_clear : PlaceBook → Result (List ℕ × Change) Rule → Result Answer Rule
+as_clear book (Ok (range, change)) = Ok (answer.Clear range book.id)
+as_clear book (Err broken) = Err broken
+
+abbrev pub effect_on : PlaceBook → Result (List ℕ × Change) Rule → Effect
+effect_on book (Ok (range, change)) = Changes book.id (change ∷ [])
+effect_on book (Err broken) = Nothing
+
+-- a text whose shape is broken is no range
+abbrev pub IsCleared : PlaceBook → Reading (List ℕ) → Result (List ℕ × Change) Rule → Type 0
+IsCleared book (Ok range) one = IsClearOf range book (as_clear book one) (effect_on book one)
+IsCleared book (Err shape) one = one ≡ Err (rule_of shape)
+
+abbrev pub all_cleared : PlaceBook → Told (List ℕ) → Result Answer Refusal
+all_cleared book (Ok ranges) = Ok (answer.ClearMany ranges book.id)
+all_cleared book (Err (at, broken)) = Err (place.Ranges at, broken)
+
+abbrev pub effect_of : PlaceBook → Told (List ℕ) → List Change → Effect
+effect_of book (Ok ranges) changes = Changes book.id changes
+effect_of book (Err refused_at) changes = Nothing
+
+-- ranges are cleared one after another, or none is
+pub record IsClearManyOf (ranges : List (Reading (List ℕ))) (book : PlaceBook) (told : Result Answer Refusal)
+    (effect : Effect) : Type 0 where
+  pub cleared_ranges : Told (List ℕ)
+  pub changes : List Change
+  pub each : InTurn IsCleared 0 ranges book cleared_ranges changes
+  pub told_is : told ≡ all_cleared book cleared_ranges
+  pub effect_is : effect ≡ effect_of book cleared_ranges changes
+
 -- values whose shape is broken are refused whatever the range is
 abbrev pub IsWriteOf : List ℕ → Reading ValueRange → PlaceBook → Result Answer Rule → Effect → Type 0
 IsWriteOf range (Ok values) book told effect =
     OnRange (IsTarget range values.range book.sheets) book.sheets (IsUpdate book values) told effect
 IsWriteOf range (Err shape) book told effect = (told ≡ Err (rule_of shape)) × (effect ≡ Nothing)
 
--- a call is answered so, or breaks that rule, and makes that of the spreadsheets; no other call is done yet
-abbrev pub IsAnswered : Call → List PlaceBook → Result Answer Rule → Effect → Type 0
+-- a call is answered so, or breaks that rule there, and makes that of the spreadsheets; no other call is done yet
+abbrev pub IsAnswered : Call → List PlaceBook → Result Answer Refusal → Effect → Type 0
 IsAnswered (call.Read id range dimension render) books told effect =
-    OnBook id books (λ book. IsReadOf range dimension render book told effect)
+    OnBook id books (λ book. IsAlone (IsReadOf range dimension render book) told effect)
 IsAnswered (call.Write id range mode values) books told effect =
-    OnBook id books (λ book. IsWriteOf range values book told effect)
-IsAnswered (call.Clear id range) books told effect = OnBook id books (λ book. IsClearOf range book told effect)
-IsAnswered _ books told effect = (told ≡ Err rule.Unsupported) × (effect ≡ Nothing)
+    OnBook id books (λ book. IsAlone (IsWriteOf range values book) told effect)
+IsAnswered (call.Clear id range) books told effect =
+    OnBook id books (λ book. IsAlone (IsClearOf range book) told effect)
+IsAnswered (call.ReadMany id ranges dimension render) books told effect =
+    OnBook id books (λ book. IsReadManyOf ranges dimension render book told effect)
+IsAnswered (call.ClearMany id ranges) books told effect =
+    OnBook id books (λ book. IsClearManyOf ranges book told effect)
+IsAnswered _ books told effect = (told ≡ Err (place.Alone, rule.Unsupported)) × (effect ≡ Nothing)
 
 -- the spreadsheet that a call is on is there
 abbrev pub HasItsBook : Call → List PlaceBook → Type 0
 HasItsBook (call.Read id range dimension render) books = IsSome (book_with id books)
 HasItsBook (call.Write id range mode values) books = IsSome (book_with id books)
 HasItsBook (call.Clear id range) books = IsSome (book_with id books)
+HasItsBook (call.ReadMany id ranges dimension render) books = IsSome (book_with id books)
+HasItsBook (call.ClearMany id ranges) books = IsSome (book_with id books)
 HasItsBook _ books = ⊤
 
-abbrev pub told_as : Result Answer Rule → Outcome
+abbrev pub told_as : Result Answer Refusal → Outcome
 told_as (Ok told) = outcome.Answered told
-told_as (Err broken) = outcome.Refused broken
+told_as (Err (at, broken)) = outcome.Refused at broken
 
 -- the call is answered, and these are the spreadsheets after it, if it makes something of them
 pub record IsApplied (called : Call) (books : List PlaceBook) (told : Outcome) (next : Option (List PlaceBook)) : Type 0
   where
-    pub judged : Result Answer Rule
+    pub judged : Result Answer Refusal
     pub effect : Effect
     pub answered : IsAnswered called books judged effect
     pub told_is : told ≡ told_as judged
@@ -167,19 +245,31 @@ pub record IsApplied (called : Call) (books : List PlaceBook) (told : Outcome) (
 -- ---- what the private functions hand to one another
 
 -- a spreadsheet that a call changes: what is answered, and the spreadsheet after it
-abbrev pub IsChange : (Result Answer Rule → Effect → Type 0) → PlaceBook → Result (Answer × PlaceBook) Rule → Type 0
+abbrev pub IsChange : {Broken : Type 0} → (Result Answer Broken → Effect → Type 0) → PlaceBook
+    → Result (Answer × PlaceBook) Broken → Type 0
 IsChange Answered before (Ok (told, after)) =
-    (sheet : ℕ) × (updates : Updates) × Answered (Ok told) (Update before.id sheet updates)
-    × AreUpdated sheet updates before after
+    (changes : List Change) × Answered (Ok told) (Changes before.id changes) × AreChanged changes before after
 IsChange Answered before (Err broken) = Answered (Err broken) Nothing
 
 -- a changed spreadsheet takes the place of the one that has its id; where a rule is broken nothing does
-abbrev pub IsInstalled : List PlaceBook → Result (Answer × PlaceBook) Rule → Outcome → Option (List PlaceBook) → Type 0
+abbrev pub IsInstalled : List PlaceBook → Result (Answer × PlaceBook) Refusal → Outcome → Option (List PlaceBook) → Type 0
 IsInstalled before (Ok (answered, book)) told next =
     (told ≡ outcome.Answered answered) × IsSomeAnd next (ReplacesByName book before)
-IsInstalled before (Err broken) told next = (told ≡ outcome.Refused broken) × (next ≡ None)
+IsInstalled before (Err (at, broken)) told next = (told ≡ outcome.Refused at broken) × (next ≡ None)
 
 -- the same as of a call for which memory didn't run out
 abbrev pub as_told : {A : Type 0} → Result A Rule → Result A RuleOr
 as_told (Ok told) = Ok told
 as_told (Err broken) = Err (refusal.Rule broken)
+
+-- a range of a spreadsheet that is cleared in its place
+abbrev pub IsClearedTo : Reading (List ℕ) → PlaceBook → PlaceBook → Result (List ℕ) Rule → Type 0
+IsClearedTo range before after (Ok text) =
+    (change : Change) × IsCleared before range (Ok (text, change)) × AreUpdated change.sheet change.updates before after
+IsClearedTo range before after (Err broken) = IsCleared before range (Err broken)
+
+-- and ranges, one after another, up to the first that breaks a rule
+pub record AreCleared (ranges : List (Reading (List ℕ))) (before after : PlaceBook) (told : Told (List ℕ)) : Type 0 where
+  pub changes : List Change
+  pub each : InTurn IsCleared 0 ranges before told changes
+  pub becomes : IfOk told (λ texts. AreChanged changes before after)

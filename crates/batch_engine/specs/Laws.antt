@@ -3,15 +3,14 @@ use Rattle.std.specs.Prelude.{◌≡◌, List, Result}
 use Rattle.std.specs.List.{All}
 use Rattle.world_model.specs.Book.{PlaceBook}
 use Rattle.world_model.specs.Sound.{IsSound}
-use Rattle.dimension_ops.specs.declared.rule.Rule.{Rule}
 use Rattle.sheets_json.specs.declared.answer.Answer.{Answer}
 use Rattle.sheets_json.specs.declared.call.Call.{Call}
 use Rattle.batch_engine.specs.Effects.{Effect}
 use Rattle.batch_engine.specs.Calls.{IsAnswered}
 
 -- one answer and one effect are possible
-abbrev pub IsOnce : (Result Answer Rule → Effect → Type 0) → Type 0
-IsOnce Answered = (told told' : Result Answer Rule) (effect effect' : Effect) → Answered told effect
+abbrev pub IsOnce : {Broken : Type 0} → (Result Answer Broken → Effect → Type 0) → Type 0
+IsOnce Answered = (told told' : Result Answer _) (effect effect' : Effect) → Answered told effect
     → Answered told' effect' → (told ≡ told') × (effect ≡ effect')
 
 -- a call has one answer and one effect on spreadsheets that are sound

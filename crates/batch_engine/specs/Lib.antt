@@ -1,4 +1,5 @@
 pub mod Effects
 pub mod Ranges
+pub mod Members
 pub mod Calls
 pub mod Laws

@@ -2,18 +2,18 @@ ghost use Rattle.std.specs.Prelude.{◌≡◌, IfOk, IsSomeAnd};
 ghost use Rattle.dimension_ops.specs.Rules.{IsUnlessNoMemory};
 ghost use Rattle.world_model.specs.Sound.{place_sheet_with};
 ghost use Rattle.values_api.specs.Ranges.{IsThere};
-ghost use Rattle.batch_engine.specs.Calls.{is_columns, axis_or_rows, render_or_formatted, unless_empty, update_of, rule_of, IsReadOf, IsClearOf, IsWriteOf, IsChange};
+ghost use Rattle.batch_engine.specs.Calls.{is_columns, axis_or_rows, render_or_formatted, unless_empty, update_of, rule_of, IsReadOf, IsShown, IsClearOf, IsClearedTo, IsWriteOf, IsChange};
 ghost use Rattle.batch_engine.specs.Effects.Effect.{Nothing};
 
 use crate::targets::target;
-use cell_value::{Cell, Duplicate, Items, NoMemory, Render};
+use cell_value::{Cell, Duplicate, Items, NoMemory, Render, Text};
 use dimension_ops::{Book, Rule, RuleOr};
 use grid_range::Axis;
 use sheets_json::{Answer, ShapeFault, ShownRange, Update, ValueRange};
 use std::alloc::Global;
 use values_api::{Written, clear_values, range_text, read_values, resolve, write_values};
 
-/// What a read of a range shows.
+/// What a read of a range is answered.
 pub(crate) fn read(
     alloc: Global,
     book: &Book,
@@ -22,6 +22,19 @@ pub(crate) fn read(
     render: Option<Render>,
 ) -> Result<Answer, RuleOr>
     ensures { IsUnlessNoMemory (λ told. IsReadOf range.now dimension render book.now told Nothing) result }
+{
+    Ok(Answer::Read(shown(alloc, book, range, dimension, render)?))
+}
+
+/// What a read of a range shows.
+pub(crate) fn shown(
+    alloc: Global,
+    book: &Book,
+    range: &str,
+    dimension: Option<Axis>,
+    render: Option<Render>,
+) -> Result<ShownRange, RuleOr>
+    ensures { IsUnlessNoMemory (IsShown dimension render book.now range.now) result }
 {
     let (area, _) = resolve(alloc, book, range)?;
     let axis = axis_or_rows(dimension);
@@ -32,11 +45,11 @@ pub(crate) fn read(
         is_columns(axis),
         render_or_formatted(render),
     )?;
-    Ok(Answer::Read(ShownRange {
+    Ok(ShownRange {
         range: range_text(alloc, book, &area)?,
         major_dimension: axis,
         values: unless_empty(shown.values),
-    }))
+    })
 }
 
 /// Empties the cells of a range: the answer, and the spreadsheet after it.
@@ -48,16 +61,29 @@ pub(crate) fn clear(
 ) -> Result<(Answer, Book), RuleOr>
     ensures { IsUnlessNoMemory (IsChange (IsClearOf range.now book.now) book.now) result }
 {
-    let (area, _) = resolve(alloc, book, range)?;
-    let cleared_range = range_text(alloc, book, &area)?;
     let spreadsheet_id = book.id().duplicate()?;
     let mut after = book.duplicate()?;
-    clear_values(&mut after, user, &area)?;
+    let cleared_range = emptied(alloc, &mut after, user, range)?;
     let answer = Answer::Clear {
         cleared_range,
         spreadsheet_id,
     };
     Ok((answer, after))
+}
+
+/// Empties the cells of a range of the spreadsheet: the range as text.
+pub(crate) fn emptied(
+    alloc: Global,
+    book: &mut Book,
+    user: &str,
+    range: &str,
+) -> Result<Text, RuleOr>
+    ensures { IsUnlessNoMemory (IsClearedTo (Rattle.std.specs.Prelude.Ok range.now) book.old book.new) result }
+{
+    let (area, _) = resolve(alloc, book, range)?;
+    let text = range_text(alloc, book, &area)?;
+    clear_values(book, user, &area)?;
+    Ok(text)
 }
 
 /// Writes what a body says to a range: the answer, and the spreadsheet after it.
@@ -109,7 +135,7 @@ fn update_of(alloc: Global, book: &Book, written: &Written) -> Result<Update, No
 }
 
 /// The rule that a shape breaks.
-fn rule_of(fault: ShapeFault) -> Rule
+pub(crate) fn rule_of(fault: ShapeFault) -> Rule
     ensures { result ≡ rule_of fault }
 {
     match fault {

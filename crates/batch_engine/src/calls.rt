@@ -2,12 +2,13 @@ ghost use Rattle.std.specs.Prelude.{◌≡◌, Some, None, IfOk};
 ghost use Rattle.std.specs.Option.{IsSome};
 ghost use Rattle.dimension_ops.specs.ByName.{ReplacesByName};
 ghost use Rattle.dimension_ops.specs.World.{book_with};
-ghost use Rattle.batch_engine.specs.Calls.{HasItsBook, IsApplied, IsInstalled, told_as, as_told};
+ghost use Rattle.batch_engine.specs.Calls.{HasItsBook, IsApplied, IsInstalled, alone, told_as, as_told};
 
 use crate::answers::{clear, read, write};
+use crate::lists::{Refusal, clear_many, read_many};
 use cell_value::{Duplicate, NoMemory, Text};
 use dimension_ops::{Book, Rule, RuleOr, World};
-use sheets_json::{Answer, Call};
+use sheets_json::{Answer, Call, Place};
 use std::alloc::Global;
 
 /// Who makes a call.
@@ -24,8 +25,13 @@ pub struct Caller {
 pub enum Outcome {
     /// It is answered so.
     Answered(Answer),
-    /// It breaks the rule.
-    Refused(Rule),
+    /// It, or its member at the place, breaks the rule.
+    Refused {
+        /// Where the rule is broken.
+        place: Place,
+        /// The rule.
+        rule: Rule,
+    },
 }
 
 /// What a call makes of the spreadsheets, and what becomes of it.
@@ -38,9 +44,10 @@ pub struct Applied {
     pub outcome: Outcome,
 }
 
-/// Makes a call on the spreadsheets, which stay as they are: what they are after it is told. Reads,
-/// writes and clears of one range are done (Sheets API v4 reference, spreadsheets.values); any other
-/// call is refused as [`Rule::Unsupported`].
+/// Makes a call on the spreadsheets, which stay as they are: what they are after it is told. Reads and
+/// clears of one range and of a list of them, and writes of one are done (Sheets API v4 reference,
+/// spreadsheets.values); any other call is refused as [`Rule::Unsupported`]. A list is done in its order,
+/// and its first member that breaks a rule refuses the call.
 ///
 /// # Errors
 ///
@@ -64,6 +71,17 @@ pub fn apply(
             let book = book_of(world, id.as_str());
             let (dimension, render) = (*major_dimension, *value_render_option);
             let told = judged(read(alloc, book, range.as_str(), dimension, render))?;
+            Ok(unchanged(alone(told)))
+        }
+        Call::ReadMany {
+            id,
+            ranges,
+            major_dimension,
+            value_render_option,
+        } => {
+            let book = book_of(world, id.as_str());
+            let (dimension, render) = (*major_dimension, *value_render_option);
+            let told = read_many(alloc, book, ranges.as_slice(), dimension, render)?;
             Ok(unchanged(told))
         }
         Call::Write {
@@ -75,15 +93,20 @@ pub fn apply(
             let book = book_of(world, id.as_str());
             let user = caller.user.as_str();
             let told = judged(write(alloc, book, user, range.as_str(), values))?;
-            changed(world, told)
+            changed(world, alone(told))
         }
         Call::Clear { id, range } => {
             let book = book_of(world, id.as_str());
             let user = caller.user.as_str();
             let told = judged(clear(alloc, book, user, range.as_str()))?;
-            changed(world, told)
+            changed(world, alone(told))
         }
-        _ => Ok(unchanged(Err(Rule::Unsupported))),
+        Call::ClearMany { id, ranges } => {
+            let book = book_of(world, id.as_str());
+            let user = caller.user.as_str();
+            changed(world, clear_many(alloc, book, user, ranges.as_slice())?)
+        }
+        _ => Ok(unchanged(Err((Place::Alone, Rule::Unsupported)))),
     }
 }
 
@@ -96,7 +119,7 @@ fn book_of<'a>(world: &'a World, id: &str) -> &'a Book
 }
 
 /// What came of a call, where memory didn't run out.
-fn judged<T: Drop>(told: Result<T, RuleOr>) -> Result<Result<T, Rule>, NoMemory>
+pub(crate) fn judged<T: Drop>(told: Result<T, RuleOr>) -> Result<Result<T, Rule>, NoMemory>
     ensures { IfOk result (λ judged. told ≡ as_told judged) }
 {
     match told {
@@ -106,8 +129,18 @@ fn judged<T: Drop>(told: Result<T, RuleOr>) -> Result<Result<T, Rule>, NoMemory>
     }
 }
 
+/// What is told of a call that has no members.
+fn alone<T: Drop>(told: Result<T, Rule>) -> Result<T, Refusal>
+    ensures { result ≡ alone told }
+{
+    match told {
+        Ok(told) => Ok(told),
+        Err(rule) => Err((Place::Alone, rule)),
+    }
+}
+
 /// A call that makes nothing of the spreadsheets.
-fn unchanged(told: Result<Answer, Rule>) -> Applied
+fn unchanged(told: Result<Answer, Refusal>) -> Applied
     ensures outcome { result.outcome ≡ told_as told }
     ensures next { result.next ≡ None }
 {
@@ -115,13 +148,13 @@ fn unchanged(told: Result<Answer, Rule>) -> Applied
         next: None,
         outcome: match told {
             Ok(answer) => Outcome::Answered(answer),
-            Err(rule) => Outcome::Refused(rule),
+            Err((place, rule)) => Outcome::Refused { place, rule },
         },
     }
 }
 
 /// A call that changes a spreadsheet, unless it breaks a rule.
-fn changed(world: &World, told: Result<(Answer, Book), Rule>) -> Result<Applied, NoMemory>
+fn changed(world: &World, told: Result<(Answer, Book), Refusal>) -> Result<Applied, NoMemory>
     requires { IfOk told (λ done. IsSome (book_with done.1.id world.now)) }
     ensures { IfOk result (λ applied. IsInstalled world.now told applied.outcome applied.next) }
 {
@@ -130,7 +163,7 @@ fn changed(world: &World, told: Result<(Answer, Book), Rule>) -> Result<Applied,
             next: Some(with_book(world, book)?),
             outcome: Outcome::Answered(answer),
         }),
-        Err(rule) => Ok(unchanged(Err(rule))),
+        Err(refusal) => Ok(unchanged(Err(refusal))),
     }
 }
 

@@ -3,13 +3,13 @@
 ghost use Rattle.batch_engine.specs.Laws.{CallsAnsweredOnce};
 
 use a1_notation::a1_laws;
-use world_model::{stands_for_apart, stands_for_some};
+use values_api::{updates_once, writes_once};
 
 /// A call has one answer and one effect on given spreadsheets.
 pub fn calls_answered_once()
     ensures { CallsAnsweredOnce }
 {
     a1_laws();
-    stands_for_some();
-    stands_for_apart();
+    writes_once();
+    updates_once();
 }

@@ -5,6 +5,7 @@
 mod answers;
 mod calls;
 mod laws;
+mod lists;
 mod targets;
 
 pub use calls::{Applied, Caller, Outcome, apply};

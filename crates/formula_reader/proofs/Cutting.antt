@@ -1,6 +1,6 @@
 -- Cutting a formula text into its pieces.
 use Rattle.std.proofs.Common.{◌≡◌, ℕ, suc, ◌+◌, ◌≤◌, List, [], ◌∷◌, Option, None, refl, sym, ◌∙◌, arith, subst}
-use Rattle.std.specs.Prelude.{All}
+use Rattle.std.specs.Prelude.{All, IfOk, IfSome, Some, Result, Ok, Err}
 use Rattle.std.specs.Str.{IsCharBoundary}
 use Rattle.std.proofs.lemmas.List.Elements.{All-head, All-tail}
 use Rattle.formula_reader.specs.Boundaries.{HasBoundaries, HasCells}
@@ -62,3 +62,13 @@ cuts_of rest from before (placed ∷ later) less are all cells =
           (All-tail (HasBoundaries rest) placed later all)
           (All-tail (λ p. HasCells p.token) placed later cells),
     )
+
+-- and so it can, where its tokens are told
+pub found_cuts : {E : Type 0} (text behind : List ℕ) (told : Result (Option (List Placed)) E) → text ≡ 61 ∷ behind
+    → IfOk told (λ found. IfSome found (AreTokens behind 0)) → IfOk told (λ found. IfSome found (All (HasBoundaries behind)))
+    → IfOk told (λ found. IfSome found (All (λ placed. HasCells placed.token)))
+    → IfOk told (λ found. IfSome found (Cuts text 0))
+found_cuts text behind (Err error) begins are all cells = tt
+found_cuts text behind (Ok None) begins are all cells = tt
+found_cuts text behind (Ok (Some tokens)) begins are all cells =
+    subst (λ whole. Cuts whole 0 tokens) (sym begins) (cuts_of behind 0 0 tokens (omega arith) are all cells)

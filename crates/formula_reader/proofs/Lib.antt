@@ -53,6 +53,7 @@ pub mod CutAreas
 pub mod ReadReferences
 pub mod Fewer
 pub mod Readable
+pub mod ReadOnce
 pub mod Exchanged
 pub mod TreeStays
 pub mod Changed

@@ -34,6 +34,14 @@ abbrev pub CanBeReadAgain : Sheets → ℕ → Formula → Type 0
 CanBeReadAgain sheets here formula =
     AreKnown sheets here → (tree : Expression) → IsTreeOf formula tree → IsReadable sheets here formula
 
+-- the pieces of a text with tokens behind its =, whatever limits these pass
+pub pieces_referring : (a1 : A1Laws) (sheets : Sheets) (here : ℕ) (behind : List ℕ) (tokens : List Placed)
+    → AreTokens behind 0 tokens
+    → HasReferences sheets here (record { pieces = pieces_from sheets here (61 ∷ behind) 0 tokens })
+pieces_referring a1 sheets here behind tokens are known =
+    let seen = pieces_seen sheets here a1 known behind tokens are in
+    (λ k d less. (seen k d less).0, λ k d less. (seen k d less).1)
+
 -- what is read of a text with tokens behind its =
 module _ (a1 : A1Laws) (sheets : Sheets) (here : ℕ) (text behind : List ℕ) (tokens : List Placed)
     (result : Result Formula FormulaFault)
@@ -42,14 +50,9 @@ module _ (a1 : A1Laws) (sheets : Sheets) (here : ℕ) (text behind : List ℕ) (
   abbrev pieces : List Piece
   pieces = pieces_from sheets here (61 ∷ behind) 0 tokens
 
-  pieces_referring : HasReferences sheets here (record { pieces = pieces })
-  pieces_referring known =
-      let seen = pieces_seen sheets here a1 known behind tokens are in
-      (λ k d less. (seen k d less).0, λ k d less. (seen k d less).1)
-
   pub read_references : IfOk result (HasReferences sheets here)
   read_references =
-      read_has (HasReferences sheets here) sheets here text tokens result (λ within. rw begins pieces_referring) is
+      read_has (HasReferences sheets here) sheets here text tokens result (λ within. rw begins (pieces_referring a1 sheets here behind tokens are)) is
 
   abbrev symbols : List Symbol
   symbols = symbols_read sheets here tokens
@@ -93,7 +96,7 @@ module _ (a1 : A1Laws) (sheets : Sheets) (here : ℕ) (text behind : List ℕ) (
     tree_is = has;
     limits = pieces_within within has.0 has.1;
     form = pieces_formed sheets here behind tokens are tree has;
-    references = (pieces_referring known).1;
+    references = (pieces_referring a1 sheets here behind tokens are known).1;
   }
 
   pub read_readable : IfOk result (CanBeReadAgain sheets here)
@@ -101,15 +104,17 @@ module _ (a1 : A1Laws) (sheets : Sheets) (here : ℕ) (text behind : List ℕ) (
       read_has (CanBeReadAgain sheets here) sheets here text tokens result
       (λ within. rw begins (pieces_readable within)) is
 
--- what is read of a text with no = before it has no tree
-pub text_within : (text : List ℕ) (formula : Formula) → formula ≡ one_text text
-    → ((behind : List ℕ) → ¬ (text ≡ 61 ∷ behind)) → KeepsLimits formula
-text_within text formula is no_sign symbols has =
-    let are : AreSymbolsOf (one_text text).pieces symbols = rw is at has in
-    absurd (no_sign are.0 are.1)
+-- what is read of a text without tokens has no tree
+module _ (text : List ℕ) (formula : Formula) (is : formula ≡ one_text text)
+    (none : (tokens : List Placed) → ¬ (AreTokensOf text tokens)) where
+  no_symbols : (symbols : List Symbol) → AreSymbolsOf formula.pieces symbols → ⊥
+  no_symbols symbols has =
+      let (behind, begins, of) : AreSymbolsOf (one_text text).pieces symbols = rw is at has in
+      let (front, back, piece, rest, same) = of in
+      none piece.0 (behind, begins, piece.1)
 
-pub text_readable : (sheets : Sheets) (here : ℕ) (text : List ℕ) (formula : Formula) → formula ≡ one_text text
-    → ((behind : List ℕ) → ¬ (text ≡ 61 ∷ behind)) → CanBeReadAgain sheets here formula
-text_readable sheets here text formula is no_sign known tree has =
-    let are : AreSymbolsOf (one_text text).pieces has.0 = rw is at has.1 in
-    absurd (no_sign are.0 are.1)
+  pub text_within : KeepsLimits formula
+  text_within symbols has = absurd (no_symbols symbols has)
+
+  pub text_readable : (sheets : Sheets) (here : ℕ) → CanBeReadAgain sheets here formula
+  text_readable sheets here known tree has = absurd (no_symbols has.0 has.1)

@@ -1,5 +1,5 @@
 -- Laws of formulas, in the words of a reader of their texts.
-use Rattle.std.specs.Prelude.{◌≡◌, ℕ, false, List}
+use Rattle.std.specs.Prelude.{◌≡◌, ℕ, false, List, Option}
 use Rattle.std.specs.List.{AllZip}
 use Rattle.grid_range.specs.declared.band.Band.TheVariants.{Span}
 use Rattle.ref_rewrite.specs.declared.pieces.Formula.{Formula}
@@ -9,7 +9,10 @@ use Rattle.a1_notation.specs.declared.row.TheConstants.{NUMBERED_ROWS}
 use Rattle.a1_notation.specs.Canonical.{IsStretch, area_text}
 use Rattle.formula_reader.specs.declared.symbols.Symbol.{Symbol}
 use Rattle.formula_reader.specs.declared.tokens.token.Placed.{Placed}
+use Rattle.formula_reader.specs.declared.fault.FormulaFault.{FormulaFault}
 use Rattle.formula_reader.specs.Changed.{MayBecome}
+use Rattle.formula_reader.specs.Pieces.{IsRead}
+use Rattle.formula_reader.specs.Sheets.{Sheets}
 use Rattle.formula_reader.specs.ReferenceText.{reference_text}
 use Rattle.formula_reader.specs.Symbols.{AreSymbolsOf, IsTreeOf, KeepsLimits}
 use Rattle.formula_reader.specs.Tokens.{AreTokens}
@@ -18,6 +21,11 @@ use Rattle.formula_reader.specs.Tree.{Expression}
 -- a text has one list of tokens at most
 abbrev pub HasOneTokens : Type 0
 HasOneTokens = (text : List ℕ) (one other : List Placed) → AreTokens text 0 one → AreTokens text 0 other → one ≡ other
+
+-- a text is read as one formula, and passes one limit first, if any
+abbrev pub IsReadOnce : Type 0
+IsReadOnce = (sheets : Sheets) (here : ℕ) (text : List ℕ) (one other : Formula) (limit limit' : Option FormulaFault)
+    → IsRead sheets here text one limit → IsRead sheets here text other limit' → (one ≡ other) × (limit ≡ limit')
 
 -- a formula has one list of symbols at most
 abbrev pub HasOneSymbols : Type 0

@@ -2,7 +2,7 @@
 //! that has read a formula knows by them that it can still be printed and read again when the sheets
 //! have changed.
 
-ghost use Rattle.formula_reader.specs.Laws.{HasOneTokens, HasOneSymbols, HasOneTree, LimitsStay, PrintsCanonically};
+ghost use Rattle.formula_reader.specs.Laws.{HasOneTokens, IsReadOnce, HasOneSymbols, HasOneTree, LimitsStay, PrintsCanonically};
 ghost use Rattle.formula_reader.specs.Changed.{StaysReadable, PrintsTheSame, MayFollow, MayLoseSheet, MayBeRenamed};
 
 use a1_notation::a1_laws;
@@ -10,6 +10,13 @@ use a1_notation::a1_laws;
 /// A text has one list of tokens at most.
 pub fn has_one_tokens()
     ensures { HasOneTokens }
+{
+    a1_laws();
+}
+
+/// A text is read as one formula, and passes one limit first, if any.
+pub fn reads_once()
+    ensures { IsReadOnce }
 {
     a1_laws();
 }

@@ -18,10 +18,10 @@ pub use fault::FormulaFault;
 pub use grammar::tree_of;
 pub use laws::{
     changes_may_be, has_one_tokens, has_one_tree, limits_stay, prints_canonically, prints_the_same,
-    stays_readable,
+    reads_once, stays_readable,
 };
 pub use names::SheetNames;
 pub use printing::print_formula;
-pub use reading::read_formula;
+pub use reading::{read_formula, read_pieces};
 pub use tokens::{MarkedArea, Operator, Placed, Token, tokens_of};
 pub use tree::Tree;

@@ -1,6 +1,6 @@
-ghost use Rattle.std.specs.Prelude.{◌≡◌, ◌⊎◌, List, Ok, Err, IfOk, All};
+ghost use Rattle.std.specs.Prelude.{◌≡◌, ◌⊎◌, List, Ok, Err, IfOk, IfSome, IfNone, All};
 ghost use Rattle.formula_reader.specs.declared.tokens.token.Placed.{Placed};
-ghost use Rattle.formula_reader.specs.Pieces.{AreTokensOf, one_text, formula_of};
+ghost use Rattle.formula_reader.specs.Pieces.{AreTokensOf, IsRead, one_text, formula_of};
 ghost use Rattle.formula_reader.specs.Cuts.{Cuts};
 ghost use Rattle.formula_reader.specs.Bytes.{Spells};
 ghost use Rattle.formula_reader.specs.Symbols.{IsTreeOf, HasTreeOfTokens, KeepsLimits};
@@ -53,12 +53,50 @@ pub fn read_formula<S: SheetNames>(
         → IsTreeOf formula tree → IsReadable (S.sheets names.now) here formula) }
 {
     a1_laws();
-    match text.strip_prefix('=') {
-        Some(behind) => match tokens_of(alloc, behind)? {
-            Some(tokens) => formula_of(alloc, text, tokens, names, here),
-            None => Ok(one_text(alloc, text)?),
-        },
+    match formula_tokens(alloc, text)? {
+        Some(tokens) => formula_of(alloc, text, tokens, names, here),
         None => Ok(one_text(alloc, text)?),
+    }
+}
+
+/// A formula of the sheet `here` as its pieces, as [`read_formula`] reads it but whatever limits the text
+/// passes; and the first of them that it does. Where each sheet has a title that names it, the formula can
+/// be printed.
+///
+/// # Errors
+///
+/// [`NoMemory`] where memory runs out.
+pub fn read_pieces<S: SheetNames>(
+    alloc: Global,
+    text: &str,
+    names: &S,
+    here: u32,
+) -> Result<(Formula, Option<FormulaFault>), NoMemory>
+    ensures read { IfOk result (λ read. IsRead (S.sheets names.now) here text.now read.0 read.1) }
+    ensures references { IfOk result (λ read. AreKnown (S.sheets names.now) here
+        → ArePrintable (S.sheets names.now) read.0.pieces × All (IsPresent (S.sheets names.now) here) read.0.pieces) }
+{
+    a1_laws();
+    match formula_tokens(alloc, text)? {
+        Some(tokens) => {
+            let limit = passed(tokens.as_slice());
+            let pieces = Items::of(pieces_of(alloc, text, tokens, names, here)?);
+            Ok((Formula { pieces }, limit))
+        }
+        None => Ok((one_text(alloc, text)?, None)),
+    }
+}
+
+/// The tokens of a formula text; None where it doesn't begin with `=`, and where at some place no token
+/// fits.
+fn formula_tokens(alloc: Global, text: &str) -> Result<Option<Items<Placed>>, NoMemory>
+    ensures tokens { IfOk result (λ found. IfSome found (AreTokensOf text.now)) }
+    ensures cuts { IfOk result (λ found. IfSome found (Cuts text.now 0)) }
+    ensures none { IfOk result (λ found. IfNone found ((tokens : List Placed) → ¬ (AreTokensOf text.now tokens))) }
+{
+    match text.strip_prefix('=') {
+        Some(behind) => tokens_of(alloc, behind),
+        None => Ok(None),
     }
 }
 

@@ -1,5 +1,8 @@
 use crate::common::check;
-use crate::rows::{CHANGES, CONVERSATIONS, Conversation, Exchange, NO_CALLS, RANGES, WRITES};
+use crate::rows::{
+    CHANGES, CONVERSATIONS, Conversation, Exchange, FORMULAS, LIMITS, LISTS, NO_CALLS, RANGES,
+    TYPED, WRITES,
+};
 use cell_value::{Bytes, Items};
 use sheets_cli::{cut_off_laws, reply_laws, sheets_main};
 use sheets_http::{MemorySink, MemorySource};
@@ -103,6 +106,34 @@ fn writes_values(rt: HostRuntime) {
 #[test]
 fn shows_what_was_changed(rt: HostRuntime) {
     for row in &CHANGES {
+        check(&rt, &row.3, is_answered(&rt, row));
+    }
+}
+
+#[test]
+fn enters_formulas(rt: HostRuntime) {
+    for row in &FORMULAS {
+        check(&rt, &row.3, is_answered(&rt, row));
+    }
+}
+
+#[test]
+fn reads_what_is_typed(rt: HostRuntime) {
+    for row in &TYPED {
+        check(&rt, &row.3, is_answered(&rt, row));
+    }
+}
+
+#[test]
+fn reads_and_clears_several_ranges(rt: HostRuntime) {
+    for row in &LISTS {
+        check(&rt, &row.3, is_answered(&rt, row));
+    }
+}
+
+#[test]
+fn keeps_formulas_within_their_limits(rt: HostRuntime) {
+    for row in &LIMITS {
         check(&rt, &row.3, is_answered(&rt, row));
     }
 }

@@ -86,7 +86,7 @@ const BAD_REQUEST: &str = "400 Bad Request";
 const CLOSE: &str = "Connection: close\r\n";
 
 /// Requests that are no call, and ranges, and their answers, known from outside.
-pub(crate) static NO_CALLS: [Exchange; 20] = [
+pub(crate) static NO_CALLS: [Exchange; 18] = [
     (
         &[("GET /v4/spreadsheets/book1", "Host: localhost\r\n", "")],
         NOT_FOUND,
@@ -161,27 +161,7 @@ pub(crate) static NO_CALLS: [Exchange; 20] = [
     ),
     (
         &[(
-            "GET /v4/spreadsheets/book1/values/A1?valueRenderOption=FORMULA",
-            "",
-            "",
-        )],
-        BAD_REQUEST,
-        "",
-        "{\"error\":{\"code\":400,\"message\":\"BadQuery\",\"status\":\"INVALID_ARGUMENT\"}}",
-    ),
-    (
-        &[(
             "PUT /v4/spreadsheets/book1/values/A1",
-            "Content-Length: 16\r\n",
-            "{\"values\":[[1]]}",
-        )],
-        BAD_REQUEST,
-        "",
-        "{\"error\":{\"code\":400,\"message\":\"BadQuery\",\"status\":\"INVALID_ARGUMENT\"}}",
-    ),
-    (
-        &[(
-            "PUT /v4/spreadsheets/book1/values/A1?valueInputOption=USER_ENTERED",
             "Content-Length: 16\r\n",
             "{\"values\":[[1]]}",
         )],
@@ -879,5 +859,1363 @@ pub(crate) static CHANGES: [Exchange; 18] = [
         BAD_REQUEST,
         "",
         "{\"error\":{\"code\":400,\"message\":\"OutsideGrid\",\"status\":\"INVALID_ARGUMENT\"}}",
+    ),
+];
+
+/// Formulas as they are entered, and how they are shown, known from outside.
+pub(crate) static FORMULAS: [Exchange; 20] = [
+    (
+        &[
+            (
+                "PUT /v4/spreadsheets/book1/values/A1?valueInputOption=USER_ENTERED",
+                "Content-Length: 32\r\n",
+                "{\"values\":[[\"=sum( a2:$b$1 )\"]]}",
+            ),
+            (
+                "GET /v4/spreadsheets/book1/values/A1?valueRenderOption=FORMULA",
+                "",
+                "",
+            ),
+        ],
+        OK,
+        "",
+        "{\"majorDimension\":\"ROWS\",\"range\":\"Sheet1!A1\",\"values\":[[\"=sum( A$1:$B2 )\"]]}",
+    ),
+    (
+        &[
+            (
+                "PUT /v4/spreadsheets/book1/values/A1?valueInputOption=USER_ENTERED",
+                "Content-Length: 20\r\n",
+                "{\"values\":[[\"=a1\"]]}",
+            ),
+            (
+                "GET /v4/spreadsheets/book1/values/A1?valueRenderOption=FORMULA",
+                "",
+                "",
+            ),
+        ],
+        OK,
+        "",
+        "{\"majorDimension\":\"ROWS\",\"range\":\"Sheet1!A1\",\"values\":[[\"=A1\"]]}",
+    ),
+    (
+        &[
+            (
+                "PUT /v4/spreadsheets/book1/values/A1?valueInputOption=USER_ENTERED",
+                "Content-Length: 20\r\n",
+                "{\"values\":[[\"=a1\"]]}",
+            ),
+            ("GET /v4/spreadsheets/book1/values/A1", "", ""),
+        ],
+        OK,
+        "",
+        "{\"majorDimension\":\"ROWS\",\"range\":\"Sheet1!A1\",\"values\":[[\"=A1\"]]}",
+    ),
+    (
+        &[
+            (
+                "PUT /v4/spreadsheets/book1/values/A1?valueInputOption=USER_ENTERED",
+                "Content-Length: 20\r\n",
+                "{\"values\":[[\"=a1\"]]}",
+            ),
+            (
+                "GET /v4/spreadsheets/book1/values/A1?valueRenderOption=UNFORMATTED_VALUE",
+                "",
+                "",
+            ),
+        ],
+        OK,
+        "",
+        "{\"majorDimension\":\"ROWS\",\"range\":\"Sheet1!A1\",\"values\":[[\"=A1\"]]}",
+    ),
+    (
+        &[
+            (
+                "PUT /v4/spreadsheets/book1/values/A1?valueInputOption=USER_ENTERED",
+                "Content-Length: 27\r\n",
+                "{\"values\":[[\"=sheet1!b2\"]]}",
+            ),
+            (
+                "GET /v4/spreadsheets/book1/values/A1?valueRenderOption=FORMULA",
+                "",
+                "",
+            ),
+        ],
+        OK,
+        "",
+        "{\"majorDimension\":\"ROWS\",\"range\":\"Sheet1!A1\",\"values\":[[\"=Sheet1!B2\"]]}",
+    ),
+    (
+        &[
+            (
+                "PUT /v4/spreadsheets/book1/values/A1?valueInputOption=USER_ENTERED",
+                "Content-Length: 29\r\n",
+                "{\"values\":[[\"='sheet1'!b2\"]]}",
+            ),
+            (
+                "GET /v4/spreadsheets/book1/values/A1?valueRenderOption=FORMULA",
+                "",
+                "",
+            ),
+        ],
+        OK,
+        "",
+        "{\"majorDimension\":\"ROWS\",\"range\":\"Sheet1!A1\",\"values\":[[\"=Sheet1!B2\"]]}",
+    ),
+    (
+        &[
+            (
+                "PUT /v4/spreadsheets/book1/values/A1?valueInputOption=USER_ENTERED",
+                "Content-Length: 28\r\n",
+                "{\"values\":[[\"=nowhere!a1\"]]}",
+            ),
+            (
+                "GET /v4/spreadsheets/book1/values/A1?valueRenderOption=FORMULA",
+                "",
+                "",
+            ),
+        ],
+        OK,
+        "",
+        "{\"majorDimension\":\"ROWS\",\"range\":\"Sheet1!A1\",\"values\":[[\"=#REF!\"]]}",
+    ),
+    (
+        &[
+            (
+                "PUT /v4/spreadsheets/book1/values/A1?valueInputOption=USER_ENTERED",
+                "Content-Length: 22\r\n",
+                "{\"values\":[[\"=zzz1\"]]}",
+            ),
+            (
+                "GET /v4/spreadsheets/book1/values/A1?valueRenderOption=FORMULA",
+                "",
+                "",
+            ),
+        ],
+        OK,
+        "",
+        "{\"majorDimension\":\"ROWS\",\"range\":\"Sheet1!A1\",\"values\":[[\"=#REF!\"]]}",
+    ),
+    (
+        &[
+            (
+                "PUT /v4/spreadsheets/book1/values/A1?valueInputOption=USER_ENTERED",
+                "Content-Length: 23\r\n",
+                "{\"values\":[[\"=a1001\"]]}",
+            ),
+            (
+                "GET /v4/spreadsheets/book1/values/A1?valueRenderOption=FORMULA",
+                "",
+                "",
+            ),
+        ],
+        OK,
+        "",
+        "{\"majorDimension\":\"ROWS\",\"range\":\"Sheet1!A1\",\"values\":[[\"=#REF!\"]]}",
+    ),
+    (
+        &[
+            (
+                "PUT /v4/spreadsheets/book1/values/A1?valueInputOption=USER_ENTERED",
+                "Content-Length: 26\r\n",
+                "{\"values\":[[\"=a1:a5000\"]]}",
+            ),
+            (
+                "GET /v4/spreadsheets/book1/values/A1?valueRenderOption=FORMULA",
+                "",
+                "",
+            ),
+        ],
+        OK,
+        "",
+        "{\"majorDimension\":\"ROWS\",\"range\":\"Sheet1!A1\",\"values\":[[\"=A1:A1000\"]]}",
+    ),
+    (
+        &[
+            (
+                "PUT /v4/spreadsheets/book1/values/A1?valueInputOption=USER_ENTERED",
+                "Content-Length: 26\r\n",
+                "{\"values\":[[\"=sum(b:a)\"]]}",
+            ),
+            (
+                "GET /v4/spreadsheets/book1/values/A1?valueRenderOption=FORMULA",
+                "",
+                "",
+            ),
+        ],
+        OK,
+        "",
+        "{\"majorDimension\":\"ROWS\",\"range\":\"Sheet1!A1\",\"values\":[[\"=sum(A:B)\"]]}",
+    ),
+    (
+        &[
+            (
+                "PUT /v4/spreadsheets/book1/values/A1?valueInputOption=USER_ENTERED",
+                "Content-Length: 21\r\n",
+                "{\"values\":[[\"=2:1\"]]}",
+            ),
+            (
+                "GET /v4/spreadsheets/book1/values/A1?valueRenderOption=FORMULA",
+                "",
+                "",
+            ),
+        ],
+        OK,
+        "",
+        "{\"majorDimension\":\"ROWS\",\"range\":\"Sheet1!A1\",\"values\":[[\"=1:2\"]]}",
+    ),
+    (
+        &[
+            (
+                "PUT /v4/spreadsheets/book1/values/A1?valueInputOption=USER_ENTERED",
+                "Content-Length: 22\r\n",
+                "{\"values\":[[\"=b5:a\"]]}",
+            ),
+            (
+                "GET /v4/spreadsheets/book1/values/A1?valueRenderOption=FORMULA",
+                "",
+                "",
+            ),
+        ],
+        OK,
+        "",
+        "{\"majorDimension\":\"ROWS\",\"range\":\"Sheet1!A1\",\"values\":[[\"=A5:B\"]]}",
+    ),
+    (
+        &[
+            (
+                "PUT /v4/spreadsheets/book1/values/A1?valueInputOption=USER_ENTERED",
+                "Content-Length: 20\r\n",
+                "{\"values\":[[\"=1+\"]]}",
+            ),
+            (
+                "GET /v4/spreadsheets/book1/values/A1?valueRenderOption=FORMULA",
+                "",
+                "",
+            ),
+        ],
+        OK,
+        "",
+        "{\"majorDimension\":\"ROWS\",\"range\":\"Sheet1!A1\",\"values\":[[\"=1+\"]]}",
+    ),
+    (
+        &[
+            (
+                "PUT /v4/spreadsheets/book1/values/A1?valueInputOption=USER_ENTERED",
+                "Content-Length: 22\r\n",
+                "{\"values\":[[\"=a1^2\"]]}",
+            ),
+            (
+                "GET /v4/spreadsheets/book1/values/A1?valueRenderOption=FORMULA",
+                "",
+                "",
+            ),
+        ],
+        OK,
+        "",
+        "{\"majorDimension\":\"ROWS\",\"range\":\"Sheet1!A1\",\"values\":[[\"=a1^2\"]]}",
+    ),
+    (
+        &[
+            (
+                "PUT /v4/spreadsheets/book1/values/A1?valueInputOption=USER_ENTERED",
+                "Content-Length: 25\r\n",
+                "{\"values\":[[\"=rate*a1\"]]}",
+            ),
+            (
+                "GET /v4/spreadsheets/book1/values/A1?valueRenderOption=FORMULA",
+                "",
+                "",
+            ),
+        ],
+        OK,
+        "",
+        "{\"majorDimension\":\"ROWS\",\"range\":\"Sheet1!A1\",\"values\":[[\"=rate*A1\"]]}",
+    ),
+    (
+        &[
+            (
+                "PUT /v4/spreadsheets/book1/values/A1?valueInputOption=USER_ENTERED",
+                "Content-Length: 27\r\n",
+                "{\"values\":[[\"=\\\"a1\\\"&a1\"]]}",
+            ),
+            (
+                "GET /v4/spreadsheets/book1/values/A1?valueRenderOption=FORMULA",
+                "",
+                "",
+            ),
+        ],
+        OK,
+        "",
+        "{\"majorDimension\":\"ROWS\",\"range\":\"Sheet1!A1\",\"values\":[[\"=\\\"a1\\\"&A1\"]]}",
+    ),
+    (
+        &[
+            (
+                "PUT /v4/spreadsheets/book1/values/A1?valueInputOption=USER_ENTERED",
+                "Content-Length: 23\r\n",
+                "{\"values\":[[\"= true\"]]}",
+            ),
+            (
+                "GET /v4/spreadsheets/book1/values/A1?valueRenderOption=FORMULA",
+                "",
+                "",
+            ),
+        ],
+        OK,
+        "",
+        "{\"majorDimension\":\"ROWS\",\"range\":\"Sheet1!A1\",\"values\":[[\"= true\"]]}",
+    ),
+    (
+        &[
+            (
+                "PUT /v4/spreadsheets/book1/values/A1?valueInputOption=USER_ENTERED",
+                "Content-Length: 23\r\n",
+                "{\"values\":[[\"=#ref!\"]]}",
+            ),
+            (
+                "GET /v4/spreadsheets/book1/values/A1?valueRenderOption=FORMULA",
+                "",
+                "",
+            ),
+        ],
+        OK,
+        "",
+        "{\"majorDimension\":\"ROWS\",\"range\":\"Sheet1!A1\",\"values\":[[\"=#ref!\"]]}",
+    ),
+    (
+        &[
+            (
+                "PUT /v4/spreadsheets/book1/values/A1?valueInputOption=USER_ENTERED",
+                "Content-Length: 26\r\n",
+                "{\"values\":[[\"=#REF!+a1\"]]}",
+            ),
+            (
+                "GET /v4/spreadsheets/book1/values/A1?valueRenderOption=FORMULA",
+                "",
+                "",
+            ),
+        ],
+        OK,
+        "",
+        "{\"majorDimension\":\"ROWS\",\"range\":\"Sheet1!A1\",\"values\":[[\"=#REF!+A1\"]]}",
+    ),
+];
+
+/// Texts as they are typed, and what they are, known from outside.
+pub(crate) static TYPED: [Exchange; 30] = [
+    (
+        &[
+            (
+                "PUT /v4/spreadsheets/book1/values/A1?valueInputOption=USER_ENTERED",
+                "Content-Length: 18\r\n",
+                "{\"values\":[[\"=\"]]}",
+            ),
+            (
+                "GET /v4/spreadsheets/book1/values/A1?valueRenderOption=FORMULA",
+                "",
+                "",
+            ),
+        ],
+        OK,
+        "",
+        "{\"majorDimension\":\"ROWS\",\"range\":\"Sheet1!A1\",\"values\":[[\"=\"]]}",
+    ),
+    (
+        &[
+            (
+                "PUT /v4/spreadsheets/book1/values/A1?valueInputOption=USER_ENTERED",
+                "Content-Length: 21\r\n",
+                "{\"values\":[[\"'=a1\"]]}",
+            ),
+            (
+                "GET /v4/spreadsheets/book1/values/A1?valueRenderOption=FORMULA",
+                "",
+                "",
+            ),
+        ],
+        OK,
+        "",
+        "{\"majorDimension\":\"ROWS\",\"range\":\"Sheet1!A1\",\"values\":[[\"=a1\"]]}",
+    ),
+    (
+        &[
+            (
+                "PUT /v4/spreadsheets/book1/values/A1?valueInputOption=USER_ENTERED",
+                "Content-Length: 19\r\n",
+                "{\"values\":[[\"'5\"]]}",
+            ),
+            (
+                "GET /v4/spreadsheets/book1/values/A1?valueRenderOption=FORMULA",
+                "",
+                "",
+            ),
+        ],
+        OK,
+        "",
+        "{\"majorDimension\":\"ROWS\",\"range\":\"Sheet1!A1\",\"values\":[[\"5\"]]}",
+    ),
+    (
+        &[
+            (
+                "PUT /v4/spreadsheets/book1/values/A1?valueInputOption=USER_ENTERED",
+                "Content-Length: 18\r\n",
+                "{\"values\":[[\"'\"]]}",
+            ),
+            (
+                "GET /v4/spreadsheets/book1/values/A1?valueRenderOption=FORMULA",
+                "",
+                "",
+            ),
+        ],
+        OK,
+        "",
+        "{\"majorDimension\":\"ROWS\",\"range\":\"Sheet1!A1\"}",
+    ),
+    (
+        &[
+            (
+                "PUT /v4/spreadsheets/book1/values/A1?valueInputOption=USER_ENTERED",
+                "Content-Length: 18\r\n",
+                "{\"values\":[[\"5\"]]}",
+            ),
+            (
+                "GET /v4/spreadsheets/book1/values/A1?valueRenderOption=FORMULA",
+                "",
+                "",
+            ),
+        ],
+        OK,
+        "",
+        "{\"majorDimension\":\"ROWS\",\"range\":\"Sheet1!A1\",\"values\":[[5]]}",
+    ),
+    (
+        &[
+            (
+                "PUT /v4/spreadsheets/book1/values/A1?valueInputOption=USER_ENTERED",
+                "Content-Length: 21\r\n",
+                "{\"values\":[[\"+007\"]]}",
+            ),
+            (
+                "GET /v4/spreadsheets/book1/values/A1?valueRenderOption=FORMULA",
+                "",
+                "",
+            ),
+        ],
+        OK,
+        "",
+        "{\"majorDimension\":\"ROWS\",\"range\":\"Sheet1!A1\",\"values\":[[7]]}",
+    ),
+    (
+        &[
+            (
+                "PUT /v4/spreadsheets/book1/values/A1?valueInputOption=USER_ENTERED",
+                "Content-Length: 19\r\n",
+                "{\"values\":[[\"-5\"]]}",
+            ),
+            (
+                "GET /v4/spreadsheets/book1/values/A1?valueRenderOption=FORMULA",
+                "",
+                "",
+            ),
+        ],
+        OK,
+        "",
+        "{\"majorDimension\":\"ROWS\",\"range\":\"Sheet1!A1\",\"values\":[[-5]]}",
+    ),
+    (
+        &[
+            (
+                "PUT /v4/spreadsheets/book1/values/A1?valueInputOption=USER_ENTERED",
+                "Content-Length: 18\r\n",
+                "{\"values\":[[\"5\"]]}",
+            ),
+            ("GET /v4/spreadsheets/book1/values/A1", "", ""),
+        ],
+        OK,
+        "",
+        "{\"majorDimension\":\"ROWS\",\"range\":\"Sheet1!A1\",\"values\":[[\"5\"]]}",
+    ),
+    (
+        &[
+            (
+                "PUT /v4/spreadsheets/book1/values/A1?valueInputOption=USER_ENTERED",
+                "Content-Length: 21\r\n",
+                "{\"values\":[[\"true\"]]}",
+            ),
+            (
+                "GET /v4/spreadsheets/book1/values/A1?valueRenderOption=FORMULA",
+                "",
+                "",
+            ),
+        ],
+        OK,
+        "",
+        "{\"majorDimension\":\"ROWS\",\"range\":\"Sheet1!A1\",\"values\":[[true]]}",
+    ),
+    (
+        &[
+            (
+                "PUT /v4/spreadsheets/book1/values/A1?valueInputOption=USER_ENTERED",
+                "Content-Length: 22\r\n",
+                "{\"values\":[[\"False\"]]}",
+            ),
+            (
+                "GET /v4/spreadsheets/book1/values/A1?valueRenderOption=FORMULA",
+                "",
+                "",
+            ),
+        ],
+        OK,
+        "",
+        "{\"majorDimension\":\"ROWS\",\"range\":\"Sheet1!A1\",\"values\":[[false]]}",
+    ),
+    (
+        &[
+            (
+                "PUT /v4/spreadsheets/book1/values/A1?valueInputOption=USER_ENTERED",
+                "Content-Length: 21\r\n",
+                "{\"values\":[[\"true\"]]}",
+            ),
+            ("GET /v4/spreadsheets/book1/values/A1", "", ""),
+        ],
+        OK,
+        "",
+        "{\"majorDimension\":\"ROWS\",\"range\":\"Sheet1!A1\",\"values\":[[\"TRUE\"]]}",
+    ),
+    (
+        &[
+            (
+                "PUT /v4/spreadsheets/book1/values/A1?valueInputOption=USER_ENTERED",
+                "Content-Length: 22\r\n",
+                "{\"values\":[[\"1,000\"]]}",
+            ),
+            (
+                "GET /v4/spreadsheets/book1/values/A1?valueRenderOption=FORMULA",
+                "",
+                "",
+            ),
+        ],
+        OK,
+        "",
+        "{\"majorDimension\":\"ROWS\",\"range\":\"Sheet1!A1\",\"values\":[[\"1,000\"]]}",
+    ),
+    (
+        &[
+            (
+                "PUT /v4/spreadsheets/book1/values/A1?valueInputOption=USER_ENTERED",
+                "Content-Length: 19\r\n",
+                "{\"values\":[[\" 5\"]]}",
+            ),
+            (
+                "GET /v4/spreadsheets/book1/values/A1?valueRenderOption=FORMULA",
+                "",
+                "",
+            ),
+        ],
+        OK,
+        "",
+        "{\"majorDimension\":\"ROWS\",\"range\":\"Sheet1!A1\",\"values\":[[\" 5\"]]}",
+    ),
+    (
+        &[
+            (
+                "PUT /v4/spreadsheets/book1/values/A1?valueInputOption=USER_ENTERED",
+                "Content-Length: 16\r\n",
+                "{\"values\":[[5]]}",
+            ),
+            (
+                "GET /v4/spreadsheets/book1/values/A1?valueRenderOption=FORMULA",
+                "",
+                "",
+            ),
+        ],
+        OK,
+        "",
+        "{\"majorDimension\":\"ROWS\",\"range\":\"Sheet1!A1\",\"values\":[[5]]}",
+    ),
+    (
+        &[(
+            "PUT /v4/spreadsheets/book1/values/A1?valueInputOption=USER_ENTERED",
+            "Content-Length: 21\r\n",
+            "{\"values\":[[\"12.5\"]]}",
+        )],
+        BAD_REQUEST,
+        "",
+        "{\"error\":{\"code\":400,\"message\":\"BadNumber\",\"status\":\"INVALID_ARGUMENT\"}}",
+    ),
+    (
+        &[(
+            "PUT /v4/spreadsheets/book1/values/A1?valueInputOption=USER_ENTERED",
+            "Content-Length: 33\r\n",
+            "{\"values\":[[\"9007199254740993\"]]}",
+        )],
+        BAD_REQUEST,
+        "",
+        "{\"error\":{\"code\":400,\"message\":\"BadNumber\",\"status\":\"INVALID_ARGUMENT\"}}",
+    ),
+    (
+        &[(
+            "PUT /v4/spreadsheets/book1/values/A1?valueInputOption=USER_ENTERED",
+            "Content-Length: 21\r\n",
+            "{\"values\":[[\"-1e3\"]]}",
+        )],
+        BAD_REQUEST,
+        "",
+        "{\"error\":{\"code\":400,\"message\":\"BadNumber\",\"status\":\"INVALID_ARGUMENT\"}}",
+    ),
+    (
+        &[
+            (
+                "PUT /v4/spreadsheets/book1/values/A1?valueInputOption=RAW",
+                "Content-Length: 20\r\n",
+                "{\"values\":[[\"=a1\"]]}",
+            ),
+            (
+                "GET /v4/spreadsheets/book1/values/A1?valueRenderOption=FORMULA",
+                "",
+                "",
+            ),
+        ],
+        OK,
+        "",
+        "{\"majorDimension\":\"ROWS\",\"range\":\"Sheet1!A1\",\"values\":[[\"=a1\"]]}",
+    ),
+    (
+        &[
+            (
+                "PUT /v4/spreadsheets/book1/values/A1?valueInputOption=RAW",
+                "Content-Length: 21\r\n",
+                "{\"values\":[[\"12.5\"]]}",
+            ),
+            (
+                "GET /v4/spreadsheets/book1/values/A1?valueRenderOption=FORMULA",
+                "",
+                "",
+            ),
+        ],
+        OK,
+        "",
+        "{\"majorDimension\":\"ROWS\",\"range\":\"Sheet1!A1\",\"values\":[[\"12.5\"]]}",
+    ),
+    (
+        &[
+            (
+                "PUT /v4/spreadsheets/book1/values/A1?valueInputOption=USER_ENTERED",
+                "Content-Length: 32\r\n",
+                "{\"values\":[[-9007199254740992]]}",
+            ),
+            (
+                "GET /v4/spreadsheets/book1/values/A1?valueRenderOption=FORMULA",
+                "",
+                "",
+            ),
+        ],
+        OK,
+        "",
+        "{\"majorDimension\":\"ROWS\",\"range\":\"Sheet1!A1\",\"values\":[[-9007199254740992]]}",
+    ),
+    (
+        &[
+            (
+                "PUT /v4/spreadsheets/book1/values/A1?valueInputOption=USER_ENTERED",
+                "Content-Length: 33\r\n",
+                "{\"values\":[[\"9007199254740992\"]]}",
+            ),
+            (
+                "GET /v4/spreadsheets/book1/values/A1?valueRenderOption=FORMULA",
+                "",
+                "",
+            ),
+        ],
+        OK,
+        "",
+        "{\"majorDimension\":\"ROWS\",\"range\":\"Sheet1!A1\",\"values\":[[9007199254740992]]}",
+    ),
+    (
+        &[(
+            "PUT /v4/spreadsheets/book1/values/A1?valueInputOption=USER_ENTERED",
+            "Content-Length: 34\r\n",
+            "{\"values\":[[\"-9007199254740993\"]]}",
+        )],
+        BAD_REQUEST,
+        "",
+        "{\"error\":{\"code\":400,\"message\":\"BadNumber\",\"status\":\"INVALID_ARGUMENT\"}}",
+    ),
+    (
+        &[(
+            "PUT /v4/spreadsheets/book1/values/A1?valueInputOption=USER_ENTERED",
+            "Content-Length: 19\r\n",
+            "{\"values\":[[\".5\"]]}",
+        )],
+        BAD_REQUEST,
+        "",
+        "{\"error\":{\"code\":400,\"message\":\"BadNumber\",\"status\":\"INVALID_ARGUMENT\"}}",
+    ),
+    (
+        &[(
+            "PUT /v4/spreadsheets/book1/values/A1?valueInputOption=USER_ENTERED",
+            "Content-Length: 19\r\n",
+            "{\"values\":[[\"5.\"]]}",
+        )],
+        BAD_REQUEST,
+        "",
+        "{\"error\":{\"code\":400,\"message\":\"BadNumber\",\"status\":\"INVALID_ARGUMENT\"}}",
+    ),
+    (
+        &[
+            (
+                "PUT /v4/spreadsheets/book1/values/A1?valueInputOption=USER_ENTERED",
+                "Content-Length: 19\r\n",
+                "{\"values\":[[\"1e\"]]}",
+            ),
+            (
+                "GET /v4/spreadsheets/book1/values/A1?valueRenderOption=FORMULA",
+                "",
+                "",
+            ),
+        ],
+        OK,
+        "",
+        "{\"majorDimension\":\"ROWS\",\"range\":\"Sheet1!A1\",\"values\":[[\"1e\"]]}",
+    ),
+    (
+        &[
+            (
+                "PUT /v4/spreadsheets/book1/values/A1?valueInputOption=USER_ENTERED",
+                "Content-Length: 27\r\n",
+                "{\"values\":[[\"2026-11-28\"]]}",
+            ),
+            (
+                "GET /v4/spreadsheets/book1/values/A1?valueRenderOption=FORMULA",
+                "",
+                "",
+            ),
+        ],
+        OK,
+        "",
+        "{\"majorDimension\":\"ROWS\",\"range\":\"Sheet1!A1\",\"values\":[[\"2026-11-28\"]]}",
+    ),
+    (
+        &[
+            (
+                "PUT /v4/spreadsheets/book1/values/A1?valueInputOption=USER_ENTERED",
+                "Content-Length: 20\r\n",
+                "{\"values\":[[\"12%\"]]}",
+            ),
+            (
+                "GET /v4/spreadsheets/book1/values/A1?valueRenderOption=FORMULA",
+                "",
+                "",
+            ),
+        ],
+        OK,
+        "",
+        "{\"majorDimension\":\"ROWS\",\"range\":\"Sheet1!A1\",\"values\":[[\"12%\"]]}",
+    ),
+    (
+        &[
+            (
+                "PUT /v4/spreadsheets/book1/values/A1?valueInputOption=USER_ENTERED",
+                "Content-Length: 19\r\n",
+                "{\"values\":[[\"$5\"]]}",
+            ),
+            (
+                "GET /v4/spreadsheets/book1/values/A1?valueRenderOption=FORMULA",
+                "",
+                "",
+            ),
+        ],
+        OK,
+        "",
+        "{\"majorDimension\":\"ROWS\",\"range\":\"Sheet1!A1\",\"values\":[[\"$5\"]]}",
+    ),
+    (
+        &[
+            (
+                "PUT /v4/spreadsheets/book1/values/A1?valueInputOption=USER_ENTERED",
+                "Content-Length: 22\r\n",
+                "{\"values\":[[\"1.2.3\"]]}",
+            ),
+            (
+                "GET /v4/spreadsheets/book1/values/A1?valueRenderOption=FORMULA",
+                "",
+                "",
+            ),
+        ],
+        OK,
+        "",
+        "{\"majorDimension\":\"ROWS\",\"range\":\"Sheet1!A1\",\"values\":[[\"1.2.3\"]]}",
+    ),
+    (
+        &[
+            (
+                "PUT /v4/spreadsheets/book1/values/A1?valueInputOption=USER_ENTERED",
+                "Content-Length: 22\r\n",
+                "{\"values\":[[\"TRUEx\"]]}",
+            ),
+            (
+                "GET /v4/spreadsheets/book1/values/A1?valueRenderOption=FORMULA",
+                "",
+                "",
+            ),
+        ],
+        OK,
+        "",
+        "{\"majorDimension\":\"ROWS\",\"range\":\"Sheet1!A1\",\"values\":[[\"TRUEx\"]]}",
+    ),
+];
+
+/// Formulas at their limits and past them, and what stands in the place of a formula, known from outside.
+pub(crate) static LIMITS: [Exchange; 18] = [
+    (
+        &[(
+            "PUT /v4/spreadsheets/book1/values/A1?valueInputOption=USER_ENTERED",
+            "Content-Length: 530\r\n",
+            "{\"values\":[[\"=-------------------------------------------------------------------------------------------------------------------------------------------------------------------------------------------------------------------------------------------------------------------------------------------------------------------------------------------------------------------------------------------------------------------------------------------------------------------------------------------------------------------------------1\"]]}",
+        )],
+        OK,
+        "",
+        "{\"spreadsheetId\":\"book1\",\"updatedCells\":1,\"updatedColumns\":1,\"updatedRange\":\"Sheet1!A1\",\"updatedRows\":1}",
+    ),
+    (
+        &[(
+            "PUT /v4/spreadsheets/book1/values/A1?valueInputOption=USER_ENTERED",
+            "Content-Length: 531\r\n",
+            "{\"values\":[[\"=--------------------------------------------------------------------------------------------------------------------------------------------------------------------------------------------------------------------------------------------------------------------------------------------------------------------------------------------------------------------------------------------------------------------------------------------------------------------------------------------------------------------------------1\"]]}",
+        )],
+        BAD_REQUEST,
+        "",
+        "{\"error\":{\"code\":400,\"message\":\"PastLimit tokens\",\"status\":\"INVALID_ARGUMENT\"}}",
+    ),
+    (
+        &[(
+            "PUT /v4/spreadsheets/book1/values/A1?valueInputOption=USER_ENTERED",
+            "Content-Length: 209\r\n",
+            "{\"values\":[[\"=a1+a1+a1+a1+a1+a1+a1+a1+a1+a1+a1+a1+a1+a1+a1+a1+a1+a1+a1+a1+a1+a1+a1+a1+a1+a1+a1+a1+a1+a1+a1+a1+a1+a1+a1+a1+a1+a1+a1+a1+a1+a1+a1+a1+a1+a1+a1+a1+a1+a1+a1+a1+a1+a1+a1+a1+a1+a1+a1+a1+a1+a1+a1+a1\"]]}",
+        )],
+        OK,
+        "",
+        "{\"spreadsheetId\":\"book1\",\"updatedCells\":1,\"updatedColumns\":1,\"updatedRange\":\"Sheet1!A1\",\"updatedRows\":1}",
+    ),
+    (
+        &[(
+            "PUT /v4/spreadsheets/book1/values/A1?valueInputOption=USER_ENTERED",
+            "Content-Length: 212\r\n",
+            "{\"values\":[[\"=a1+a1+a1+a1+a1+a1+a1+a1+a1+a1+a1+a1+a1+a1+a1+a1+a1+a1+a1+a1+a1+a1+a1+a1+a1+a1+a1+a1+a1+a1+a1+a1+a1+a1+a1+a1+a1+a1+a1+a1+a1+a1+a1+a1+a1+a1+a1+a1+a1+a1+a1+a1+a1+a1+a1+a1+a1+a1+a1+a1+a1+a1+a1+a1+a1\"]]}",
+        )],
+        BAD_REQUEST,
+        "",
+        "{\"error\":{\"code\":400,\"message\":\"PastLimit references\",\"status\":\"INVALID_ARGUMENT\"}}",
+    ),
+    (
+        &[(
+            "PUT /v4/spreadsheets/book1/values/A1?valueInputOption=USER_ENTERED",
+            "Content-Length: 340\r\n",
+            "{\"values\":[[\"=a1+rate+rate+rate+rate+rate+rate+rate+rate+rate+rate+rate+rate+rate+rate+rate+rate+rate+rate+rate+rate+rate+rate+rate+rate+rate+rate+rate+rate+rate+rate+rate+rate+rate+rate+rate+rate+rate+rate+rate+rate+rate+rate+rate+rate+rate+rate+rate+rate+rate+rate+rate+rate+rate+rate+rate+rate+rate+rate+rate+rate+rate+rate+rate+rate\"]]}",
+        )],
+        BAD_REQUEST,
+        "",
+        "{\"error\":{\"code\":400,\"message\":\"PastLimit references\",\"status\":\"INVALID_ARGUMENT\"}}",
+    ),
+    (
+        &[(
+            "PUT /v4/spreadsheets/book1/values/A1?valueInputOption=USER_ENTERED",
+            "Content-Length: 83\r\n",
+            "{\"values\":[[\"=((((((((((((((((((((((((((((((((1))))))))))))))))))))))))))))))))\"]]}",
+        )],
+        OK,
+        "",
+        "{\"spreadsheetId\":\"book1\",\"updatedCells\":1,\"updatedColumns\":1,\"updatedRange\":\"Sheet1!A1\",\"updatedRows\":1}",
+    ),
+    (
+        &[(
+            "PUT /v4/spreadsheets/book1/values/A1?valueInputOption=USER_ENTERED",
+            "Content-Length: 85\r\n",
+            "{\"values\":[[\"=(((((((((((((((((((((((((((((((((1)))))))))))))))))))))))))))))))))\"]]}",
+        )],
+        BAD_REQUEST,
+        "",
+        "{\"error\":{\"code\":400,\"message\":\"PastLimit depth\",\"status\":\"INVALID_ARGUMENT\"}}",
+    ),
+    (
+        &[(
+            "PUT /v4/spreadsheets/book1/values/A1?valueInputOption=USER_ENTERED",
+            "Content-Length: 282\r\n",
+            "{\"values\":[[\"=(((((((((((((((((((((((((((((((((1)))))))))))))))))))))))))))))))))+a1+a1+a1+a1+a1+a1+a1+a1+a1+a1+a1+a1+a1+a1+a1+a1+a1+a1+a1+a1+a1+a1+a1+a1+a1+a1+a1+a1+a1+a1+a1+a1+a1+a1+a1+a1+a1+a1+a1+a1+a1+a1+a1+a1+a1+a1+a1+a1+a1+a1+a1+a1+a1+a1+a1+a1+a1+a1+a1+a1+a1+a1+a1+a1+a1+1\"]]}",
+        )],
+        BAD_REQUEST,
+        "",
+        "{\"error\":{\"code\":400,\"message\":\"PastLimit references\",\"status\":\"INVALID_ARGUMENT\"}}",
+    ),
+    (
+        &[(
+            "PUT /v4/spreadsheets/book1/values/A1:A3?valueInputOption=USER_ENTERED",
+            "Content-Length: 804\r\n",
+            "{\"values\":[[\"=(((((((((((((((((((((((((((((((((1)))))))))))))))))))))))))))))))))\"],[\"=a1+a1+a1+a1+a1+a1+a1+a1+a1+a1+a1+a1+a1+a1+a1+a1+a1+a1+a1+a1+a1+a1+a1+a1+a1+a1+a1+a1+a1+a1+a1+a1+a1+a1+a1+a1+a1+a1+a1+a1+a1+a1+a1+a1+a1+a1+a1+a1+a1+a1+a1+a1+a1+a1+a1+a1+a1+a1+a1+a1+a1+a1+a1+a1+a1\"],[\"=--------------------------------------------------------------------------------------------------------------------------------------------------------------------------------------------------------------------------------------------------------------------------------------------------------------------------------------------------------------------------------------------------------------------------------------------------------------------------------------------------------------------------------1\"]]}",
+        )],
+        BAD_REQUEST,
+        "",
+        "{\"error\":{\"code\":400,\"message\":\"PastLimit tokens\",\"status\":\"INVALID_ARGUMENT\"}}",
+    ),
+    (
+        &[(
+            "PUT /v4/spreadsheets/book1/values/A1:A3?valueInputOption=USER_ENTERED",
+            "Content-Length: 289\r\n",
+            "{\"values\":[[\"=(((((((((((((((((((((((((((((((((1)))))))))))))))))))))))))))))))))\"],[\"=a1+a1+a1+a1+a1+a1+a1+a1+a1+a1+a1+a1+a1+a1+a1+a1+a1+a1+a1+a1+a1+a1+a1+a1+a1+a1+a1+a1+a1+a1+a1+a1+a1+a1+a1+a1+a1+a1+a1+a1+a1+a1+a1+a1+a1+a1+a1+a1+a1+a1+a1+a1+a1+a1+a1+a1+a1+a1+a1+a1+a1+a1+a1+a1+a1\"],[1]]}",
+        )],
+        BAD_REQUEST,
+        "",
+        "{\"error\":{\"code\":400,\"message\":\"PastLimit references\",\"status\":\"INVALID_ARGUMENT\"}}",
+    ),
+    (
+        &[(
+            "PUT /v4/spreadsheets/book1/values/A1:A2?valueInputOption=USER_ENTERED",
+            "Content-Length: 539\r\n",
+            "{\"values\":[[1],[2],[\"=--------------------------------------------------------------------------------------------------------------------------------------------------------------------------------------------------------------------------------------------------------------------------------------------------------------------------------------------------------------------------------------------------------------------------------------------------------------------------------------------------------------------------------1\"]]}",
+        )],
+        BAD_REQUEST,
+        "",
+        "{\"error\":{\"code\":400,\"message\":\"ValuesPastRange\",\"status\":\"INVALID_ARGUMENT\"}}",
+    ),
+    (
+        &[(
+            "PUT /v4/spreadsheets/book1/values/A1:A2?valueInputOption=USER_ENTERED",
+            "Content-Length: 93\r\n",
+            "{\"values\":[[1],[\"=(((((((((((((((((((((((((((((((((1)))))))))))))))))))))))))))))))))\"],[2]]}",
+        )],
+        BAD_REQUEST,
+        "",
+        "{\"error\":{\"code\":400,\"message\":\"PastLimit depth\",\"status\":\"INVALID_ARGUMENT\"}}",
+    ),
+    (
+        &[(
+            "PUT /v4/spreadsheets/book1/values/A1?valueInputOption=RAW",
+            "Content-Length: 531\r\n",
+            "{\"values\":[[\"=--------------------------------------------------------------------------------------------------------------------------------------------------------------------------------------------------------------------------------------------------------------------------------------------------------------------------------------------------------------------------------------------------------------------------------------------------------------------------------------------------------------------------------1\"]]}",
+        )],
+        OK,
+        "",
+        "{\"spreadsheetId\":\"book1\",\"updatedCells\":1,\"updatedColumns\":1,\"updatedRange\":\"Sheet1!A1\",\"updatedRows\":1}",
+    ),
+    (
+        &[
+            (
+                "PUT /v4/spreadsheets/book1/values/A1?valueInputOption=USER_ENTERED",
+                "Content-Length: 16\r\n",
+                "{\"values\":[[1]]}",
+            ),
+            (
+                "PUT /v4/spreadsheets/book1/values/A1:A2?valueInputOption=USER_ENTERED",
+                "Content-Length: 92\r\n",
+                "{\"values\":[[\"=2\"],[\"=(((((((((((((((((((((((((((((((((1)))))))))))))))))))))))))))))))))\"]]}",
+            ),
+            (
+                "GET /v4/spreadsheets/book1/values/A1:A2?valueRenderOption=FORMULA",
+                "",
+                "",
+            ),
+        ],
+        OK,
+        "",
+        "{\"majorDimension\":\"ROWS\",\"range\":\"Sheet1!A1:A2\",\"values\":[[1]]}",
+    ),
+    (
+        &[
+            (
+                "PUT /v4/spreadsheets/book1/values/A1?valueInputOption=USER_ENTERED",
+                "Content-Length: 20\r\n",
+                "{\"values\":[[\"=b1\"]]}",
+            ),
+            (
+                "PUT /v4/spreadsheets/book1/values/A1?valueInputOption=RAW",
+                "Content-Length: 19\r\n",
+                "{\"values\":[[\"=1\"]]}",
+            ),
+            (
+                "GET /v4/spreadsheets/book1/values/A1?valueRenderOption=FORMULA",
+                "",
+                "",
+            ),
+        ],
+        OK,
+        "",
+        "{\"majorDimension\":\"ROWS\",\"range\":\"Sheet1!A1\",\"values\":[[\"=1\"]]}",
+    ),
+    (
+        &[
+            (
+                "PUT /v4/spreadsheets/book1/values/A1?valueInputOption=USER_ENTERED",
+                "Content-Length: 20\r\n",
+                "{\"values\":[[\"=b1\"]]}",
+            ),
+            (
+                "PUT /v4/spreadsheets/book1/values/A1?valueInputOption=USER_ENTERED",
+                "Content-Length: 19\r\n",
+                "{\"values\":[[null]]}",
+            ),
+            (
+                "GET /v4/spreadsheets/book1/values/A1?valueRenderOption=FORMULA",
+                "",
+                "",
+            ),
+        ],
+        OK,
+        "",
+        "{\"majorDimension\":\"ROWS\",\"range\":\"Sheet1!A1\",\"values\":[[\"=B1\"]]}",
+    ),
+    (
+        &[
+            (
+                "PUT /v4/spreadsheets/book1/values/A1?valueInputOption=USER_ENTERED",
+                "Content-Length: 20\r\n",
+                "{\"values\":[[\"=b1\"]]}",
+            ),
+            (
+                "PUT /v4/spreadsheets/book1/values/A1?valueInputOption=USER_ENTERED",
+                "Content-Length: 17\r\n",
+                "{\"values\":[[\"\"]]}",
+            ),
+            (
+                "GET /v4/spreadsheets/book1/values/A1?valueRenderOption=FORMULA",
+                "",
+                "",
+            ),
+        ],
+        OK,
+        "",
+        "{\"majorDimension\":\"ROWS\",\"range\":\"Sheet1!A1\"}",
+    ),
+    (
+        &[(
+            "PUT /v4/spreadsheets/book1/values/A1:A1?valueInputOption=RAW",
+            "Content-Length: 24\r\n",
+            "{\"values\":[[1,2],[3,4]]}",
+        )],
+        OK,
+        "",
+        "{\"spreadsheetId\":\"book1\",\"updatedCells\":4,\"updatedColumns\":2,\"updatedRange\":\"Sheet1!A1:B2\",\"updatedRows\":2}",
+    ),
+];
+
+/// Reads and clears of several ranges, known from outside.
+pub(crate) static LISTS: [Exchange; 19] = [
+    (
+        &[
+            (
+                "PUT /v4/spreadsheets/book1/values/A1:B2?valueInputOption=RAW",
+                "Content-Length: 27\r\n",
+                "{\"values\":[[1,\"x\"],[true]]}",
+            ),
+            (
+                "GET /v4/spreadsheets/book1/values:batchGet?ranges=A1",
+                "",
+                "",
+            ),
+        ],
+        OK,
+        "",
+        "{\"spreadsheetId\":\"book1\",\"valueRanges\":[{\"majorDimension\":\"ROWS\",\"range\":\"Sheet1!A1\",\"values\":[[\"1\"]]}]}",
+    ),
+    (
+        &[
+            (
+                "PUT /v4/spreadsheets/book1/values/A1:B2?valueInputOption=RAW",
+                "Content-Length: 27\r\n",
+                "{\"values\":[[1,\"x\"],[true]]}",
+            ),
+            (
+                "GET /v4/spreadsheets/book1/values:batchGet?ranges=A1&ranges=B1:B2",
+                "",
+                "",
+            ),
+        ],
+        OK,
+        "",
+        "{\"spreadsheetId\":\"book1\",\"valueRanges\":[{\"majorDimension\":\"ROWS\",\"range\":\"Sheet1!A1\",\"values\":[[\"1\"]]},{\"majorDimension\":\"ROWS\",\"range\":\"Sheet1!B1:B2\",\"values\":[[\"x\"]]}]}",
+    ),
+    (
+        &[
+            (
+                "PUT /v4/spreadsheets/book1/values/A1:B2?valueInputOption=RAW",
+                "Content-Length: 27\r\n",
+                "{\"values\":[[1,\"x\"],[true]]}",
+            ),
+            (
+                "GET /v4/spreadsheets/book1/values:batchGet?ranges=B1:B2&ranges=A1",
+                "",
+                "",
+            ),
+        ],
+        OK,
+        "",
+        "{\"spreadsheetId\":\"book1\",\"valueRanges\":[{\"majorDimension\":\"ROWS\",\"range\":\"Sheet1!B1:B2\",\"values\":[[\"x\"]]},{\"majorDimension\":\"ROWS\",\"range\":\"Sheet1!A1\",\"values\":[[\"1\"]]}]}",
+    ),
+    (
+        &[
+            (
+                "PUT /v4/spreadsheets/book1/values/A1:B2?valueInputOption=RAW",
+                "Content-Length: 27\r\n",
+                "{\"values\":[[1,\"x\"],[true]]}",
+            ),
+            (
+                "GET /v4/spreadsheets/book1/values:batchGet?ranges=A1:B2&ranges=A1:B2",
+                "",
+                "",
+            ),
+        ],
+        OK,
+        "",
+        "{\"spreadsheetId\":\"book1\",\"valueRanges\":[{\"majorDimension\":\"ROWS\",\"range\":\"Sheet1!A1:B2\",\"values\":[[\"1\",\"x\"],[\"TRUE\"]]},{\"majorDimension\":\"ROWS\",\"range\":\"Sheet1!A1:B2\",\"values\":[[\"1\",\"x\"],[\"TRUE\"]]}]}",
+    ),
+    (
+        &[
+            (
+                "PUT /v4/spreadsheets/book1/values/A1:B2?valueInputOption=RAW",
+                "Content-Length: 27\r\n",
+                "{\"values\":[[1,\"x\"],[true]]}",
+            ),
+            (
+                "GET /v4/spreadsheets/book1/values:batchGet?ranges=A1:B2&majorDimension=COLUMNS&valueRenderOption=UNFORMATTED_VALUE",
+                "",
+                "",
+            ),
+        ],
+        OK,
+        "",
+        "{\"spreadsheetId\":\"book1\",\"valueRanges\":[{\"majorDimension\":\"COLUMNS\",\"range\":\"Sheet1!A1:B2\",\"values\":[[1,true],[\"x\"]]}]}",
+    ),
+    (
+        &[
+            (
+                "PUT /v4/spreadsheets/book1/values/A1:B2?valueInputOption=RAW",
+                "Content-Length: 27\r\n",
+                "{\"values\":[[1,\"x\"],[true]]}",
+            ),
+            (
+                "GET /v4/spreadsheets/book1/values:batchGet?ranges=D4&ranges=C:C",
+                "",
+                "",
+            ),
+        ],
+        OK,
+        "",
+        "{\"spreadsheetId\":\"book1\",\"valueRanges\":[{\"majorDimension\":\"ROWS\",\"range\":\"Sheet1!D4\"},{\"majorDimension\":\"ROWS\",\"range\":\"Sheet1!C1:C1000\"}]}",
+    ),
+    (
+        &[
+            (
+                "PUT /v4/spreadsheets/book1/values/A1:B2?valueInputOption=RAW",
+                "Content-Length: 27\r\n",
+                "{\"values\":[[1,\"x\"],[true]]}",
+            ),
+            (
+                "GET /v4/spreadsheets/book1/values:batchGet?ranges=A1&ranges=Nowhere!A1",
+                "",
+                "",
+            ),
+        ],
+        BAD_REQUEST,
+        "",
+        "{\"error\":{\"code\":400,\"message\":\"ranges[1]: NoSheet\",\"status\":\"INVALID_ARGUMENT\"}}",
+    ),
+    (
+        &[
+            (
+                "PUT /v4/spreadsheets/book1/values/A1:B2?valueInputOption=RAW",
+                "Content-Length: 27\r\n",
+                "{\"values\":[[1,\"x\"],[true]]}",
+            ),
+            (
+                "GET /v4/spreadsheets/book1/values:batchGet?ranges=A01&ranges=Nowhere!A1",
+                "",
+                "",
+            ),
+        ],
+        BAD_REQUEST,
+        "",
+        "{\"error\":{\"code\":400,\"message\":\"ranges[0]: BadRange\",\"status\":\"INVALID_ARGUMENT\"}}",
+    ),
+    (
+        &[
+            (
+                "PUT /v4/spreadsheets/book1/values/A1:B2?valueInputOption=RAW",
+                "Content-Length: 27\r\n",
+                "{\"values\":[[1,\"x\"],[true]]}",
+            ),
+            (
+                "GET /v4/spreadsheets/book1/values:batchGet?ranges=A1&ranges=B1&ranges=ZZZ1&ranges=A01",
+                "",
+                "",
+            ),
+        ],
+        BAD_REQUEST,
+        "",
+        "{\"error\":{\"code\":400,\"message\":\"ranges[2]: OutsideGrid\",\"status\":\"INVALID_ARGUMENT\"}}",
+    ),
+    (
+        &[
+            (
+                "PUT /v4/spreadsheets/book1/values/A1:B2?valueInputOption=RAW",
+                "Content-Length: 27\r\n",
+                "{\"values\":[[1,\"x\"],[true]]}",
+            ),
+            (
+                "GET /v4/spreadsheets/book1/values:batchGet?majorDimension=ROWS",
+                "",
+                "",
+            ),
+        ],
+        BAD_REQUEST,
+        "",
+        "{\"error\":{\"code\":400,\"message\":\"EmptyBatch\",\"status\":\"INVALID_ARGUMENT\"}}",
+    ),
+    (
+        &[
+            (
+                "PUT /v4/spreadsheets/book1/values/A1:B2?valueInputOption=RAW",
+                "Content-Length: 27\r\n",
+                "{\"values\":[[1,\"x\"],[true]]}",
+            ),
+            (
+                "GET /v4/spreadsheets/book1/values:batchGet?ranges=A1&majorDimension=DIAGONAL",
+                "",
+                "",
+            ),
+        ],
+        BAD_REQUEST,
+        "",
+        "{\"error\":{\"code\":400,\"message\":\"BadQuery\",\"status\":\"INVALID_ARGUMENT\"}}",
+    ),
+    (
+        &[(
+            "GET /v4/spreadsheets/book9/values:batchGet?ranges=A1",
+            "",
+            "",
+        )],
+        NOT_FOUND,
+        "",
+        "{\"error\":{\"code\":404,\"message\":\"NoBook\",\"status\":\"NOT_FOUND\"}}",
+    ),
+    (
+        &[
+            (
+                "PUT /v4/spreadsheets/book1/values/A1:B2?valueInputOption=RAW",
+                "Content-Length: 27\r\n",
+                "{\"values\":[[1,\"x\"],[true]]}",
+            ),
+            (
+                "POST /v4/spreadsheets/book1/values:batchClear",
+                "Content-Length: 25\r\n",
+                "{\"ranges\":[\"A1\",\"B1:B2\"]}",
+            ),
+        ],
+        OK,
+        "",
+        "{\"clearedRanges\":[\"Sheet1!A1\",\"Sheet1!B1:B2\"],\"spreadsheetId\":\"book1\"}",
+    ),
+    (
+        &[
+            (
+                "PUT /v4/spreadsheets/book1/values/A1:B2?valueInputOption=RAW",
+                "Content-Length: 27\r\n",
+                "{\"values\":[[1,\"x\"],[true]]}",
+            ),
+            (
+                "POST /v4/spreadsheets/book1/values:batchClear",
+                "Content-Length: 25\r\n",
+                "{\"ranges\":[\"A1\",\"B1:B2\"]}",
+            ),
+            ("GET /v4/spreadsheets/book1/values/A1:B2", "", ""),
+        ],
+        OK,
+        "",
+        "{\"majorDimension\":\"ROWS\",\"range\":\"Sheet1!A1:B2\",\"values\":[[],[\"TRUE\"]]}",
+    ),
+    (
+        &[
+            (
+                "PUT /v4/spreadsheets/book1/values/A1:B2?valueInputOption=RAW",
+                "Content-Length: 27\r\n",
+                "{\"values\":[[1,\"x\"],[true]]}",
+            ),
+            (
+                "POST /v4/spreadsheets/book1/values:batchClear",
+                "Content-Length: 30\r\n",
+                "{\"ranges\":[\"A1\",\"Nowhere!A1\"]}",
+            ),
+        ],
+        BAD_REQUEST,
+        "",
+        "{\"error\":{\"code\":400,\"message\":\"ranges[1]: NoSheet\",\"status\":\"INVALID_ARGUMENT\"}}",
+    ),
+    (
+        &[
+            (
+                "PUT /v4/spreadsheets/book1/values/A1:B2?valueInputOption=RAW",
+                "Content-Length: 27\r\n",
+                "{\"values\":[[1,\"x\"],[true]]}",
+            ),
+            (
+                "POST /v4/spreadsheets/book1/values:batchClear",
+                "Content-Length: 30\r\n",
+                "{\"ranges\":[\"A1\",\"Nowhere!A1\"]}",
+            ),
+            ("GET /v4/spreadsheets/book1/values/A1:B2", "", ""),
+        ],
+        OK,
+        "",
+        "{\"majorDimension\":\"ROWS\",\"range\":\"Sheet1!A1:B2\",\"values\":[[\"1\",\"x\"],[\"TRUE\"]]}",
+    ),
+    (
+        &[
+            (
+                "PUT /v4/spreadsheets/book1/values/A1:B2?valueInputOption=RAW",
+                "Content-Length: 27\r\n",
+                "{\"values\":[[1,\"x\"],[true]]}",
+            ),
+            (
+                "POST /v4/spreadsheets/book1/values:batchClear",
+                "Content-Length: 25\r\n",
+                "{\"ranges\":[\"A1\",7,\"A01\"]}",
+            ),
+        ],
+        BAD_REQUEST,
+        "",
+        "{\"error\":{\"code\":400,\"message\":\"ranges[1]: BadShape\",\"status\":\"INVALID_ARGUMENT\"}}",
+    ),
+    (
+        &[
+            (
+                "PUT /v4/spreadsheets/book1/values/A1:B2?valueInputOption=RAW",
+                "Content-Length: 27\r\n",
+                "{\"values\":[[1,\"x\"],[true]]}",
+            ),
+            (
+                "POST /v4/spreadsheets/book1/values:batchClear",
+                "Content-Length: 13\r\n",
+                "{\"ranges\":[]}",
+            ),
+        ],
+        BAD_REQUEST,
+        "",
+        "{\"error\":{\"code\":400,\"message\":\"EmptyBatch\",\"status\":\"INVALID_ARGUMENT\"}}",
+    ),
+    (
+        &[
+            (
+                "PUT /v4/spreadsheets/book1/values/A1:B2?valueInputOption=RAW",
+                "Content-Length: 27\r\n",
+                "{\"values\":[[1,\"x\"],[true]]}",
+            ),
+            (
+                "POST /v4/spreadsheets/book1/values:batchClear",
+                "Content-Length: 27\r\n",
+                "{\"ranges\":[\"A1\"],\"other\":1}",
+            ),
+        ],
+        BAD_REQUEST,
+        "",
+        "{\"error\":{\"code\":400,\"message\":\"BadBody\",\"status\":\"INVALID_ARGUMENT\"}}",
     ),
 ];

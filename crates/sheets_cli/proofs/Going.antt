@@ -2,9 +2,8 @@
 use Rattle.std.proofs.Common.{◌≡◌, List, Option, Some, None, Result, Ok, Err, refl}
 use Rattle.std.specs.Prelude.{unwrap_or}
 use Rattle.world_model.specs.Book.{PlaceBook}
-use Rattle.dimension_ops.specs.declared.rule.Rule.{Rule}
 use Rattle.sheets_json.specs.declared.answer.Answer.{Answer}
-use Rattle.batch_engine.specs.Calls.{told_as}
+use Rattle.batch_engine.specs.Calls.{Refusal, told_as}
 use Rattle.batch_engine.specs.Effects.{Effect, Becomes, IsNext}
 use Rattle.sheets_cli.specs.Step.{told_by, as_fault}
 
@@ -13,9 +12,9 @@ pub gone_on : (books : List PlaceBook) (next : Option (List PlaceBook)) (effect 
     → Becomes effect books (unwrap_or next books)
 gone_on books None Effect.Nothing is = record { names = λ world stands. stands }
 gone_on books (Some after) Effect.Nothing is = absurd is
-gone_on books None (Effect.Update id sheet updates) is = absurd is
-gone_on books (Some after) (Effect.Update id sheet updates) is = is
+gone_on books None (Effect.Changes id changes) is = absurd is
+gone_on books (Some after) (Effect.Changes id changes) is = is
 
-pub told_as_fault : (judged : Result Answer Rule) → told_by (told_as judged) ≡ as_fault judged
+pub told_as_fault : (judged : Result Answer Refusal) → told_by (told_as judged) ≡ as_fault judged
 told_as_fault (Ok answer) = refl
-told_as_fault (Err broken) = refl
+told_as_fault (Err (at, broken)) = refl

@@ -1,10 +1,8 @@
 -- What one request is answered, and what it makes of the spreadsheets: the first fault of a request that is no call,
 -- and else what its call is answered (Google Sheets API v4 reference; Google's API errors).
-use Rattle.std.specs.Prelude.{◌≡◌, ◌≢◌, ℕ, Bool, true, false, ◌&&◌, ◌||◌, not, List, Result, Ok, Err, codes}
+use Rattle.std.specs.Prelude.{◌≡◌, ◌≢◌, ℕ, Bool, true, false, ◌++◌, not, List, Result, Ok, Err, codes}
 use Rattle.std.specs.Prelude.{if◌then◌else◌, Option}
-use Rattle.std.specs.List.{list_any}
 use Rattle.std.specs.Option.{is_none}
-use Rattle.std.specs.Str.{bytes_eq}
 use Rattle.serde_json.specs.Written.{compact_text}
 use Rattle.world_model.specs.Book.{PlaceBook}
 use Rattle.dimension_ops.specs.World.{book_with}
@@ -26,7 +24,8 @@ use Rattle.sheets_json.specs.declared.answer.Answer.{Answer}
 use Rattle.sheets_json.specs.declared.call.Call.{Call}
 use Rattle.sheets_json.specs.declared.call.CallFault.{CallFault}
 use Rattle.sheets_json.specs.declared.call.CallFault.TheVariants as uncalled
-use Rattle.batch_engine.specs.Calls.{IsAnswered}
+use Rattle.sheets_json.specs.Faults.{place_text}
+use Rattle.batch_engine.specs.Calls.{IsAnswered, Refusal}
 use Rattle.batch_engine.specs.Effects.{Effect, IsNext}
 use Rattle.batch_engine.specs.declared.calls.Outcome.{Outcome}
 use Rattle.batch_engine.specs.declared.calls.Outcome.TheVariants as outcome
@@ -35,22 +34,14 @@ use Rattle.sheets_cli.specs.declared.fault.Fault.TheVariants as fault
 
 -- ---- what is served
 
--- reads, writes and clears of one range are served
+-- reads, writes and clears of one range are served, and reads and clears of a list of them
 abbrev pub is_served : Verb → Bool
 is_served verb.Read = true
+is_served verb.ReadMany = true
 is_served verb.Write = true
 is_served verb.Clear = true
+is_served verb.ClearMany = true
 is_served _ = false
-
--- the query has the member with that value
-abbrev pub has_word : List ℕ → List ℕ → List (List ℕ × List ℕ) → Bool
-has_word name value query = list_any (λ member. bytes_eq member.0 name && bytes_eq member.1 value) query
-
--- texts are stored as they are, and formulas aren't shown
-abbrev pub asks_for_formulas : List (List ℕ × List ℕ) → Bool
-asks_for_formulas query =
-    has_word (codes "valueInputOption") (codes "USER_ENTERED") query
-    || has_word (codes "valueRenderOption") (codes "FORMULA") query
 
 -- ---- the first fault of a request
 
@@ -65,7 +56,6 @@ said_by (Err uncalled.NoMemory) = Err fault.BadBody
 abbrev pub asked_on : List PlaceBook → Wire → Route → Result Call Fault
 asked_on books request route =
     if not (is_served route.verb) then Err fault.NoRoute
-    else if asks_for_formulas route.query then Err fault.BadQuery
     else if is_none (book_with route.book books) then Err fault.NoBook
     else if request.coded then Err fault.BadBody
     else said_by (call_of route request.body)
@@ -86,13 +76,13 @@ pub record IsAsked (books : List PlaceBook) (request : Wire) (asked : Result Cal
 -- ---- answers
 
 -- a broken rule is a fault of the request
-abbrev pub as_fault : Result Answer Rule → Result Answer Fault
+abbrev pub as_fault : Result Answer Refusal → Result Answer Fault
 as_fault (Ok answer) = Ok answer
-as_fault (Err broken) = Err (fault.Broken broken)
+as_fault (Err (at, broken)) = Err (fault.Broken at broken)
 
 -- the call is answered on the spreadsheets
 pub record IsCalled (books : List PlaceBook) (call : Call) (told : Result Answer Fault) (effect : Effect) : Type 0 where
-  pub answer : Result Answer Rule
+  pub answer : Result Answer Refusal
   pub answered : IsAnswered call books answer effect
   pub told_is : told ≡ as_fault answer
 
@@ -118,7 +108,7 @@ pub record Makes (books : List PlaceBook) (request : Wire) (told : Result Answer
 -- what is told of a call, as of its request
 abbrev pub told_by : Outcome → Result Answer Fault
 told_by (outcome.Answered answer) = Ok answer
-told_by (outcome.Refused broken) = Err (fault.Broken broken)
+told_by (outcome.Refused at broken) = Err (fault.Broken at broken)
 
 -- a call, likewise
 pub record Performs (books : List PlaceBook) (call : Call) (told : Result Answer Fault) (next : Option (List PlaceBook))
@@ -141,7 +131,7 @@ status_of_fault fault.NoBook = 404
 status_of_fault fault.BadQuery = 400
 status_of_fault fault.BadBody = 400
 status_of_fault fault.EmptyBatch = 400
-status_of_fault (fault.Broken broken) = status_of_rule broken
+status_of_fault (fault.Broken at broken) = status_of_rule broken
 
 abbrev pub message_of : Fault → List ℕ
 message_of fault.NoRoute = codes "NoRoute"
@@ -149,7 +139,7 @@ message_of fault.NoBook = codes "NoBook"
 message_of fault.BadQuery = codes "BadQuery"
 message_of fault.BadBody = codes "BadBody"
 message_of fault.EmptyBatch = codes "EmptyBatch"
-message_of (fault.Broken broken) = rule_text broken
+message_of (fault.Broken at broken) = place_text at ++ rule_text broken
 
 -- the response to a request that is answered so; `close` says that it is the last
 abbrev pub response_of : Bool → Result Answer Fault → List ℕ

@@ -4,6 +4,7 @@ ghost use Rattle.sheets_json.specs.Refusals.{IsRefusal};
 ghost use Rattle.sheets_cli.specs.Step.{status_of_rule, status_of_fault};
 
 use dimension_ops::Rule;
+use sheets_json::Place;
 use std::error::Error;
 use std::fmt;
 
@@ -20,8 +21,8 @@ pub enum Fault {
     BadBody,
     /// The call names nothing to be done.
     EmptyBatch,
-    /// The call breaks the rule.
-    Broken(Rule),
+    /// The call, or its member at the place, breaks the rule.
+    Broken(Place, Rule),
 }
 
 impl Fault {
@@ -34,7 +35,7 @@ impl Fault {
         match self {
             Fault::NoRoute | Fault::NoBook => 404,
             Fault::BadQuery | Fault::BadBody | Fault::EmptyBatch => 400,
-            Fault::Broken(rule) => status_of_rule(rule),
+            Fault::Broken(_, rule) => status_of_rule(rule),
         }
     }
 }
@@ -64,7 +65,7 @@ impl fmt::Display for Fault {
             Fault::NoBook => f.write_str("NoBook"),
             Fault::BadBody => f.write_str("BadBody"),
             Fault::EmptyBatch => f.write_str("EmptyBatch"),
-            Fault::Broken(rule) => write!(f, "{rule}"),
+            Fault::Broken(place, rule) => write!(f, "{place}{rule}"),
         }
     }
 }

@@ -5,7 +5,7 @@ ghost use Rattle.cell_value.specs.FaultCount.{Rose};
 ghost use Rattle.world_model.specs.World.{NameWorld, WorldStandsFor};
 ghost use Rattle.dimension_ops.specs.World.{opening_world};
 ghost use Rattle.sheets_cli.specs.Reply.{IsReply};
-ghost use Rattle.sheets_cli.specs.Conversation.{at_moment, HasEnd, IsConversation, EndsAs};
+ghost use Rattle.sheets_cli.specs.Conversation.{at_moment, Counts, HasEnd, IsConversation, EndsAs};
 ghost use Rattle.sheets_cli.specs.Program.{IsRun, status_of, status_at, line_of, Runs, Says};
 
 use crate::conversation::converse;
@@ -65,6 +65,13 @@ pub fn sheets_main<R: AllocGlobal, I: Source, O: Sink>(
         (λ bytes. HasEnd MOST bytes long_talk) }
     ensures steady_read { IsTrue (I.steady input.old) → result ≢ status_of Ended.ReadFault }
     ensures steady_write { IsTrue (O.sink_steady output.old) → result ≢ status_of Ended.WriteFault }
+
+    // No count of faults falls, and a steady device stays steady.
+    ensures input { Counts (I.faults input.old) (I.faults input.new) (I.steady input.old) (I.steady input.new) }
+    ensures output { Counts (O.sink_faults output.old) (O.sink_faults output.new) (O.sink_steady output.old)
+        (O.sink_steady output.new) }
+    ensures faults { Counts (O.sink_faults faults.old) (O.sink_faults faults.new) (O.sink_steady faults.old)
+        (O.sink_steady faults.new) }
 {
     conversation_laws();
     if is_run(words) {
@@ -107,6 +114,11 @@ fn run<R: AllocGlobal, I: Source, O: Sink>(
     ensures write { result ≡ status_of Ended.WriteFault → Rose (O.sink_faults output.old) (O.sink_faults output.new) }
     ensures steady_read { IsTrue (I.steady input.old) → result ≢ status_of Ended.ReadFault }
     ensures steady_write { IsTrue (O.sink_steady output.old) → result ≢ status_of Ended.WriteFault }
+    ensures input { Counts (I.faults input.old) (I.faults input.new) (I.steady input.old) (I.steady input.new) }
+    ensures output { Counts (O.sink_faults output.old) (O.sink_faults output.new) (O.sink_steady output.old)
+        (O.sink_steady output.new) }
+    ensures faults { Counts (O.sink_faults faults.old) (O.sink_faults faults.new) (O.sink_steady faults.old)
+        (O.sink_steady faults.new) }
 {
     let ended = converse_anew(rt.alloc(), input, output);
     report(faults, ended);
@@ -123,6 +135,9 @@ fn converse_anew<I: Source, O: Sink>(alloc: Global, input: &mut I, output: &mut 
     ensures write { result ≡ Ended.WriteFault → Rose (O.sink_faults output.old) (O.sink_faults output.new) }
     ensures steady_read { IsTrue (I.steady input.old) → result ≢ Ended.ReadFault }
     ensures steady_write { IsTrue (O.sink_steady output.old) → result ≢ Ended.WriteFault }
+    ensures input { Counts (I.faults input.old) (I.faults input.new) (I.steady input.old) (I.steady input.new) }
+    ensures output { Counts (O.sink_faults output.old) (O.sink_faults output.new) (O.sink_steady output.old)
+        (O.sink_steady output.new) }
 {
     opening_stands();
     match World::opening(alloc) {
@@ -146,6 +161,9 @@ fn converse_over<I: Source, O: Sink>(
     ensures write { result ≡ Ended.WriteFault → Rose (O.sink_faults output.old) (O.sink_faults output.new) }
     ensures steady_read { IsTrue (I.steady input.old) → result ≢ Ended.ReadFault }
     ensures steady_write { IsTrue (O.sink_steady output.old) → result ≢ Ended.WriteFault }
+    ensures input { Counts (I.faults input.old) (I.faults input.new) (I.steady input.old) (I.steady input.new) }
+    ensures output { Counts (O.sink_faults output.old) (O.sink_faults output.new) (O.sink_steady output.old)
+        (O.sink_steady output.new) }
 {
     converse(alloc, world, &mut Link { input, output }, MOST)
 }

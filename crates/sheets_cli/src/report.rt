@@ -1,6 +1,7 @@
 ghost use Rattle.std.specs.Prelude.{◌≡◌, ◌≤◌, ◌++◌, codes};
 ghost use Rattle.std.specs.Fmt.{decimal};
 ghost use Rattle.cell_value.specs.FaultCount.{Rose};
+ghost use Rattle.sheets_cli.specs.Conversation.{Counts};
 ghost use Rattle.sheets_cli.specs.Exchanges.{Sends};
 ghost use Rattle.sheets_cli.specs.Program.{truncated_line, line_of, Says};
 
@@ -9,16 +10,20 @@ use sheets_http::{Sink, SinkFault, send_all};
 
 /// Writes a line; where that fails, it is cut.
 pub(crate) fn say<S: Sink>(faults: &mut S, line: &[u8])
-    ensures { Says (S.written faults.old) (S.written faults.new) (S.sink_faults faults.old) (S.sink_faults faults.new)
+    ensures says { Says (S.written faults.old) (S.written faults.new) (S.sink_faults faults.old) (S.sink_faults faults.new)
         (S.sink_shortages faults.old) (S.sink_shortages faults.new) line.now }
+    ensures counts { Counts (S.sink_faults faults.old) (S.sink_faults faults.new) (S.sink_steady faults.old)
+        (S.sink_steady faults.new) }
 {
     let _ = send_all(faults, line);
 }
 
 /// Writes the line on the faults of a conversation that ended so; where that fails, it is cut.
 pub(crate) fn report<S: Sink>(faults: &mut S, ended: Ended)
-    ensures { Says (S.written faults.old) (S.written faults.new) (S.sink_faults faults.old) (S.sink_faults faults.new)
+    ensures says { Says (S.written faults.old) (S.written faults.new) (S.sink_faults faults.old) (S.sink_faults faults.new)
         (S.sink_shortages faults.old) (S.sink_shortages faults.new) (line_of ended) }
+    ensures counts { Counts (S.sink_faults faults.old) (S.sink_faults faults.new) (S.sink_steady faults.old)
+        (S.sink_steady faults.new) }
 {
     match ended {
         Ended::End | Ended::Asked | Ended::Closed(_) => {}
@@ -32,14 +37,18 @@ pub(crate) fn report<S: Sink>(faults: &mut S, ended: Ended)
 
 /// Writes the line for a stream that ended inside a request; where that fails, it is cut.
 fn say_truncated<S: Sink>(faults: &mut S, count: u64)
-    ensures { Says (S.written faults.old) (S.written faults.new) (S.sink_faults faults.old) (S.sink_faults faults.new)
+    ensures says { Says (S.written faults.old) (S.written faults.new) (S.sink_faults faults.old) (S.sink_faults faults.new)
         (S.sink_shortages faults.old) (S.sink_shortages faults.new) (truncated_line count) }
+    ensures counts { Counts (S.sink_faults faults.old) (S.sink_faults faults.new) (S.sink_steady faults.old)
+        (S.sink_steady faults.new) }
 {
     let _ = send_truncated(faults, count);
 }
 
 fn send_truncated<S: Sink>(faults: &mut S, count: u64) -> Result<(), SinkFault>
     ensures sends { Sends (S.written faults.old) (S.written faults.new) (truncated_line count) result }
+    ensures counts { Counts (S.sink_faults faults.old) (S.sink_faults faults.new) (S.sink_steady faults.old)
+        (S.sink_steady faults.new) }
     ensures cause { result ≡ Err SinkFault.Failed → Rose (S.sink_faults faults.old) (S.sink_faults faults.new) }
     ensures short { result ≡ Err SinkFault.NoMemory → Rose (S.sink_shortages faults.old) (S.sink_shortages faults.new) }
 {
@@ -52,6 +61,8 @@ fn send_truncated<S: Sink>(faults: &mut S, count: u64) -> Result<(), SinkFault>
 /// Sends a number in decimal, and a line feed.
 fn send_count<S: Sink>(faults: &mut S, count: u64) -> Result<(), SinkFault>
     ensures sends { Sends (S.written faults.old) (S.written faults.new) (decimal count ++ codes "\n") result }
+    ensures counts { Counts (S.sink_faults faults.old) (S.sink_faults faults.new) (S.sink_steady faults.old)
+        (S.sink_steady faults.new) }
     ensures cause { result ≡ Err SinkFault.Failed → Rose (S.sink_faults faults.old) (S.sink_faults faults.new) }
     ensures short { result ≡ Err SinkFault.NoMemory → Rose (S.sink_shortages faults.old) (S.sink_shortages faults.new) }
 {

@@ -1,10 +1,10 @@
 ghost use Rattle.std.specs.Prelude.{◌≡◌, IfOk};
 ghost use Rattle.batch_engine.specs.Calls.{HasItsBook};
-ghost use Rattle.sheets_cli.specs.Step.{is_served, has_word, asks_for_formulas, asked_on, IsAsked, Makes, Performs, told_by};
+ghost use Rattle.sheets_cli.specs.Step.{is_served, asked_on, IsAsked, Makes, Performs, told_by};
 
 use crate::fault::Fault;
 use batch_engine::{Applied, Caller, Outcome, apply};
-use cell_value::{Items, NoMemory, Text};
+use cell_value::{NoMemory, Text};
 use dimension_ops::World;
 use sheets_http::{Route, RouteFault, Verb, Wire, route};
 use sheets_json::{Answer, Call, CallFault, read_call};
@@ -60,9 +60,6 @@ fn asked_on(
     if !is_served(route.verb) {
         return Ok(Err(Fault::NoRoute));
     }
-    if asks_for_formulas(&route.query) {
-        return Ok(Err(Fault::BadQuery));
-    }
     if world.find(route.book.as_str()).is_none() {
         return Ok(Err(Fault::NoBook));
     }
@@ -82,22 +79,10 @@ fn asked_on(
 fn is_served(verb: Verb) -> bool
     ensures { result ≡ is_served verb }
 {
-    matches!(verb, Verb::Read | Verb::Write | Verb::Clear)
-}
-
-/// Whether the query asks for texts to be taken as formulas, or for formulas to be shown.
-fn asks_for_formulas(query: &Items<(Text, Text)>) -> bool
-    ensures { result ≡ asks_for_formulas query.now }
-{
-    has_word(query, "valueInputOption", "USER_ENTERED")
-        || has_word(query, "valueRenderOption", "FORMULA")
-}
-
-/// Whether the query has the member with that value.
-fn has_word(query: &Items<(Text, Text)>, name: &str, value: &str) -> bool
-    ensures { result ≡ has_word name.now value.now query.now }
-{
-    query.as_slice().iter().any(|member| member.0.as_str() == name && member.1.as_str() == value)
+    matches!(
+        verb,
+        Verb::Read | Verb::ReadMany | Verb::Write | Verb::Clear | Verb::ClearMany
+    )
 }
 
 /// Makes a call of the owner on the spreadsheets, which stay as they are.
@@ -122,6 +107,6 @@ fn told_by(outcome: Outcome) -> Result<Answer, Fault>
 {
     match outcome {
         Outcome::Answered(answer) => Ok(answer),
-        Outcome::Refused(rule) => Err(Fault::Broken(rule)),
+        Outcome::Refused { place, rule } => Err(Fault::Broken(place, rule)),
     }
 }

@@ -8,8 +8,8 @@ use Rattle.std.proofs.lemmas.List.{get_or_past}
 use Rattle.cell_value.specs.declared.entered.Input.{Input}
 use Rattle.cell_value.specs.declared.entered.Input.TheVariants.{Skip}
 use Rattle.values_api.specs.declared.given.Given.{Given}
-use Rattle.values_api.specs.Blocks.{entered, input_at, is_given, lies_in}
-use Rattle.values_api.specs.Given.{first_row, first_col, made_by, turned, room, cell_for, line_given, IsBefore}
+use Rattle.values_api.specs.Blocks.{given_value, input_at, is_given, lies_in}
+use Rattle.values_api.specs.Given.{first_row, first_col, value_by, turned, room, cell_for, line_given, IsBefore}
 use Rattle.values_api.specs.Shown.{cell_along}
 use Rattle.values_api.proofs.Listed.{both_true}
 
@@ -48,8 +48,8 @@ some_where : {A : Type 0} (b : Bool) (x : Option A) → IsSome (cond b x None) �
 some_where true x some = (refl, some)
 some_where false x some = absurd (false≢true some)
 
-not_left_out : (value : Input) → value ≡ Skip → IsSome (entered value) → ⊥
-not_left_out value is some = false≢true (subst (λ one. IsSome (entered one)) is some)
+not_left_out : (value : Input) → value ≡ Skip → IsSome (given_value value) → ⊥
+not_left_out value is some = false≢true (subst (λ one. IsSome (given_value one)) is some)
 
 module _ (given : Given) where
   -- a cell that is made something stands between the corner and the ends
@@ -65,10 +65,10 @@ module _ (given : Given) where
   abbrev value_at : ℕ × ℕ → Input
   value_at place = get_or (line_given given place.0) place.1 Skip
 
-  pub made_inside : (row col : ℕ) → IsSome (made_by given row col) → IsInside row col
+  pub made_inside : (row col : ℕ) → IsSome (value_by given row col) → IsInside row col
   made_inside row col some =
       let (lies, _) = some_where (lies_in (first_row given) given.end_row row && lies_in (first_col given) given.end_col col)
-      (entered (input_at given.block.now (row - first_row given) (col - first_col given))) some in
+      (given_value (input_at given.block.now (row - first_row given) (col - first_col given))) some in
       let (rows, cols) = and_parts (lies_in (first_row given) given.end_row row)
       (lies_in (first_col given) given.end_col col) lies in
       let row_parts = and_parts (nat_le (first_row given) row) (nat_lt row given.end_row) rows in
@@ -82,28 +82,28 @@ module _ (given : Given) where
 
   -- there it is made what the value makes of it
   pub made_there : (row col : ℕ) → IsInside row col
-      → made_by given row col ≡ entered (input_at given.block.now (row - first_row given) (col - first_col given))
+      → value_by given row col ≡ given_value (input_at given.block.now (row - first_row given) (col - first_col given))
   made_there row col inside =
-      ap (λ b. cond b (entered (input_at given.block.now (row - first_row given) (col - first_col given))) None)
+      ap (λ b. cond b (given_value (input_at given.block.now (row - first_row given) (col - first_col given))) None)
       (both_true (lies_in (first_row given) given.end_row row) (lies_in (first_col given) given.end_col col)
       (both_true (nat_le (first_row given) row) (nat_lt row given.end_row)
       (le-leb (first_row given) row inside.row_from) (lt-ltb row given.end_row inside.row_to))
       (both_true (nat_le (first_col given) col) (nat_lt col given.end_col)
       (le-leb (first_col given) col inside.col_from) (lt-ltb col given.end_col inside.col_to)))
 
-  pub made_at : (row col : ℕ) → IsInside row col → made_by given row col ≡ entered (value_at (at row col))
+  pub made_at : (row col : ℕ) → IsInside row col → value_by given row col ≡ given_value (value_at (at row col))
   made_at row col inside =
       made_there row col inside
-      ∙ ap entered (along_is given.block.now.columns_first
+      ∙ ap given_value (along_is given.block.now.columns_first
       (λ line place. get_or (line_given given line) place Skip) (row - first_row given) (col - first_col given))
 
   -- the value of a cell that is made something stands in the block, and as far as the ends
-  pub made_from : (row col : ℕ) → IsSome (made_by given row col)
+  pub made_from : (row col : ℕ) → IsSome (value_by given row col)
       → ((at row col).0 < length given.block.now.values) × ((at row col).1 < length (line_given given (at row col).0))
       × ((at row col).0 < (room given).0) × ((at row col).1 < (room given).1)
   made_from row col some =
       let inside = made_inside row col some in
-      let is_some : IsSome (entered (value_at (at row col))) = subst IsSome (made_at row col inside) some in
+      let is_some : IsSome (given_value (value_at (at row col))) = subst IsSome (made_at row col inside) some in
       let low = inside.row_from in
       let left = inside.col_from in
       let high = inside.row_to in
@@ -116,7 +116,7 @@ module _ (given : Given) where
         below.1,
       )
     where
-      in_line : (line place : ℕ) → IsSome (entered (value_at (line, place))) → place < length (line_given given line)
+      in_line : (line place : ℕ) → IsSome (given_value (value_at (line, place))) → place < length (line_given given line)
       in_line line place some = elim (cases_order place (length (line_given given line))) [
         | inl same ↦ absurd (not_left_out (value_at (line, place))
             (get_or_past (line_given given line) place Skip (omega arith)) some)
@@ -130,7 +130,7 @@ module _ (given : Given) where
       none_there : (line : ℕ) → length given.block.now.values ≤ line → length (line_given given line) ≡ 0
       none_there line past = ap length (get_or_past given.block.now.values line [] past)
 
-      in_block : (line place : ℕ) → IsSome (entered (value_at (line, place))) → line < length given.block.now.values
+      in_block : (line place : ℕ) → IsSome (given_value (value_at (line, place))) → line < length given.block.now.values
       in_block line place some =
           let there = in_line line place some in
           elim (cases_order line (length given.block.now.values)) [
@@ -169,10 +169,10 @@ module _ (given : Given) where
 
   -- it is made what the value makes of it
   pub made_of : (line place : ℕ) → line < (room given).0 → place < (room given).1
-      → made_by given (cell_for given line place).0 (cell_for given line place).1 ≡ entered (value_at (line, place))
+      → value_by given (cell_for given line place).0 (cell_for given line place).1 ≡ given_value (value_at (line, place))
   made_of line place few short =
       made_at (cell_for given line place).0 (cell_for given line place).1 (cell_inside line place few short)
-      ∙ ap (λ (p : ℕ × ℕ). entered (value_at p)) (cell_at line place)
+      ∙ ap (λ (p : ℕ × ℕ). given_value (value_at p)) (cell_at line place)
 
   pub is_cell : (row col line place : ℕ) → IsInside row col → at row col ≡ (line, place)
       → cell_for given line place ≡ (row, col)
@@ -189,7 +189,7 @@ module _ (given : Given) where
   -- ---- the cells of the values before a place
 
   abbrev IsOf : ℕ → ℕ → ℕ → ℕ → Type 0
-  IsOf line place row col = IsSome (made_by given row col) × IsBefore line place (at row col)
+  IsOf line place row col = IsSome (value_by given row col) × IsBefore line place (at row col)
 
   later : (line place : ℕ) (other : ℕ × ℕ) → IsBefore line place other → IsBefore line (place + 1) other
   later line place other (inl above) = inl above
@@ -212,7 +212,7 @@ module _ (given : Given) where
     ]
 
     -- a value that is given adds its cell
-    pub added : (cells cells' : List (ℕ × ℕ)) → IsSome (entered (value_at (line, place)))
+    pub added : (cells cells' : List (ℕ × ℕ)) → IsSome (given_value (value_at (line, place)))
         → cells' ≡ cells ++ cell_for given line place ∷ []
         → ((row col : ℕ) → Contains cells (row, col) ↔ IsOf line place row col)
         → (row col : ℕ) → Contains cells' (row, col) ↔ IsOf line (place + 1) row col
@@ -244,7 +244,7 @@ module _ (given : Given) where
       (λ of. elim (earlier row col of) [
         | inl before ↦ (so_far row col).1 before
         | inr here ↦ absurd (false≢true (sym not_given ∙ subst IsSome (made_of line place few short)
-            (subst (λ (p : ℕ × ℕ). IsSome (made_by given p.0 p.1)) (sym here) of.0)))
+            (subst (λ (p : ℕ × ℕ). IsSome (value_by given p.0 p.1)) (sym here) of.0)))
       ]),
     )
 
@@ -283,7 +283,7 @@ module _ (given : Given) where
   -- behind the last line these are all
   pub all_ended : (line : ℕ) (cells : List (ℕ × ℕ)) → line ≡ min (length given.block.now.values) (room given).0
       → ((row col : ℕ) → Contains cells (row, col) ↔ IsOf line 0 row col)
-      → (row col : ℕ) → Contains cells (row, col) ↔ IsSome (made_by given row col)
+      → (row col : ℕ) → Contains cells (row, col) ↔ IsSome (value_by given row col)
   all_ended line cells ended so_far row col = (
     (λ has. ((so_far row col).0 has).0),
     (λ some.

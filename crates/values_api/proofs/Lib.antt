@@ -8,8 +8,14 @@ pub mod Ends
 pub mod LinesRead
 pub mod GivenCells
 pub mod GivenCount
+pub mod SameSheets
+pub mod KnownSheets
+pub mod FirstPassed
+pub mod Entering
 pub mod PutCells
 pub mod LinesOn
 pub mod WriteEnds
 pub mod AreaText
 pub mod Told
+pub mod SameLines
+pub mod WriteOnce

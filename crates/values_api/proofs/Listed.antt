@@ -1,4 +1,4 @@
--- Cells of a list that are updated one after another.
+-- Cells of a list that are given something one after another.
 use Rattle.std.proofs.Common.{◌≡◌, ℕ, ◌+◌, ◌<◌, List, length, take, get_or, refl, sym, subst, ap, ◌∙◌, cond, Bool, true, false}
 use Rattle.std.specs.Prelude.{Option, Some, None, IsSomeAnd, ◌==◌, ◌&&◌, ◌||◌, Contains}
 use Rattle.std.specs.List.{list_any}
@@ -7,10 +7,8 @@ use Rattle.std.proofs.Math.Path.{fun_ext}
 use Rattle.std.proofs.lemmas.Bool.{and_parts, eqb-true, eq-eqb, false≢true}
 use Rattle.std.proofs.lemmas.List.Folds.{list_any_more, list_any_at, Any-from_list_any}
 use Rattle.cell_store.specs.Table.{HasPlace}
-use Rattle.ref_rewrite.specs.declared.cell_content.Content.{Content}
 use Rattle.world_model.specs.Laws.{size_of}
 use Rattle.world_model.specs.Sheet.{PlaceSheet}
-use Rattle.world_model.specs.Updating.{Updates, with_update}
 
 pub both_true : (one other : Bool) → one ≡ true → other ≡ true → (one && other) ≡ true
 both_true true true is is' = refl
@@ -36,47 +34,52 @@ there_listed cells row col (k, there, at) =
     (ap (λ (cell : ℕ × ℕ). row == cell.0 && col == cell.1) at
     ∙ both_true (row == row) (col == col) (eq-eqb row row refl) (eq-eqb col col refl))
 
--- ---- the updates of the cells of a list
+-- ---- what the cells of a list are given
 
-abbrev pub listed_of : Updates → List (ℕ × ℕ) → Updates
-listed_of updates cells row col = cond (is_listed cells row col) (updates row col) None
+module _ {A : Type 0} where
+  -- what stands at the places of a list alone
+  abbrev pub listed_of : (ℕ → ℕ → Option A) → List (ℕ × ℕ) → ℕ → ℕ → Option A
+  listed_of items cells row col = cond (is_listed cells row col) (items row col) None
 
-one_more : (content : Option Content) (whole before here : Bool) (update : Option (Option Content))
-    → whole ≡ (before || here) → (here ≡ true → update ≡ Some content)
-    → cond whole update None ≡ cond here (Some content) (cond before update None)
-one_more content true true true update is same = same refl
-one_more content true true false update is same = refl
-one_more content true false true update is same = same refl
-one_more content true false false update is same = absurd (false≢true (sym is))
-one_more content false true here update is same = absurd (false≢true is)
-one_more content false false true update is same = absurd (false≢true is)
-one_more content false false false update is same = refl
+  -- one place with another item
+  abbrev pub with_one : ℕ → ℕ → A → (ℕ → ℕ → Option A) → ℕ → ℕ → Option A
+  with_one row col item items r c = cond (r == row && c == col) (Some item) (items r c)
 
--- one cell more is one update more
-pub listed_next : (updates : Updates) (cells : List (ℕ × ℕ)) (k : ℕ) (cell : ℕ × ℕ) (content : Option Content)
-    → k < length cells → cell ≡ get_or cells k (0, 0) → updates cell.0 cell.1 ≡ Some content
-    → with_update cell.0 cell.1 content (listed_of updates (take k cells)) ≡ listed_of updates (take (k + 1) cells)
-listed_next updates cells k cell content there is made = fun_ext (λ row. fun_ext (λ col.
-    sym (one_more content (is_listed (take (k + 1) cells) row col) (is_listed (take k cells) row col)
-    (row == cell.0 && col == cell.1) (updates row col)
-    (list_any_more (λ other. row == other.0 && col == other.1) cells k (0, 0) there
-    ∙ ap (λ (other : ℕ × ℕ). is_listed (take k cells) row col || (row == other.0 && col == other.1)) (sym is))
-    (λ here.
-    let parts = and_parts (row == cell.0) (col == cell.1) here in
-    ap (λ n. updates n col) (eqb-true row cell.0 parts.0) ∙ ap (λ n. updates cell.0 n) (eqb-true col cell.1 parts.1)
-    ∙ made))))
+  one_more : (item : A) (whole before here : Bool) (found : Option A)
+      → whole ≡ (before || here) → (here ≡ true → found ≡ Some item)
+      → cond whole found None ≡ cond here (Some item) (cond before found None)
+  one_more item true true true found is same = same refl
+  one_more item true true false found is same = refl
+  one_more item true false true found is same = same refl
+  one_more item true false false found is same = absurd (false≢true (sym is))
+  one_more item false true here found is same = absurd (false≢true is)
+  one_more item false false true found is same = absurd (false≢true is)
+  one_more item false false false found is same = refl
 
-chosen : (listed : Bool) (update : Option (Option Content)) → (IsSome update → listed ≡ true)
-    → cond listed update None ≡ update
-chosen true update all = refl
-chosen false None all = refl
-chosen false (Some content) all = absurd (false≢true (all refl))
+  -- one cell more is one item more
+  pub listed_next : (items : ℕ → ℕ → Option A) (cells : List (ℕ × ℕ)) (k : ℕ) (cell : ℕ × ℕ) (item : A)
+      → k < length cells → cell ≡ get_or cells k (0, 0) → items cell.0 cell.1 ≡ Some item
+      → with_one cell.0 cell.1 item (listed_of items (take k cells)) ≡ listed_of items (take (k + 1) cells)
+  listed_next items cells k cell item there is made = fun_ext (λ row. fun_ext (λ col.
+      sym (one_more item (is_listed (take (k + 1) cells) row col) (is_listed (take k cells) row col)
+      (row == cell.0 && col == cell.1) (items row col)
+      (list_any_more (λ other. row == other.0 && col == other.1) cells k (0, 0) there
+      ∙ ap (λ (other : ℕ × ℕ). is_listed (take k cells) row col || (row == other.0 && col == other.1)) (sym is))
+      (λ here.
+      let parts = and_parts (row == cell.0) (col == cell.1) here in
+      ap (λ n. items n col) (eqb-true row cell.0 parts.0) ∙ ap (λ n. items cell.0 n) (eqb-true col cell.1 parts.1)
+      ∙ made))))
 
--- where each cell that is updated is listed, these are all updates
-pub all_listed : (updates : Updates) (cells : List (ℕ × ℕ))
-    → ((row col : ℕ) → IsSome (updates row col) → Contains cells (row, col)) → listed_of updates cells ≡ updates
-all_listed updates cells all = fun_ext (λ row. fun_ext (λ col.
-    chosen (is_listed cells row col) (updates row col) (λ some. there_listed cells row col (all row col some))))
+  chosen : (listed : Bool) (found : Option A) → (IsSome found → listed ≡ true) → cond listed found None ≡ found
+  chosen true found all = refl
+  chosen false None all = refl
+  chosen false (Some item) all = absurd (false≢true (all refl))
+
+  -- where each place that has an item is listed, these are all items
+  pub all_listed : (items : ℕ → ℕ → Option A) (cells : List (ℕ × ℕ))
+      → ((row col : ℕ) → IsSome (items row col) → Contains cells (row, col)) → listed_of items cells ≡ items
+  all_listed items cells all = fun_ext (λ row. fun_ext (λ col.
+      chosen (is_listed cells row col) (items row col) (λ some. there_listed cells row col (all row col some))))
 
 -- ---- sizes that stay
 

@@ -1,6 +1,6 @@
--- The cells that values are given for, updated one after another.
-use Rattle.std.proofs.Common.{◌≡◌, ℕ, ◌+◌, ◌-◌, ◌<◌, ◌≤◌, List, length, take, get_or, refl, sym, subst, ap, ◌∙◌, arith}
-use Rattle.std.specs.Prelude.{Option, Some, None, IsSomeAnd, IfSome}
+-- The cells that values are given for, entered one after another.
+use Rattle.std.proofs.Common.{◌≡◌, ℕ, ◌+◌, ◌-◌, ◌<◌, ◌≤◌, List, length, take, get_or, refl, sym, subst, ap, ◌∙◌, cond, Bool, true, false, arith, inl, inr}
+use Rattle.std.specs.Prelude.{Option, Some, None, IsSomeAnd, ◌⊎◌}
 use Rattle.std.specs.Option.{IsSome, option_map}
 use Rattle.std.proofs.lemmas.Bool.{false≢true}
 use Rattle.std.proofs.lemmas.List.Elements.{Contains-get_or}
@@ -8,36 +8,43 @@ use Rattle.std.proofs.lemmas.List.{take_all}
 use Rattle.cell_store.specs.Table.{HasPlace}
 use Rattle.cell_value.specs.declared.entered.Input.{Input}
 use Rattle.cell_value.specs.declared.entered.Input.TheVariants as input
-use Rattle.ref_rewrite.specs.declared.cell_content.Content.{Content}
+use Rattle.formula_reader.specs.Laws.{IsReadOnce}
+use Rattle.formula_reader.specs.Sheets.{Sheets}
+use Rattle.formula_reader.specs.declared.fault.FormulaFault.{FormulaFault}
 use Rattle.world_model.specs.Book.{PlaceBook}
 use Rattle.world_model.specs.Laws.{UpdatesAreWrites, size_of}
 use Rattle.world_model.specs.Sheet.{PlaceSheet}
-use Rattle.world_model.specs.Sound.{IsContentWithin, place_sheet_with}
-use Rattle.world_model.specs.Updating.{BookUpdated, with_update}
+use Rattle.world_model.specs.Sound.{place_sheet_with}
 use Rattle.world_model.specs.Writing.{book_put}
-use Rattle.values_api.specs.Blocks.{entered, input_at}
-use Rattle.values_api.specs.Given.{AreGiven, IsWithinSheet, first_row, first_col, made_by}
+use Rattle.values_api.specs.Blocks.{Entry, IsEntry, given_value, input_at}
+use Rattle.values_api.specs.Given.{AreGiven, IsWithinSheet, first_of, first_row, first_col, value_by}
 use Rattle.values_api.specs.declared.given.Given.{Given}
 use Rattle.values_api.proofs.GivenCells.{IsInside, made_inside, made_there}
-use Rattle.values_api.proofs.Listed.{listed_of, listed_next, all_listed, still_of}
-
--- what a value makes refers to nothing
-pub made_within : (sheets : List PlaceSheet) (value : Input) (content : Option Content) → entered value ≡ Some content
-    → IfSome content (IsContentWithin sheets)
-made_within sheets value content is = subst (λ made. IfSome made (λ one. IfSome one (IsContentWithin sheets))) is (within value)
-  where
-    within : (value : Input) → IfSome (entered value) (λ one. IfSome one (IsContentWithin sheets))
-    within input.Skip = tt
-    within input.Empty = tt
-    within (input.Number number) = tt
-    within (input.Text text) = tt
-    within (input.Truth truth) = tt
-    within (input.FormulaText text) = tt
+use Rattle.values_api.proofs.Entering.{AreEntered, next_entered}
+use Rattle.values_api.proofs.Listed.{is_listed, listed_of, listed_next, all_listed, still_of}
 
 some_so : {A : Type 0} (P Q : A → Type 0) → ((x : A) → P x → Q x) → (found : Option A) → IsSomeAnd found P
     → IsSomeAnd found Q
 some_so P Q so None holds = absurd holds
 some_so P Q so (Some x) holds = so x holds
+
+pub some_there : {A : Type 0} (found : Option A) (P : A → Type 0) → IsSomeAnd found P → IsSome found
+some_there None P holds = absurd holds
+some_there (Some x) P holds = refl
+
+-- a value that is given is itself
+given_some : (value : Input) → IsSome (given_value value) → given_value value ≡ Some value
+given_some input.Skip some = absurd (false≢true some)
+given_some input.Empty some = refl
+given_some (input.Number number) some = refl
+given_some (input.Text text) some = refl
+given_some (input.Truth truth) some = refl
+given_some (input.FormulaText text) some = refl
+
+listed_or : {A : Type 0} (b : Bool) (found : Option A) (item : A) → found ≡ Some item
+    → (cond b found None ≡ None) ⊎ (cond b found None ≡ Some item)
+listed_or true found item is = inr is
+listed_or false found item is = inl refl
 
 module _ (given : Given) (cells : List (ℕ × ℕ)) (are : AreGiven given cells) where
   abbrev id : ℕ
@@ -50,7 +57,7 @@ module _ (given : Given) (cells : List (ℕ × ℕ)) (are : AreGiven given cells
     abbrev cell : ℕ × ℕ
     cell = get_or cells k (0, 0)
 
-    cell_some : IsSome (made_by given cell.0 cell.1)
+    cell_some : IsSome (value_by given cell.0 cell.1)
     cell_some = (are.exactly cell.0 cell.1).0 (Contains-get_or cells k (0, 0) below)
 
     pub listed_inside : IsInside given cell.0 cell.1
@@ -74,28 +81,35 @@ module _ (given : Given) (cells : List (ℕ × ℕ)) (are : AreGiven given cells
         inside_col : (cols : ℕ) → given.end_col ≤ cols → cell.1 < cols
         inside_col cols ends = let here = listed_inside.col_to in omega (arith, here, ends)
 
-    -- one cell more is updated
-    pub put_next : (laws : UpdatesAreWrites) (before between after : PlaceBook) (made : Option (Option Content))
-        (content : Option Content) → made ≡ entered (value_for cell.0 cell.1) → made ≡ Some content
-        → after ≡ book_put id cell.0 cell.1 content between
-        → BookUpdated id (listed_of (made_by given) (take k cells)) before between
-        → BookUpdated id (listed_of (made_by given) (take (k + 1) cells)) before after
-    put_next laws before between after made content made_is is put so_far =
-        subst (λ updates. BookUpdated id updates before after)
-        (listed_next (made_by given) cells k cell content below refl
-        (made_there given cell.0 cell.1 listed_inside ∙ sym made_is ∙ is))
-        (subst (BookUpdated id (with_update cell.0 cell.1 content (listed_of (made_by given) (take k cells))) before) (sym put)
-        (laws.put before between id cell.0 cell.1 content (listed_of (made_by given) (take k cells)) so_far))
+    pub value_is : value_by given cell.0 cell.1 ≡ given_value (value_for cell.0 cell.1)
+    value_is = made_there given cell.0 cell.1 listed_inside
 
-    -- none of them is left alone
-    pub not_left_alone : (made : Option (Option Content)) → made ≡ entered (value_for cell.0 cell.1) → made ≡ None → ⊥
-    not_left_alone made made_is none =
-        false≢true (subst IsSome (made_there given cell.0 cell.1 listed_inside ∙ sym made_is ∙ none) cell_some)
+    -- the value for it is one
+    pub value_given : IsSome (given_value (value_for cell.0 cell.1))
+    value_given = subst IsSome value_is cell_some
 
-  -- behind the last cell all are updated
-  pub put_all : (k : ℕ) (before after : PlaceBook) → length cells ≤ k
-      → BookUpdated id (listed_of (made_by given) (take k cells)) before after → BookUpdated id (made_by given) before after
-  put_all k before after past updated =
-      subst (λ updates. BookUpdated id updates before after)
-      (ap (listed_of (made_by given)) (take_all k cells past)
-      ∙ all_listed (made_by given) cells (λ row col some. (are.exactly row col).1 some)) updated
+    -- one cell more is entered
+    pub put_next : (reads_once : IsReadOnce) (laws : UpdatesAreWrites) (sheets : Sheets) (before between after : PlaceBook)
+        (limit : Option FormulaFault) (entry : Entry) → IsEntry sheets id (value_for cell.0 cell.1) entry
+        → after ≡ book_put id cell.0 cell.1 entry.content between
+        → AreEntered sheets id (listed_of (value_by given) (take k cells)) before between limit
+        → AreEntered sheets id (listed_of (value_by given) (take (k + 1) cells)) before after
+        (first_of limit entry.limit)
+    put_next reads_once laws sheets before between after limit entry is put so_far =
+        let value = value_for cell.0 cell.1 in
+        let some : value_by given cell.0 cell.1 ≡ Some value = value_is ∙ given_some value value_given in
+        subst (λ values. AreEntered sheets id values before after (first_of limit entry.limit))
+        (listed_next (value_by given) cells k cell value below refl some)
+        (next_entered reads_once sheets id laws (listed_of (value_by given) (take k cells)) before between after limit
+        cell.0 cell.1 value entry
+        (listed_or (is_listed (take k cells) cell.0 cell.1) (value_by given cell.0 cell.1) value some) is put so_far)
+
+  -- behind the last cell all are entered
+  pub put_all : (sheets : Sheets) (k : ℕ) (before after : PlaceBook)
+      (limit : Option FormulaFault) → length cells ≤ k
+      → AreEntered sheets id (listed_of (value_by given) (take k cells)) before after limit
+      → AreEntered sheets id (value_by given) before after limit
+  put_all sheets k before after limit past entered =
+      subst (λ values. AreEntered sheets id values before after limit)
+      (ap (listed_of (value_by given)) (take_all k cells past)
+      ∙ all_listed (value_by given) cells (λ row col some. (are.exactly row col).1 some)) entered

@@ -1,27 +1,28 @@
 -- A write as far as the ends is the write of the area.
 use Rattle.std.proofs.Common.{◌≡◌, ℕ, ◌+◌, ◌-◌, ◌<◌, ◌≤◌, cond, Bool, true, false, refl, sym, subst, ap, arith}
-use Rattle.std.specs.Prelude.{Some, None, IsSomeAnd, Result, Ok, Err, IfOk, MatchResult, ◌&&◌, nat_le, nat_lt}
+use Rattle.std.specs.Prelude.{Option, Some, None, IsSomeAnd, Result, Ok, Err, IfOk, MatchResult, ◌&&◌, nat_le, nat_lt}
+use Rattle.cell_value.specs.declared.entered.Input.{Input}
+use Rattle.formula_reader.specs.declared.fault.FormulaFault.{FormulaFault}
 use Rattle.grid_range.specs.Area.{AreaWithin}
 use Rattle.grid_range.specs.Band.{Within, first_line, end_line}
 use Rattle.grid_range.specs.declared.area.Area.{Area}
 use Rattle.grid_range.specs.declared.band.Band.{Band}
 use Rattle.grid_range.specs.declared.band.Band.TheVariants.{Whole, From, Span}
 use Rattle.world_model.specs.Book.{PlaceBook}
-use Rattle.world_model.specs.Counts.{filled_of}
+use Rattle.world_model.specs.Counts.{filled_of, formulas_of}
 use Rattle.world_model.specs.Sheet.{PlaceSheet}
 use Rattle.world_model.specs.Sound.{IsSheetSound, IsSound, place_sheet_with}
-use Rattle.world_model.specs.Updating.{Updates}
 use Rattle.dimension_ops.specs.Rules.{IsUnlessNoMemory}
-use Rattle.dimension_ops.specs.declared.rule.Limit.TheVariants.{Filled}
+use Rattle.dimension_ops.specs.declared.rule.Limit.TheVariants.{Filled, Formulas}
 use Rattle.dimension_ops.specs.declared.rule.Rule.{Rule}
 use Rattle.dimension_ops.specs.declared.rule.Rule.TheVariants.{PastLimit, ValuesPastRange}
 use Rattle.dimension_ops.specs.declared.rule.RuleOr.{RuleOr}
 use Rattle.dimension_ops.specs.declared.rule.RuleOr.TheVariants as refusal
-use Rattle.values_api.specs.Blocks.{end_row, end_col, entered, input_at, lies_in, rows_needed, cols_needed, area_written}
-use Rattle.values_api.specs.Blocks.{broken_by_write, most_stored, IsWrite, IsWritten}
-use Rattle.values_api.specs.Given.{HasRoom, IsWithinSheet, IsDone, first_row, first_col, made_by, fits_by}
+use Rattle.values_api.specs.Blocks.{Entry, AreEntries, end_row, end_col, given_value, input_at, lies_in, rows_needed, cols_needed, area_written}
+use Rattle.values_api.specs.Blocks.{broken_by_formulas, broken_by_write, most_formulas, most_stored, rule_of_limit, IsWrite, IsWritten}
+use Rattle.values_api.specs.Given.{HasRoom, IsWithinSheet, IsDone, first_row, first_col, fits_by}
 use Rattle.values_api.specs.Ranges.{IsThere}
-use Rattle.values_api.specs.Updates.{AreUpdated}
+use Rattle.values_api.specs.Sheets.{formula_sheets}
 use Rattle.values_api.specs.declared.given.Given.{Given}
 use Rattle.values_api.specs.declared.writing.Written.{Written}
 use Rattle.values_api.proofs.Ends.{end_small}
@@ -50,17 +51,18 @@ unless P Q same (Ok value) is = same (Ok value) is
 unless P Q same (Err (refusal.Rule rule)) is = same (Err rule) is
 unless P Q same (Err refusal.NoMemory) is = tt
 
+some_none : (rule : Rule) → Some rule ≡ None → ⊥
+some_none rule e = cc
+
 -- a write that breaks no rule fits
-fits_from : (many fit : Bool) (one other : Rule) → cond many (Some one) (cond fit None (Some other)) ≡ None → fit ≡ true
-fits_from true fit one other is = absurd (some_none one is)
-  where
-    some_none : (rule : Rule) → Some rule ≡ None → ⊥
-    some_none rule e = cc
-fits_from false true one other is = refl
-fits_from false false one other is = absurd (some_none other is)
-  where
-    some_none : (rule : Rule) → Some rule ≡ None → ⊥
-    some_none rule e = cc
+pub fits_from : (many too_many fit : Bool) (limit : Option FormulaFault)
+    → cond many (Some (PastLimit Filled)) (cond too_many (Some (PastLimit Formulas)) (broken_by_formulas limit fit)) ≡ None
+    → fit ≡ true
+fits_from true too_many fit limit is = absurd (some_none (PastLimit Filled) is)
+fits_from false true fit limit is = absurd (some_none (PastLimit Formulas) is)
+fits_from false false fit (Some limit) is = absurd (some_none (rule_of_limit limit) is)
+fits_from false false true None is = refl
+fits_from false false false None is = absurd (some_none ValuesPastRange is)
 
 module _ (given : Given) (one_cell : Bool) (book : PlaceBook) where
   abbrev area : Area
@@ -138,41 +140,55 @@ module _ (given : Given) (one_cell : Bool) (book : PlaceBook) where
         subst (λ found. IsSomeAnd found (λ (one : PlaceSheet). (given.end_row ≤ one.table.rows)
         × (given.end_col ≤ one.table.cols))) (sym has_sheet.found) ends
 
-    -- what is made, and whether it fits, by the ends
-    abbrev made_to : ℕ × ℕ → Updates
-    made_to ends row col =
+    -- which values are written, and whether they fit, by the ends
+    abbrev values_to : ℕ × ℕ → ℕ → ℕ → Option Input
+    values_to ends row col =
         cond (lies_in (first_row given) ends.0 row && lies_in (first_col given) ends.1 col)
-        (entered (input_at given.block.now (row - first_row given) (col - first_col given))) None
+        (given_value (input_at given.block.now (row - first_row given) (col - first_col given))) None
 
     abbrev fits_to : ℕ × ℕ → Bool
     fits_to ends =
         nat_le (first_row given + rows_needed given.block.now) ends.0
         && nat_le (first_col given + cols_needed given.block.now) ends.1
 
-    abbrev IsAnswerTo : PlaceBook → Result Written Rule → ℕ × ℕ → Type 0
-    IsAnswerTo after answer ends =
-        AreUpdated area.sheet (made_to ends) book after
+    abbrev IsAnswerTo : PlaceBook → Result Written Rule → (ℕ → ℕ → Option Entry) → Option FormulaFault → ℕ × ℕ → Type 0
+    IsAnswerTo after answer entries limit ends =
+        AreEntries (formula_sheets book.sheets) area.sheet (values_to ends) entries
         × MatchResult answer
-        (λ done. (broken_by_write (fits_to ends) after ≡ None) × IsWritten area given.block.now (made_to ends) done)
-        (λ rule. broken_by_write (fits_to ends) after ≡ Some rule)
+        (λ done. (broken_by_write limit (fits_to ends) after ≡ None) × IsWritten area given.block.now (values_to ends) done)
+        (λ rule. broken_by_write limit (fits_to ends) after ≡ Some rule)
+
+    write_done : (after : PlaceBook) (answer : Result Written Rule) → IsDone given book after answer
+        → IsWrite one_cell area given.block.now sheet book after answer
+    write_done after answer done =
+        let now : IsAnswerTo after answer done.put.entries done.limit (given.end_row, given.end_col) =
+        (done.put.entered, done.answered) in
+        let both : IsAnswerTo after answer done.put.entries done.limit
+        (end_row one_cell area sheet, end_col one_cell area sheet) =
+        subst (IsAnswerTo after answer done.put.entries done.limit) has_sheet.are now in
+        record {
+          entries = done.put.entries;
+          limit = done.limit;
+          entered = both.0;
+          updated = done.put.updated;
+          first = done.put.first;
+          answered = both.1;
+        }
 
     pub is_write : (after : PlaceBook) (answer : Result Written RuleOr) → IsUnlessNoMemory (IsDone given book after) answer
         → Found (λ sheet. IsUnlessNoMemory (IsWrite one_cell area given.block.now sheet book after) answer)
     is_write after answer is =
         subst (λ found. IsSomeAnd found (λ sheet. IsUnlessNoMemory (IsWrite one_cell area given.block.now sheet book after) answer))
         (sym has_sheet.found)
-        (unless (IsDone given book after) (IsWrite one_cell area given.block.now sheet book after) (λ one done.
-        let now : IsAnswerTo after one (given.end_row, given.end_col) = (done.updated, done.answered) in
-        let both : IsAnswerTo after one (end_row one_cell area sheet, end_col one_cell area sheet) =
-        subst (IsAnswerTo after one) has_sheet.are now in
-        record { updated = both.0; answered = both.1 }) answer is)
+        (unless (IsDone given book after) (IsWrite one_cell area given.block.now sheet book after) (write_done after) answer is)
 
     -- the rectangle of what is written is on the sheet
     pub written_there : (after : PlaceBook) (answer : Result Written RuleOr)
         → IsUnlessNoMemory (IsDone given book after) answer → IfOk answer (λ written. IsThere book.sheets written.area)
     written_there after (Ok written) is =
         let fit : fits_by given ≡ true =
-        fits_from (nat_lt most_stored (filled_of after.sheets)) (fits_by given) (PastLimit Filled) ValuesPastRange is.answered.0 in
+        fits_from (nat_lt most_stored (filled_of after.sheets)) (nat_lt most_formulas (formulas_of after.sheets))
+        (fits_by given) is.limit is.answered.0 in
         let parts = fit_parts given fit in
         let row = parts.0 in
         let col = parts.1 in

@@ -1,7 +1,8 @@
 -- What a write of values makes of the cells, and what its answer counts (Google Sheets API v4 reference,
 -- spreadsheets.values.update, ValueRange and UpdateValuesResponse).
-use Rattle.std.specs.Prelude.{◌≡◌, ◌<◌, ◌↔◌, ◌+◌, ◌-◌, ℕ, Bool, ◌&&◌, List, [], length, max, get_or, nat_le, nat_lt}
-use Rattle.std.specs.Prelude.{if◌then◌else◌, Option, None, Some, Result, MatchResult, Contains}
+use Rattle.std.specs.Prelude.{◌≡◌, ◌<◌, ◌≤◌, ◌↔◌, ◌+◌, ◌-◌, ℕ, Bool, ◌&&◌, List, [], length, max, get_or, nat_le, nat_lt}
+use Rattle.std.specs.Prelude.{if◌then◌else◌, Option, None, Some, Result, MatchResult, Contains, IfSome, IsSomeAnd}
+use Rattle.std.specs.Prelude.{option_map, option_and_then}
 use Rattle.std.specs.List.{fold, AllPairs, count_by, sum_by}
 use Rattle.std.specs.Option.{IsSome, is_some}
 use Rattle.cell_value.specs.declared.cell.Block.{Block}
@@ -14,13 +15,19 @@ use Rattle.grid_range.specs.declared.band.Band.TheVariants.{Span}
 use Rattle.ref_rewrite.specs.declared.cell_content.Content.{Content}
 use Rattle.ref_rewrite.specs.declared.cell_content.Content.TheVariants as content
 use Rattle.world_model.specs.Book.{PlaceBook}
-use Rattle.world_model.specs.Counts.{filled_of}
+use Rattle.formula_reader.specs.Pieces.{IsRead}
+use Rattle.formula_reader.specs.Sheets.{Sheets}
+use Rattle.formula_reader.specs.declared.fault.FormulaFault.{FormulaFault}
+use Rattle.formula_reader.specs.declared.fault.FormulaFault.TheVariants as fault
+use Rattle.ref_rewrite.specs.declared.pieces.Formula.{Formula}
+use Rattle.world_model.specs.Counts.{filled_of, formulas_of}
 use Rattle.world_model.specs.Sheet.{PlaceSheet}
 use Rattle.world_model.specs.Updating.{Updates}
-use Rattle.dimension_ops.specs.declared.rule.Limit.TheVariants.{Filled}
+use Rattle.dimension_ops.specs.declared.rule.Limit.TheVariants.{Filled, Formulas, Tokens, References, Depth}
 use Rattle.dimension_ops.specs.declared.rule.Rule.{Rule}
 use Rattle.dimension_ops.specs.declared.rule.Rule.TheVariants.{PastLimit, ValuesPastRange}
 use Rattle.values_api.specs.declared.writing.Written.{Written}
+use Rattle.values_api.specs.Sheets.{formula_sheets}
 use Rattle.values_api.specs.Shown.{cell_along}
 use Rattle.values_api.specs.Updates.{AreUpdated}
 
@@ -42,17 +49,16 @@ cols_needed block = if block.columns_first then length block.values else longest
 abbrev pub input_at : Block → ℕ → ℕ → Input
 input_at block = cell_along block.columns_first (λ line place. get_or (get_or block.values line []) place input.Skip)
 
--- what a value makes of its cell: null leaves it alone, an empty text empties it; a formula's text is kept as a text,
--- as long as no formulas are entered
-abbrev pub entered : Input → Option (Option Content)
-entered input.Skip = None
-entered input.Empty = Some None
-entered (input.Number number) = Some (Some (content.Number number))
-entered (input.Text text) = Some (Some (content.Text text))
-entered (input.Truth truth) = Some (Some (content.Truth truth))
-entered (input.FormulaText text) = Some (Some (content.Text text))
+-- the value, unless it is null, which leaves its cell alone
+abbrev pub given_value : Input → Option Input
+given_value input.Skip = None
+given_value input.Empty = Some input.Empty
+given_value (input.Number number) = Some (input.Number number)
+given_value (input.Text text) = Some (input.Text text)
+given_value (input.Truth truth) = Some (input.Truth truth)
+given_value (input.FormulaText text) = Some (input.FormulaText text)
 
--- ---- what is written
+-- ---- which values are written
 
 -- values for a range go no further than it does; those for one cell may go on to the end of the sheet
 abbrev pub end_row : Bool → Area → PlaceSheet → ℕ
@@ -71,13 +77,75 @@ fits one_cell area block sheet =
 abbrev pub lies_in : ℕ → ℕ → ℕ → Bool
 lies_in first end line = nat_le first line && nat_lt line end
 
--- the values are written from the area's corner on, as far as the ends
-abbrev pub written : Bool → Area → Block → PlaceSheet → Updates
+-- the value that is written to a place, from the area's corner on and as far as the ends
+abbrev pub written : Bool → Area → Block → PlaceSheet → ℕ → ℕ → Option Input
 written one_cell area block sheet row col =
     if lies_in (first_line area.rows) (end_row one_cell area sheet) row
     && lies_in (first_line area.cols) (end_col one_cell area sheet) col
-    then entered (input_at block (row - first_line area.rows) (col - first_line area.cols))
+    then given_value (input_at block (row - first_line area.rows) (col - first_line area.cols))
     else None
+
+-- ---- what it makes of its cell
+
+-- what a cell is to hold, which may be nothing, and the first limit that its formula passes
+pub record Entry : Type 0 where
+  pub content : Option Content
+  pub limit : Option FormulaFault
+
+-- what isn't a formula passes none
+abbrev pub plain : Option Content → Entry
+plain content = record { content = content; limit = None }
+
+-- a text that is entered as a formula is read as one of the sheet `here`
+pub record IsFormulaEntry (sheets : Sheets) (here : ℕ) (text : List ℕ) (entry : Entry) : Type 0 where
+  pub formula : Formula
+  pub content_is : entry.content ≡ Some (content.Formula formula)
+  pub is_read : IsRead sheets here text formula entry.limit
+
+-- what a value makes of a cell of the sheet `here`: an empty text empties it
+abbrev pub IsEntry : Sheets → ℕ → Input → Entry → Type 0
+IsEntry sheets here input.Skip entry = ⊥
+IsEntry sheets here input.Empty entry = entry ≡ plain None
+IsEntry sheets here (input.Number number) entry = entry ≡ plain (Some (content.Number number))
+IsEntry sheets here (input.Text text) entry = entry ≡ plain (Some (content.Text text))
+IsEntry sheets here (input.Truth truth) entry = entry ≡ plain (Some (content.Truth truth))
+IsEntry sheets here (input.FormulaText text) entry = IsFormulaEntry sheets here text entry
+
+abbrev pub IsEntryOf : Sheets → ℕ → Option Input → Option Entry → Type 0
+IsEntryOf sheets here None entry = entry ≡ None
+IsEntryOf sheets here (Some value) entry = IsSomeAnd entry (IsEntry sheets here value)
+
+-- what values make of the cells of the sheet `here`, by place
+abbrev pub AreEntries : Sheets → ℕ → (ℕ → ℕ → Option Input) → (ℕ → ℕ → Option Entry) → Type 0
+AreEntries sheets here values entries = (row col : ℕ) → IsEntryOf sheets here (values row col) (entries row col)
+
+-- what the cells are to hold
+abbrev pub contents_of : (ℕ → ℕ → Option Entry) → Updates
+contents_of entries row col = option_map (λ entry. entry.content) (entries row col)
+
+-- ---- limits
+
+-- the limits of formulas, in the order in which they are told
+abbrev pub rank : FormulaFault → ℕ
+rank fault.Tokens = 0
+rank fault.References = 1
+rank fault.Depth = 2
+rank fault.NoMemory = 3
+
+abbrev pub passes : Option Entry → Option FormulaFault
+passes entry = option_and_then (λ entry. entry.limit) entry
+
+-- a limit that some formula passes, and no formula passes one before it
+pub record IsFirst (entries : ℕ → ℕ → Option Entry) (limit : FormulaFault) : Type 0 where
+  pub row : ℕ
+  pub col : ℕ
+  pub is : passes (entries row col) ≡ Some limit
+  pub least : (r c : ℕ) → IfSome (passes (entries r c)) (λ other. rank limit ≤ rank other)
+
+-- the first limit that formulas pass, if they pass one
+abbrev pub IsFirstPassed : (ℕ → ℕ → Option Entry) → Option FormulaFault → Type 0
+IsFirstPassed entries (Some limit) = IsFirst entries limit
+IsFirstPassed entries None = (row col : ℕ) → passes (entries row col) ≡ None
 
 -- ---- the answer
 
@@ -85,12 +153,28 @@ written one_cell area block sheet row col =
 abbrev pub most_stored : ℕ
 most_stored = 1000000
 
--- the rule that is broken: more cells would be stored than can be, or a value needs a line behind the ends
-abbrev pub broken_by_write : Bool → PlaceBook → Option Rule
-broken_by_write fit after =
+-- and how many of them can hold a formula
+abbrev pub most_formulas : ℕ
+most_formulas = 20000
+
+-- the rule that a formula breaks by a limit
+abbrev pub rule_of_limit : FormulaFault → Rule
+rule_of_limit fault.Tokens = PastLimit Tokens
+rule_of_limit fault.References = PastLimit References
+rule_of_limit fault.Depth = PastLimit Depth
+rule_of_limit fault.NoMemory = PastLimit Depth
+
+abbrev pub broken_by_formulas : Option FormulaFault → Bool → Option Rule
+broken_by_formulas (Some limit) fit = Some (rule_of_limit limit)
+broken_by_formulas None fit = if fit then None else Some ValuesPastRange
+
+-- the rule that is broken: more cells or formulas would be stored than can be, a formula passes a limit, or a value
+-- needs a line behind the ends
+abbrev pub broken_by_write : Option FormulaFault → Bool → PlaceBook → Option Rule
+broken_by_write limit fit after =
     if nat_lt most_stored (filled_of after.sheets) then Some (PastLimit Filled)
-    else if fit then None
-    else Some ValuesPastRange
+    else if nat_lt most_formulas (formulas_of after.sheets) then Some (PastLimit Formulas)
+    else broken_by_formulas limit fit
 
 -- so many lines from the first one on, and one at least
 abbrev pub lines_from : ℕ → ℕ → Band
@@ -110,21 +194,25 @@ pub record AreLines (IsLine : ℕ → Type 0) (lines : List ℕ) : Type 0 where
   pub exactly : (line : ℕ) → Contains lines line ↔ IsLine line
 
 abbrev pub is_given : Input → Bool
-is_given value = is_some (entered value)
+is_given value = is_some (given_value value)
 
 -- what was written or emptied: the rectangle of the values, the rows and the columns with such a cell, and the number
 -- of these cells
-pub record IsWritten (area : Area) (block : Block) (updates : Updates) (written : Written) : Type 0 where
+pub record IsWritten (area : Area) (block : Block) (values : ℕ → ℕ → Option Input) (written : Written) : Type 0 where
   pub area_is : written.area ≡ area_written area block
-  pub rows_are : AreLines (λ row. (col : ℕ) × IsSome (updates row col)) written.rows
-  pub cols_are : AreLines (λ col. (row : ℕ) × IsSome (updates row col)) written.cols
+  pub rows_are : AreLines (λ row. (col : ℕ) × IsSome (values row col)) written.rows
+  pub cols_are : AreLines (λ col. (row : ℕ) × IsSome (values row col)) written.cols
   pub cells_are : written.cells ≡ sum_by (count_by is_given) block.values
 
 -- a write of the block to the area of the sheet makes that of the spreadsheet, and is answered so
 pub record IsWrite (one_cell : Bool) (area : Area) (block : Block) (sheet : PlaceSheet) (before after : PlaceBook)
     (answer : Result Written Rule) : Type 0 where
-  pub updated : AreUpdated area.sheet (written one_cell area block sheet) before after
+  pub entries : ℕ → ℕ → Option Entry
+  pub limit : Option FormulaFault
+  pub entered : AreEntries (formula_sheets before.sheets) area.sheet (written one_cell area block sheet) entries
+  pub updated : AreUpdated area.sheet (contents_of entries) before after
+  pub first : IsFirstPassed entries limit
   pub answered : MatchResult answer
-      (λ done. (broken_by_write (fits one_cell area block sheet) after ≡ None)
+      (λ done. (broken_by_write limit (fits one_cell area block sheet) after ≡ None)
       × IsWritten area block (written one_cell area block sheet) done)
-      (λ rule. broken_by_write (fits one_cell area block sheet) after ≡ Some rule)
+      (λ rule. broken_by_write limit (fits one_cell area block sheet) after ≡ Some rule)

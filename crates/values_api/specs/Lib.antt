@@ -5,3 +5,4 @@ pub mod Reading
 pub mod Updates
 pub mod Blocks
 pub mod Given
+pub mod Laws

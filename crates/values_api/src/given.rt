@@ -1,14 +1,16 @@
-ghost use Rattle.std.specs.Prelude.{◌≡◌, ◌+◌, ◌-◌, ◌<◌, ◌≤◌, IfOk, IsTrue, OnOk, Contains, length, map, nat_le, get_or, unwrap_or};
-ghost use Rattle.std.specs.Option.{option_copied};
+ghost use Rattle.std.specs.Prelude.{◌≡◌, ◌+◌, ◌-◌, ◌<◌, ◌≤◌, IfOk, IfSome, IsTrue, OnOk, Contains, length, map, nat_le, get_or, unwrap_or};
+ghost use Rattle.std.specs.Option.{IsSome, option_copied};
+ghost use Rattle.world_model.specs.Sound.{IsContentWithin, place_sheet_with};
+ghost use Rattle.values_api.specs.Sheets.{formula_sheets};
 ghost use Rattle.cell_value.specs.declared.entered.Input.TheVariants.{Skip};
-ghost use Rattle.values_api.specs.Blocks.{longest, rows_needed, cols_needed, input_at, entered, is_given, lines_from, area_written, AreLines};
-ghost use Rattle.values_api.specs.Updates.{AreUpdated};
-ghost use Rattle.values_api.specs.Given.{HasRoom, IsWithinSheet, AreGiven, AreGivenBefore, first_row, first_col, made_by, fits_by, turned, room, cell_for, line_given, line_on};
+ghost use Rattle.values_api.specs.Blocks.{longest, rows_needed, cols_needed, input_at, given_value, is_given, IsEntry, lines_from, area_written, AreLines};
+ghost use Rattle.values_api.specs.Given.{HasRoom, IsWithinSheet, AreGiven, AreGivenBefore, ArePut, entry_of, first_row, first_col, value_by, fits_by, turned, room, cell_for, line_given, line_on};
 
-use cell_value::{Block, Duplicate, Input, Items, NoMemory};
+use crate::entry::{Entry, entry, first_of};
+use cell_value::{Block, Input, Items, NoMemory};
 use dimension_ops::Book;
+use formula_reader::{FormulaFault, reads_once};
 use grid_range::{Area, Axis, Band};
-use ref_rewrite::Content;
 use std::alloc::Global;
 use world_model::{updates_are_writes, updates_follow};
 
@@ -95,37 +97,46 @@ impl<'a> Given<'a> {
         }
     }
 
-    /// Writes to those cells, or empties them.
-    pub(crate) fn put(&self, book: &mut Book, cells: &[(u32, u32)]) -> Result<(), NoMemory>
+    /// Writes to those cells, or empties them; the first limit that one of the formulas passes.
+    pub(crate) fn put(
+        &self,
+        book: &mut Book,
+        cells: &[(u32, u32)],
+    ) -> Result<Option<FormulaFault>, NoMemory>
         requires sheet { IsWithinSheet book.old.sheets self.now }
         requires cells { AreGiven self.now cells.now }
-        ensures { OnOk result (AreUpdated self.now.area.now.sheet (made_by self.now) book.old book.new) }
+        ensures { IfOk result (ArePut self.now book.old book.new) }
     {
         updates_are_writes();
         updates_follow();
+        reads_once();
         book.stays_sound();
+        let mut first = None;
         for cell in cells {
-            if let Some(content) = self.made(cell.0, cell.1)? {
-                book.put(self.area.sheet, cell.0, cell.1, content)?;
-            }
+            let (content, limit) = self.entry(book, cell.0, cell.1)?;
+            book.put(self.area.sheet, cell.0, cell.1, content)?;
+            first = first_of(first, limit);
         }
         book.stays_sound();
-        Ok(())
+        Ok(first)
     }
 
-    /// What the cell is to hold; None where it is left alone.
-    fn made(&self, row: u32, col: u32) -> Result<Option<Option<Content>>, NoMemory>
+    /// What the cell is to hold, and the first limit that its formula passes.
+    fn entry(&self, book: &Book, row: u32, col: u32) -> Result<Entry, NoMemory>
         requires row { first_row self.now ≤ row }
         requires col { first_col self.now ≤ col }
-        ensures { IfOk result (λ made. made
-            ≡ entered (input_at self.now.block.now (row - first_row self.now) (col - first_col self.now))) }
+        requires there { IsSome (place_sheet_with self.now.area.now.sheet book.now.sheets) }
+        requires given { IsSome (given_value (input_at self.now.block.now (row - first_row self.now) (col - first_col self.now))) }
+        ensures entry { IfOk result (λ entry. IsEntry (formula_sheets book.now.sheets) self.now.area.now.sheet
+            (input_at self.now.block.now (row - first_row self.now) (col - first_col self.now)) (entry_of entry)) }
+        ensures within { IfOk result (λ entry. IfSome entry.0 (IsContentWithin book.now.sheets)) }
     {
         let row = row - self.area.rows.first_line();
         let col = col - self.area.cols.first_line();
         let (line, place) = self.turned(row as usize, col as usize);
         match self.input(line, place) {
-            Some(input) => entered(input),
-            None => Ok(None),
+            Some(input) => entry(self.alloc, book, self.area.sheet, input),
+            None => Ok((None, None)),
         }
     }
 
@@ -201,20 +212,6 @@ fn is_given(input: &Input) -> bool
     ensures { result ≡ is_given input.now }
 {
     !matches!(input, Input::Skip)
-}
-
-/// What a value makes of its cell; None where it leaves it alone.
-fn entered(input: &Input) -> Result<Option<Option<Content>>, NoMemory>
-    ensures { IfOk result (λ made. made ≡ entered input.now) }
-{
-    match input {
-        Input::Skip => Ok(None),
-        Input::Empty => Ok(Some(None)),
-        Input::Number(number) => Ok(Some(Some(Content::Number(*number)))),
-        Input::Text(text) => Ok(Some(Some(Content::Text(text.duplicate()?)))),
-        Input::Truth(truth) => Ok(Some(Some(Content::Truth(*truth)))),
-        Input::FormulaText(text) => Ok(Some(Some(Content::Text(text.duplicate()?)))),
-    }
 }
 
 /// The cells' rows, or their columns, in order, each once.

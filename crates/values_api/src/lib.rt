@@ -4,7 +4,9 @@
 
 mod clearing;
 mod cut;
+mod entry;
 mod given;
+mod laws;
 mod printed;
 mod ranges;
 mod sheets;
@@ -12,6 +14,7 @@ mod shown;
 mod writing;
 
 pub use clearing::clear_values;
+pub use laws::{updates_once, writes_once};
 pub use printed::range_text;
 pub use ranges::resolve;
 pub use sheets::BookCells;

@@ -1,18 +1,22 @@
 ghost use Rattle.std.specs.Prelude.{◌≡◌, IfOk, IsSomeAnd};
 ghost use Rattle.world_model.specs.Sound.{place_sheet_with};
 ghost use Rattle.dimension_ops.specs.Rules.{IsUnlessNoMemory};
-ghost use Rattle.values_api.specs.Blocks.{IsWrite, end_row, end_col};
+ghost use Rattle.values_api.specs.Blocks.{IsWrite, broken_by_write, rule_of_limit, end_row, end_col};
 ghost use Rattle.values_api.specs.Given.{HasRoom, IsWithinSheet, AreGiven, IsAnswer, IsDone};
 ghost use Rattle.values_api.specs.Ranges.{IsThere};
 
 use crate::given::{Given, lines_on};
 use cell_value::{Block, Items};
 use dimension_ops::{Book, Limit, Rule, RuleOr};
+use formula_reader::FormulaFault;
 use grid_range::{Area, Axis};
 use std::alloc::Global;
 
 /// How many cells of a spreadsheet can be stored.
 const MOST_STORED: u64 = 1_000_000;
+
+/// How many cells of a spreadsheet can hold a formula.
+const MOST_FORMULAS: u64 = 20_000;
 
 /// What a write did (Sheets API v4 reference, UpdateValuesResponse).
 #[derive(Debug, Drop)]
@@ -29,13 +33,16 @@ pub struct Written {
 
 /// Writes values from the first corner of an area on (Sheets API v4 reference, spreadsheets.values.update).
 /// Where the area was named as one cell they may go on to the end of the sheet, and else to the area's
-/// end. Nothing denies a user a cell yet.
+/// end. A formula's text is read as a formula of the sheet. Nothing denies a user a cell yet.
 ///
 /// # Errors
 ///
-/// [`Rule::PastLimit`] with [`Limit::Filled`] where more than 1,000,000 cells of the spreadsheet would be
-/// stored; [`Rule::ValuesPastRange`] where the values need a line behind those; [`RuleOr::NoMemory`] where
-/// memory runs out. The spreadsheet is to be given up then.
+/// [`Rule::PastLimit`] with the first limit that would be passed: [`Limit::Filled`] where more than
+/// 1,000,000 cells of the spreadsheet would be stored, [`Limit::Formulas`] where more than 20,000 formulas
+/// would be, and [`Limit::Tokens`], [`Limit::References`] and [`Limit::Depth`] where a formula that would be
+/// written has more than 512 tokens, 64 references and words or 32 brackets open at once;
+/// [`Rule::ValuesPastRange`] where the values need a line behind the ends; [`RuleOr::NoMemory`] where memory
+/// runs out. The spreadsheet is to be given up then.
 pub fn write_values(
     alloc: Global,
     book: &mut Book,
@@ -89,26 +96,57 @@ fn write(given: &Given<'_>, book: &mut Book) -> Result<Written, RuleOr>
     ensures { IsUnlessNoMemory (IsDone given.now book.old book.new) result }
 {
     let cells = given.cells()?;
-    given.put(book, cells.as_slice())?;
-    answer(given, book, cells.as_slice())
+    let limit = given.put(book, cells.as_slice())?;
+    answer(given, book, cells.as_slice(), limit)
 }
 
-/// The answer to a write, of which these cells were written or emptied; the rule that it breaks, if any.
-fn answer(given: &Given<'_>, book: &Book, cells: &[(u32, u32)]) -> Result<Written, RuleOr>
+/// The answer to a write, of which these cells were written or emptied, and of whose formulas one passes
+/// the limit; the rule that it breaks, if any.
+fn answer(
+    given: &Given<'_>,
+    book: &Book,
+    cells: &[(u32, u32)],
+    limit: Option<FormulaFault>,
+) -> Result<Written, RuleOr>
     requires room { HasRoom given.now }
     requires cells { AreGiven given.now cells.now }
-    ensures { IsUnlessNoMemory (IsAnswer given.now book.now) result }
+    ensures { IsUnlessNoMemory (IsAnswer given.now limit book.now) result }
 {
-    if book.filled() > MOST_STORED {
-        return Err(RuleOr::Rule(Rule::PastLimit(Limit::Filled)));
-    }
-    if !given.fits() {
-        return Err(RuleOr::Rule(Rule::ValuesPastRange));
+    if let Some(rule) = broken(limit, given.fits(), book) {
+        return Err(RuleOr::Rule(rule));
     }
     Ok(Written {
         area: given.rectangle(),
         rows: lines_on(given.alloc, Axis::Rows, cells)?,
         cols: lines_on(given.alloc, Axis::Columns, cells)?,
         cells: cells.len() as u64,
+    })
+}
+
+/// The rule that a write breaks after which the spreadsheet is such.
+fn broken(limit: Option<FormulaFault>, fits: bool, book: &Book) -> Option<Rule>
+    ensures { result ≡ broken_by_write limit fits book.now }
+{
+    if book.filled() > MOST_STORED {
+        return Some(Rule::PastLimit(Limit::Filled));
+    }
+    if book.formulas() > MOST_FORMULAS {
+        return Some(Rule::PastLimit(Limit::Formulas));
+    }
+    match limit {
+        Some(limit) => Some(rule_of_limit(limit)),
+        None if fits => None,
+        None => Some(Rule::ValuesPastRange),
+    }
+}
+
+/// The rule that a formula breaks which passes the limit.
+fn rule_of_limit(limit: FormulaFault) -> Rule
+    ensures { result ≡ rule_of_limit limit }
+{
+    Rule::PastLimit(match limit {
+        FormulaFault::Tokens => Limit::Tokens,
+        FormulaFault::References => Limit::References,
+        FormulaFault::Depth | FormulaFault::NoMemory => Limit::Depth,
     })
 }

@@ -1,7 +1,7 @@
 use crate::common::{check, opening};
 use crate::values::{Shown, are_lines};
 use cell_value::{Block, Input, Items, Render, Text};
-use dimension_ops::{Book, Rule, RuleOr};
+use dimension_ops::{Book, Limit, Rule, RuleOr};
 use grid_range::Area;
 use std::alloc::Global;
 use values_api::{Written, range_text, read_values, resolve, write_values};
@@ -295,5 +295,76 @@ fn values_are_written(rt: HostRuntime) {
             is_written(rt.alloc(), &mut book, write.range, &block, write.told),
         );
         check(&rt, &write.range, is_shown(rt.alloc(), &book, write.shown));
+    }
+}
+
+/// A row of 25 formulas.
+static FORMULAS: [Entered; 25] = [Entered::Formula("=1"); 25];
+
+/// So many rows of 25 formulas, or None where memory runs out.
+fn formulas_of(alloc: Global, rows: usize) -> Option<Block> {
+    let mut values = Vec::new(alloc);
+    for _ in 0..rows {
+        let Some(line) = line_of(alloc, &FORMULAS) else {
+            return None;
+        };
+        if values.push(line).is_err() {
+            return None;
+        }
+    }
+    Some(Block {
+        columns_first: false,
+        values: Items::of(values),
+    })
+}
+
+/// The first sheet with 800 rows of 25 formulas, or None where memory runs out.
+fn full_of_formulas(alloc: Global) -> Option<Book> {
+    let mut book = opening(alloc)?;
+    let block = formulas_of(alloc, 800)?;
+    let told = Ok(("Sheet1!A1:Y800", 800, 25, 20_000));
+    if is_written(alloc, &mut book, "A1", &block, told) {
+        Some(book)
+    } else {
+        None
+    }
+}
+
+/// Whether the value of one cell is written with that answer.
+fn is_one_written(
+    alloc: Global,
+    book: &mut Book,
+    range: &str,
+    value: &'static [Entered],
+    told: Told,
+) -> bool {
+    match block_of(alloc, false, &[value]) {
+        Some(block) => is_written(alloc, book, range, &block, told),
+        None => false,
+    }
+}
+
+/// Writes to a sheet that has as many formulas as there can be.
+static AT_THE_LIMIT: [(&str, &[Entered], Told); 3] = [
+    ("A1", &[Entered::Formula("=2")], Ok(("Sheet1!A1", 1, 1, 1))),
+    ("A801", &[Entered::Number(1)], Ok(("Sheet1!A801", 1, 1, 1))),
+    (
+        "A801",
+        &[Entered::Formula("=1")],
+        Err(Rule::PastLimit(Limit::Formulas)),
+    ),
+];
+
+#[test]
+fn a_spreadsheet_has_so_many_formulas(rt: HostRuntime) {
+    let Some(mut book) = full_of_formulas(rt.alloc()) else {
+        return check(&rt, &"memory", false);
+    };
+    for row in &AT_THE_LIMIT {
+        check(
+            &rt,
+            &row.0,
+            is_one_written(rt.alloc(), &mut book, row.0, row.1, row.2),
+        );
     }
 }

@@ -1,19 +1,8 @@
-use Rattle.std.proofs.lemmas.Result.{err_from_is_err_and}
-use Rattle.values_api.specs.Ranges.{Resolves}
-use Rattle.batch_engine.specs.Calls.{IsClear}
-use Rattle.batch_engine.proofs.Ranged.{change_refused, clear_done}
+use Rattle.batch_engine.proofs.Ranged.{clear_done}
 use Rattle.batch_engine.proofs.answers.clear.Goals as goal
-
-pub returns-in_err-area : goal.returns-in_err-area
-returns-in_err-area c =
-    let p = err_from_is_err_and c.from_residual.result c.from_residual.ensures.1 in
-    rw (p.1, p.2)
-    (change_refused (Resolves c.args.range.now c.args.book.now.sheets) c.args.book.now.sheets (IsClear c.args.book.now)
-    c.args.book.now c.in_err-area.field-0.0 c.in_err-area.ensures.resolved)
 
 pub returns : goal.returns
 returns c =
     rw (c.in_ok-spreadsheet_id.ensures, c.id.ensures)
-    (clear_done c.args.range.now c.args.book.now c.clear_values.new.book (c.in_ok-area.area, c.in_ok-area.field-0-1)
-    c.in_ok-cleared_range.cleared_range c.in_ok-area.ensures.resolved c.in_ok-cleared_range.ensures
-    (rw c.in_ok-after.ensures at c.in_ok-clear_values.ensures.cleared))
+    (clear_done c.args.range.now c.args.book.now c.emptied.new.book c.in_ok-cleared_range.cleared_range
+    (rw c.in_ok-after.ensures at c.in_ok-cleared_range.ensures))

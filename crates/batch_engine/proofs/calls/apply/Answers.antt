@@ -1,41 +1,77 @@
-use Rattle.std.proofs.Common.{Err}
+use Rattle.std.proofs.Common.{Err, ap, sym, subst, ◌∙◌}
+use Rattle.std.specs.Prelude.{IfOk}
+use Rattle.std.specs.Option.{IsSome}
+use Rattle.dimension_ops.specs.World.{book_with}
 use Rattle.dimension_ops.specs.declared.rule.Rule.TheVariants as rule
-use Rattle.batch_engine.specs.Calls.{IsApplied, IsInstalled}
-use Rattle.batch_engine.proofs.Installed.{applied_unchanged, if_ok, other_answered}
-use Rattle.batch_engine.proofs.Installed.{write_there, write_applied, clear_there, clear_applied}
+use Rattle.sheets_json.specs.declared.place.Place.TheVariants as place
+use Rattle.batch_engine.specs.Calls.{IsApplied, IsInstalled, told_as}
+use Rattle.batch_engine.proofs.Installed.{applied_unchanged, if_ok, other_answered, read_applied, read_judged}
+use Rattle.batch_engine.proofs.Installed.{write_there, write_applied, clear_there, clear_applied, clears_there, clears_applied}
 use Rattle.batch_engine.proofs.calls.apply.Goals as goal
 
 pub changed-requires : goal.changed-requires
-changed-requires c = write_there _ _ _ _ c.args.world.now c.book_of-book-in-Write.result.now c.args.call.now c.in-Write.is
+changed-requires c =
+    subst (λ told. IfOk told (λ done. IsSome (book_with done.1.id c.args.world.now))) (sym c.alone-in-Write.ensures)
+    (write_there _ _ _ _ c.args.world.now c.book_of-book-in-Write.result.now c.args.call.now c.in-Write.is
     (rw c.as_str-in-Write.ensures at c.book_of-book-in-Write.ensures) c.write.result c.in_ok-told-in-Write.told
-    (rw c.as_str-in-Write-2.ensures at c.write.ensures) c.in_ok-told-in-Write.ensures
+    (rw c.as_str-in-Write-2.ensures at c.write.ensures) c.in_ok-told-in-Write.ensures)
 
 pub changed-requires-in-Clear : goal.changed-requires-in-Clear
-changed-requires-in-Clear c = clear_there _ _ c.args.world.now c.book_of-book-in-Clear.result.now c.args.call.now
+changed-requires-in-Clear c =
+    subst (λ told. IfOk told (λ done. IsSome (book_with done.1.id c.args.world.now))) (sym c.alone-in-Clear.ensures)
+    (clear_there _ _ c.args.world.now c.book_of-book-in-Clear.result.now c.args.call.now
     c.in-Clear.is (rw c.as_str-in-Clear.ensures at c.book_of-book-in-Clear.ensures) c.clear.result
-    c.in_ok-told-in-Clear.told (rw c.as_str-in-Clear-2.ensures at c.clear.ensures) c.in_ok-told-in-Clear.ensures
+    c.in_ok-told-in-Clear.told (rw c.as_str-in-Clear-2.ensures at c.clear.ensures) c.in_ok-told-in-Clear.ensures)
+
+pub returns-in_ok-told-in-Read : goal.returns-in_ok-told-in-Read
+returns-in_ok-told-in-Read c =
+    read_applied c.args.world.now c.book_of-book.result.now c.args.call.now c.unchanged.result.outcome
+    c.unchanged.result.next c.unchanged.ensures.next _ _ _ _ c.in-Read.is (rw c.as_str.ensures at c.book_of-book.ensures)
+    c.in_ok-told-in-Read.told
+    (read_judged c.in-Read.range c.in-Read.major_dimension c.in-Read.value_render_option c.book_of-book.result.now c.read.result c.in_ok-told-in-Read.told (rw c.as_str-in-Read.ensures at c.read.ensures)
+    c.in_ok-told-in-Read.ensures)
+    (c.unchanged.ensures.outcome ∙ ap told_as c.alone.ensures)
 
 pub returns-in_ok-told-in-Write : goal.returns-in_ok-told-in-Write
 returns-in_ok-told-in-Write c =
-    if_ok (λ applied. IsInstalled c.args.world.now c.in_ok-told-in-Write.told applied.outcome applied.next)
+    if_ok (λ applied. IsInstalled c.args.world.now c.alone-in-Write.result applied.outcome applied.next)
     (λ applied. IsApplied c.args.call.now c.args.world.now applied.outcome applied.next) c.changed.result
     (λ applied installed. write_applied _ _ _ _ c.args.world.now c.book_of-book-in-Write.result.now c.args.call.now
     c.in-Write.is (rw c.as_str-in-Write.ensures at c.book_of-book-in-Write.ensures) c.write.result
     c.in_ok-told-in-Write.told (rw c.as_str-in-Write-2.ensures at c.write.ensures) c.in_ok-told-in-Write.ensures
-    applied.outcome applied.next installed) c.changed.ensures
+    applied.outcome applied.next (subst (λ told. IsInstalled c.args.world.now told applied.outcome applied.next)
+    c.alone-in-Write.ensures installed)) c.changed.ensures
 
 pub returns-in_ok-told-in-Clear : goal.returns-in_ok-told-in-Clear
 returns-in_ok-told-in-Clear c =
-    if_ok (λ applied. IsInstalled c.args.world.now c.in_ok-told-in-Clear.told applied.outcome applied.next)
+    if_ok (λ applied. IsInstalled c.args.world.now c.alone-in-Clear.result applied.outcome applied.next)
     (λ applied. IsApplied c.args.call.now c.args.world.now applied.outcome applied.next) c.changed-in-Clear.result
     (λ applied installed. clear_applied _ _ c.args.world.now c.book_of-book-in-Clear.result.now c.args.call.now
     c.in-Clear.is (rw c.as_str-in-Clear.ensures at c.book_of-book-in-Clear.ensures) c.clear.result
     c.in_ok-told-in-Clear.told (rw c.as_str-in-Clear-2.ensures at c.clear.ensures) c.in_ok-told-in-Clear.ensures
-    applied.outcome applied.next installed) c.changed-in-Clear.ensures
+    applied.outcome applied.next (subst (λ told. IsInstalled c.args.world.now told applied.outcome applied.next)
+    c.alone-in-Clear.ensures installed)) c.changed-in-Clear.ensures
+
+pub changed-requires-in-ClearMany : goal.changed-requires-in-ClearMany
+changed-requires-in-ClearMany c =
+    clears_there _ _ c.args.world.now c.book_of-book-in-ClearMany.result.now c.args.call.now c.in-ClearMany.is
+    (rw c.as_str-in-ClearMany.ensures at c.book_of-book-in-ClearMany.ensures) c.in_ok-clear_many-in-ClearMany.field-0
+    (rw c.as_slice-in-ClearMany.ensures at c.in_ok-clear_many-in-ClearMany.ensures)
+
+pub returns-in_ok-clear_many-in-ClearMany : goal.returns-in_ok-clear_many-in-ClearMany
+returns-in_ok-clear_many-in-ClearMany c =
+    if_ok (λ applied. IsInstalled c.args.world.now c.in_ok-clear_many-in-ClearMany.field-0 applied.outcome applied.next)
+    (λ applied. IsApplied c.args.call.now c.args.world.now applied.outcome applied.next) c.changed-in-ClearMany.result
+    (λ applied installed. clears_applied _ _ c.args.world.now c.book_of-book-in-ClearMany.result.now c.args.call.now
+    c.in-ClearMany.is (rw c.as_str-in-ClearMany.ensures at c.book_of-book-in-ClearMany.ensures)
+    c.in_ok-clear_many-in-ClearMany.field-0
+    (rw c.as_slice-in-ClearMany.ensures at c.in_ok-clear_many-in-ClearMany.ensures)
+    applied.outcome applied.next installed) c.changed-in-ClearMany.ensures
 
 pub returns-in_default : goal.returns-in_default
 returns-in_default c =
-    applied_unchanged c.args.call.now c.args.world.now (Err rule.Unsupported) c.unchanged-in_default.result.outcome
-    c.unchanged-in_default.result.next
-    (other_answered c.args.call.now c.args.world.now c.in_default.not-Read c.in_default.not-Write c.in_default.not-Clear)
+    applied_unchanged c.args.call.now c.args.world.now (Err (place.Alone, rule.Unsupported))
+    c.unchanged-in_default.result.outcome c.unchanged-in_default.result.next
+    (other_answered c.args.call.now c.args.world.now c.in_default.not-Read c.in_default.not-Write c.in_default.not-Clear
+    c.in_default.not-ReadMany c.in_default.not-ClearMany)
     c.unchanged-in_default.ensures.outcome c.unchanged-in_default.ensures.next

@@ -2,8 +2,8 @@ use Rattle.sheets_cli.specs.Program.{truncated_line}
 use Rattle.sheets_cli.proofs.SendLemmas.{says_what_is_sent}
 use Rattle.sheets_cli.proofs.report.say_truncated.Goals as goal
 
-pub returns : goal.returns
-returns g c = says_what_is_sent (g.S.Sink.written c.args.faults.now) (g.S.Sink.written c.send_truncated.new.faults)
+pub returns-clause-says : goal.returns-clause-says
+returns-clause-says g c = says_what_is_sent (g.S.Sink.written c.args.faults.now) (g.S.Sink.written c.send_truncated.new.faults)
     (g.S.Sink.sink_faults c.args.faults.now) (g.S.Sink.sink_faults c.send_truncated.new.faults)
     (g.S.Sink.sink_shortages c.args.faults.now) (g.S.Sink.sink_shortages c.send_truncated.new.faults)
     (truncated_line c.args.count) c.send_truncated.result c.send_truncated.ensures.sends

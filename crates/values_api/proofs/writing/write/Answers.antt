@@ -3,4 +3,5 @@ use Rattle.values_api.proofs.writing.write.Goals as goal
 
 pub returns : goal.returns
 returns c =
-    done c.args.given.now c.args.book.now c.put.new.book c.answer.result c.in_ok-put.ensures c.answer.ensures
+    done c.args.given.now c.in_ok-limit.limit c.args.book.now c.put.new.book c.answer.result c.in_ok-limit.ensures
+    c.answer.ensures

@@ -2,7 +2,7 @@ use Rattle.std.proofs.lemmas.Result.{err_from_is_err_and}
 use Rattle.values_api.specs.Ranges.{Resolves}
 use Rattle.batch_engine.specs.Calls.{IsRead}
 use Rattle.batch_engine.proofs.Ranged.{range_refused, read_done}
-use Rattle.batch_engine.proofs.answers.read.Goals as goal
+use Rattle.batch_engine.proofs.answers.shown.Goals as goal
 
 pub returns-in_err-area : goal.returns-in_err-area
 returns-in_err-area c =

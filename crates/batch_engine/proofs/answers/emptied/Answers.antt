@@ -1,0 +1,14 @@
+use Rattle.std.proofs.lemmas.Result.{err_from_is_err_and}
+use Rattle.batch_engine.proofs.Ranged.{emptied_done, emptied_refused}
+use Rattle.batch_engine.proofs.answers.emptied.Goals as goal
+
+pub returns-in_err-area : goal.returns-in_err-area
+returns-in_err-area c =
+    let p = err_from_is_err_and c.from_residual.result c.from_residual.ensures.1 in
+    rw (p.1, p.2)
+    (emptied_refused c.args.range.now c.args.book.now c.args.book.now c.in_err-area.field-0.0 c.in_err-area.ensures.resolved)
+
+pub returns : goal.returns
+returns c =
+    emptied_done c.args.range.now c.args.book.now c.clear_values.new.book (c.in_ok-area.area, c.in_ok-area.field-0-1)
+    c.in_ok-text.text c.in_ok-area.ensures.resolved c.in_ok-text.ensures c.in_ok-clear_values.ensures.cleared

@@ -1,0 +1,7 @@
+use Rattle.batch_engine.specs.Calls.{IsShown}
+use Rattle.batch_engine.proofs.Judging.{SoFar}
+use Rattle.batch_engine.proofs.lists.all_shown.Given as goal
+
+-- so far the ranges before this one are shown
+abbrev pub invariant-loop-at : goal.invariant-loop-at
+invariant-loop-at l = SoFar (IsShown l.dimension l.render l.book) l.ranges l.at l.all.items

@@ -1,0 +1,43 @@
+-- Calls on a list, whose members are judged one after another: the first that breaks a rule refuses the call, and is
+-- named by its place.
+use Rattle.std.specs.Prelude.{◌≡◌, ℕ, ◌+◌, List, [], ◌∷◌, Result, Ok, Err}
+use Rattle.world_model.specs.Book.{PlaceBook}
+use Rattle.dimension_ops.specs.declared.rule.Rule.{Rule}
+use Rattle.values_api.specs.Updates.{AreUpdated}
+use Rattle.batch_engine.specs.Effects.{Change}
+
+-- what is told of members: of each of them, or the place of the first that breaks a rule, and the rule
+abbrev pub Told : Type 0 → Type 0
+Told A = Result (List A) (ℕ × Rule)
+
+abbrev pub with_first : {A : Type 0} → A → Told A → Told A
+with_first first (Ok others) = Ok (first ∷ others)
+with_first first (Err broken) = Err broken
+
+-- behind a member that is answered those after it are judged
+abbrev pub Then : {A : Type 0} → ℕ → Result A Rule → (Told A → Type 0) → Told A → Type 0
+Then at (Ok first) IsRest told = (rest : Told _) × IsRest rest × (told ≡ with_first first rest)
+Then at (Err broken) IsRest told = told ≡ Err (at, broken)
+
+-- the members from a place on, in order
+abbrev pub InOrder : {M A : Type 0} → (M → Result A Rule → Type 0) → ℕ → List M → Told A → Type 0
+InOrder Is at [] told = told ≡ Ok []
+InOrder Is at (member ∷ members) told =
+    (one : Result _ Rule) × Is member one × Then at one (InOrder Is (at + 1) members) told
+
+-- behind a member that changes the spreadsheet those after it are judged on what it leaves
+abbrev pub ThenOn : {A : Type 0} → ℕ → Result (A × Change) Rule → (PlaceBook → Told A → List Change → Type 0)
+    → PlaceBook → Told A → List Change → Type 0
+ThenOn at (Ok (first, change)) IsRest before told changes =
+    (between : PlaceBook) × (rest : Told _) × (others : List Change)
+    × AreUpdated change.sheet change.updates before between × IsRest between rest others
+    × (told ≡ with_first first rest) × (changes ≡ change ∷ others)
+ThenOn at (Err broken) IsRest before told changes = (told ≡ Err (at, broken)) × (changes ≡ [])
+
+-- such members from a place on, in order, and what they make of the spreadsheet
+abbrev pub InTurn : {M A : Type 0} → (PlaceBook → M → Result (A × Change) Rule → Type 0) → ℕ → List M → PlaceBook
+    → Told A → List Change → Type 0
+InTurn Is at [] before told changes = (told ≡ Ok []) × (changes ≡ [])
+InTurn Is at (member ∷ members) before told changes =
+    (one : Result (_ × Change) Rule) × Is before member one
+    × ThenOn at one (InTurn Is (at + 1) members) before told changes

@@ -1,0 +1,27 @@
+-- Laws of writes and updates.
+use Rattle.std.specs.Prelude.{◌≡◌, ℕ, Bool, Result}
+use Rattle.cell_value.specs.declared.cell.Block.{Block}
+use Rattle.grid_range.specs.declared.area.Area.{Area}
+use Rattle.world_model.specs.Book.{PlaceBook}
+use Rattle.world_model.specs.Sheet.{PlaceSheet}
+use Rattle.world_model.specs.Sound.{IsSound}
+use Rattle.world_model.specs.Updating.{Updates}
+use Rattle.dimension_ops.specs.declared.rule.Rule.{Rule}
+use Rattle.values_api.specs.Blocks.{IsWrite, contents_of}
+use Rattle.values_api.specs.Updates.{AreUpdated}
+use Rattle.values_api.specs.declared.writing.Written.{Written}
+
+-- a write makes one thing of the cells of a sound spreadsheet, and has one answer
+pub record WritesOnce : Type 0 where
+  pub once : (one_cell : Bool) (area : Area) (block : Block) (sheet : PlaceSheet) (before after after' : PlaceBook)
+      (answer answer' : Result Written Rule) → IsSound before
+      → (one : IsWrite one_cell area block sheet before after answer)
+      → (other : IsWrite one_cell area block sheet before after' answer')
+      → (contents_of one.entries ≡ contents_of other.entries) × (answer ≡ answer')
+
+-- an update makes one spreadsheet of a sound one, and that is sound
+pub record UpdatesOnce : Type 0 where
+  pub once : (sheet : ℕ) (updates : Updates) (before after after' : PlaceBook) → IsSound before
+      → AreUpdated sheet updates before after → AreUpdated sheet updates before after' → after ≡ after'
+  pub sound : (sheet : ℕ) (updates : Updates) (before after : PlaceBook) → IsSound before
+      → AreUpdated sheet updates before after → IsSound after

@@ -1,0 +1,23 @@
+//! Laws of writes and updates: each function does nothing of its own, and its contract is the law.
+
+ghost use Rattle.values_api.specs.Laws.{UpdatesOnce, WritesOnce};
+
+use formula_reader::reads_once;
+use world_model::{stands_for_apart, stands_for_some};
+
+/// A write makes one thing of the cells of a spreadsheet, and has one answer.
+pub fn writes_once()
+    ensures { WritesOnce }
+{
+    reads_once();
+    stands_for_some();
+    stands_for_apart();
+}
+
+/// An update makes one spreadsheet of another.
+pub fn updates_once()
+    ensures { UpdatesOnce }
+{
+    stands_for_some();
+    stands_for_apart();
+}
