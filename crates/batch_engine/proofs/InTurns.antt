@@ -10,11 +10,10 @@ use Rattle.world_model.specs.Book.{NameBook, PlaceBook}
 use Rattle.world_model.specs.Sound.{IsSound}
 use Rattle.world_model.specs.StandsFor.{BookStandsFor}
 use Rattle.batch_engine.specs.Effects.{AreChanged, Change, book_after, book_changed}
-use Rattle.batch_engine.specs.Members.{InTurn, ThenOn, Told, with_first}
+use Rattle.batch_engine.specs.Members.{AreDone, InTurn, IsDoneTo, ThenOn, Told, with_first}
 use Rattle.dimension_ops.specs.Rules.{IsUnlessNoMemory}
 use Rattle.dimension_ops.specs.declared.rule.RuleOr.{RuleOr}
-use Rattle.sheets_json.specs.Reading.{Reading}
-use Rattle.batch_engine.specs.Calls.{AreCleared, IsCleared, IsClearedTo, as_told}
+use Rattle.batch_engine.specs.Calls.{as_told}
 use Rattle.batch_engine.proofs.Judged.{judged_so}
 use Rattle.batch_engine.proofs.Judging.{with_all, with_all_err, with_all_more, with_all_ok}
 
@@ -61,12 +60,6 @@ module _ {M A : Type 0} (Is : PlaceBook → M → Result (A × Change) Rule → 
     pub none_done : DoneTo 0 [] before
     none_done = record { changes = []; changed = none_changed before; on = λ rest others is. is }
 
-    -- what is told of all, and the changes up to there
-    pub record AllTold (told : Told A) (now : PlaceBook) : Type 0 where
-      pub changes : List Change
-      pub each : InTurn Is 0 members before told changes
-      pub becomes : IfOk told (λ all. AreChanged changes before now)
-
     module _ (at : ℕ) (done : List A) (now : PlaceBook) (so_far : DoneTo at done now) where
       pub one_more : (d : M) (last : A) (change : Change) (next : PlaceBook) → at < length members
           → Is now (get_or members at d) (Ok (last, change)) → AreUpdated change.sheet change.updates now next
@@ -89,7 +82,7 @@ module _ {M A : Type 0} (Is : PlaceBook → M → Result (A × Change) Rule → 
       up_to_here told is =
           subst (InTurn Is 0 members before (with_all done told)) (append_none so_far.changes) (so_far.on told [] is)
 
-      pub all_done : length members ≤ at → AllTold (Ok done) now
+      pub all_done : length members ≤ at → AreDone Is members before now (Ok done)
       all_done past = record {
         changes = so_far.changes;
         each = subst (λ told. InTurn Is 0 members before told so_far.changes) (with_all_ok done)
@@ -98,7 +91,7 @@ module _ {M A : Type 0} (Is : PlaceBook → M → Result (A × Change) Rule → 
       }
 
       pub broken_there : (d : M) (broken : Rule) (next : PlaceBook) → at < length members
-          → Is now (get_or members at d) (Err broken) → AllTold (Err (at, broken)) next
+          → Is now (get_or members at d) (Err broken) → AreDone Is members before next (Err (at, broken))
       broken_there d broken next there holds = record {
         changes = so_far.changes;
         each = subst (λ told. InTurn Is 0 members before told so_far.changes) (with_all_err done (at, broken))
@@ -111,8 +104,8 @@ module _ {M A : Type 0} (Is : PlaceBook → M → Result (A × Change) Rule → 
 -- ---- one thing is told of members, and one list of changes
 
 module _ (updates : UpdatesOnce) {M A : Type 0} (Is : PlaceBook → M → Result (A × Change) Rule → Type 0)
-    (once : (book : PlaceBook) (member : M) (one other : Result (A × Change) Rule) → Is book member one
-    → Is book member other → one ≡ other) where
+    (once : (book : PlaceBook) → IsSound book → (member : M) (one other : Result (A × Change) Rule)
+    → Is book member one → Is book member other → one ≡ other) where
   then_once : (IsRest : PlaceBook → Told A → List Change → Type 0)
       (rest_once : (book : PlaceBook) → IsSound book → (told told' : Told A) (changes changes' : List Change)
       → IsRest book told changes → IsRest book told' changes' → (told ≡ told') × (changes ≡ changes'))
@@ -137,17 +130,14 @@ module _ (updates : UpdatesOnce) {M A : Type 0} (Is : PlaceBook → M → Result
   in_turn_once at (member ∷ members) before sound told told' changes changes' (one, holds, then) (other, holds', then') =
       then_once (InTurn Is (at + 1) members) (in_turn_once (at + 1) members) at other before sound told told' changes changes'
       (subst (λ first. ThenOn at first (InTurn Is (at + 1) members) before told changes)
-      (once before member one other holds holds') then) then'
+      (once before sound member one other holds holds') then) then'
 
--- what came of a range for which memory didn't run out
-pub cleared_so : (range other : Reading (List ℕ)) (now next : PlaceBook) (told : Result (List ℕ) RuleOr)
-    (judged : Result (List ℕ) Rule) → other ≡ range → IsUnlessNoMemory (IsClearedTo other now next) told
-    → told ≡ as_told judged → IsClearedTo range now next judged
-cleared_so range other now next told judged same is told_is =
-    subst (λ text. IsClearedTo text now next judged) same
-    (judged_so (IsClearedTo other now next) judged (subst (IsUnlessNoMemory (IsClearedTo other now next)) told_is is))
-
--- and of ranges, one after another
-pub are_cleared : (ranges : List (Reading (List ℕ))) (before after : PlaceBook) (told : Told (List ℕ))
-    → AllTold IsCleared ranges before told after → AreCleared ranges before after told
-are_cleared ranges before after told all = record { changes = all.changes; each = all.each; becomes = all.becomes }
+-- what came of a member for which memory didn't run out
+pub done_so : {M A : Type 0} (Is : PlaceBook → M → Result (A × Change) Rule → Type 0) (member other : M)
+    (now next : PlaceBook) (told : Result A RuleOr) (judged : Result A Rule) → other ≡ member
+    → IsUnlessNoMemory (IsDoneTo (Is now other) now next) told → told ≡ as_told judged
+    → IsDoneTo (Is now member) now next judged
+done_so Is member other now next told judged same is told_is =
+    subst (λ one. IsDoneTo (Is now one) now next judged) same
+    (judged_so (IsDoneTo (Is now other) now next) judged
+    (subst (IsUnlessNoMemory (IsDoneTo (Is now other) now next)) told_is is))

@@ -17,12 +17,13 @@ use Rattle.cell_value.specs.declared.entered.Mode.{Mode}
 use Rattle.sheets_json.specs.Reading.{Reading}
 use Rattle.sheets_json.specs.declared.call.Call.{Call}
 use Rattle.sheets_json.specs.declared.call.Call.TheVariants as call
+use Rattle.sheets_json.specs.declared.call.RangeBlock.{RangeBlock}
 use Rattle.sheets_json.specs.declared.call.ValueRange.{ValueRange}
 use Rattle.batch_engine.specs.Effects.{Effect, Becomes, Change, IsNext}
 use Rattle.batch_engine.specs.Effects.Effect.{Nothing, Changes}
 use Rattle.sheets_json.specs.declared.place.Place.TheVariants as place
 use Rattle.batch_engine.specs.Calls.{OnBook, IsAlone, IsAnswered, IsApplied, IsChange, IsInstalled, Refusal, alone, as_told, told_as}
-use Rattle.batch_engine.specs.Calls.{IsClearOf, IsClearManyOf, IsReadOf, IsReadManyOf, IsWriteOf}
+use Rattle.batch_engine.specs.Calls.{IsClearOf, IsReadOf, IsReadManyOf, IsWriteOf}
 use Rattle.batch_engine.specs.declared.calls.Outcome.{Outcome}
 use Rattle.batch_engine.proofs.Becoming.{found_has_id, becomes_changed}
 use Rattle.batch_engine.proofs.Judged.{judged_so}
@@ -167,22 +168,6 @@ module _ (id range : List ℕ) (books : List PlaceBook) (book : PlaceBook) (call
   clear_applied outcome next installed =
       applied_change called id books Clears clear_answered book found (alone judged) outcome next clear_change installed
 
-module _ (id : List ℕ) (ranges : List (Reading (List ℕ))) (books : List PlaceBook) (book : PlaceBook) (called : Call)
-    (called_is : called ≡ call.ClearMany id ranges) (found : book_with id books ≡ Some book)
-    (judged : Result (Answer × PlaceBook) Refusal) (change : IsChange (IsClearManyOf ranges book) book judged) where
-  clears_answered : (answered : Result Answer Refusal) (effect : Effect)
-      → OnBook id books (λ book. IsClearManyOf ranges book answered effect) → IsAnswered called books answered effect
-  clears_answered answered effect holds =
-      subst (λ one. IsAnswered one books answered effect) (sym called_is) holds
-
-  pub clears_there : IfOk judged (λ done. IsSome (book_with done.1.id books))
-  clears_there = change_there called id books (IsClearManyOf ranges) clears_answered book found judged change
-
-  pub clears_applied : (outcome : Outcome) (next : Option (List PlaceBook)) → IsInstalled books judged outcome next
-      → IsApplied called books outcome next
-  clears_applied outcome next installed =
-      applied_change called id books (IsClearManyOf ranges) clears_answered book found judged outcome next change installed
-
 -- ---- reads
 
 pub read_judged : (range : List ℕ) (dimension : Option Axis) (render : Option Render) (book : PlaceBook)
@@ -222,19 +207,21 @@ pub other_answered : (called : Call) (books : List PlaceBook)
     → ((id range : Text) → called ≡ call.Clear id range → ⊥)
     → ((id : Text) (ranges : List Text) (dimension : Option Axis) (render : Option Render)
     → called ≡ call.ReadMany id ranges dimension render → ⊥)
+    → ((id : Text) (mode : Mode) (blocks : List (Reading RangeBlock)) → called ≡ call.WriteMany id mode blocks → ⊥)
     → ((id : Text) (ranges : List (Reading Text)) → called ≡ call.ClearMany id ranges → ⊥)
     → IsAnswered called books (Err (place.Alone, rule.Unsupported)) Nothing
-other_answered (call.Read id range dimension render) books no_read no_write no_clear no_list no_clears =
+other_answered (call.Read id range dimension render) books no_read no_write no_clear no_list no_writes no_clears =
     absurd (no_read id range dimension render refl)
-other_answered (call.Write id range mode values) books no_read no_write no_clear no_list no_clears =
+other_answered (call.Write id range mode values) books no_read no_write no_clear no_list no_writes no_clears =
     absurd (no_write id range mode values refl)
-other_answered (call.Clear id range) books no_read no_write no_clear no_list no_clears = absurd (no_clear id range refl)
-other_answered (call.Create spreadsheet) books no_read no_write no_clear no_list no_clears = (refl, refl)
-other_answered (call.Get id include) books no_read no_write no_clear no_list no_clears = (refl, refl)
-other_answered (call.Batch id requests) books no_read no_write no_clear no_list no_clears = (refl, refl)
-other_answered (call.Append id range mode insert values) books no_read no_write no_clear no_list no_clears = (refl, refl)
-other_answered (call.ReadMany id ranges dimension render) books no_read no_write no_clear no_list no_clears =
+other_answered (call.Clear id range) books no_read no_write no_clear no_list no_writes no_clears = absurd (no_clear id range refl)
+other_answered (call.Create spreadsheet) books no_read no_write no_clear no_list no_writes no_clears = (refl, refl)
+other_answered (call.Get id include) books no_read no_write no_clear no_list no_writes no_clears = (refl, refl)
+other_answered (call.Batch id requests) books no_read no_write no_clear no_list no_writes no_clears = (refl, refl)
+other_answered (call.Append id range mode insert values) books no_read no_write no_clear no_list no_writes no_clears = (refl, refl)
+other_answered (call.ReadMany id ranges dimension render) books no_read no_write no_clear no_list no_writes no_clears =
     absurd (no_list id ranges dimension render refl)
-other_answered (call.WriteMany id mode blocks) books no_read no_write no_clear no_list no_clears = (refl, refl)
-other_answered (call.ClearMany id ranges) books no_read no_write no_clear no_list no_clears =
+other_answered (call.WriteMany id mode blocks) books no_read no_write no_clear no_list no_writes no_clears =
+    absurd (no_writes id mode blocks refl)
+other_answered (call.ClearMany id ranges) books no_read no_write no_clear no_list no_writes no_clears =
     absurd (no_clears id ranges refl)

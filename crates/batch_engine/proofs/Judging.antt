@@ -9,7 +9,8 @@ use Rattle.dimension_ops.specs.declared.rule.RuleOr.{RuleOr}
 use Rattle.grid_range.specs.declared.axis.Axis.{Axis}
 use Rattle.sheets_json.specs.declared.answer.ShownRange.{ShownRange}
 use Rattle.world_model.specs.Book.{PlaceBook}
-use Rattle.batch_engine.specs.Calls.{IsShown, as_told}
+use Rattle.batch_engine.specs.Calls.{as_told}
+use Rattle.batch_engine.specs.Values.{IsShown}
 use Rattle.batch_engine.specs.Members.{InOrder, Told, with_first}
 use Rattle.batch_engine.proofs.Judged.{judged_so}
 

@@ -5,3 +5,4 @@ pub mod Installed
 pub mod Once
 pub mod Judging
 pub mod InTurns
+pub mod Counting

@@ -1,33 +1,38 @@
 -- What is done on the cells of a range, or refused, from what each step says.
-use Rattle.std.proofs.Common.{◌≡◌, ℕ, refl, ap, subst, ◌∙◌, List, [], ◌∷◌}
-use Rattle.std.specs.Prelude.{Option, Some, None, IsSomeAnd, IfSome, Result, Ok, Err}
+use Rattle.std.proofs.Common.{◌≡◌, ℕ, Bool, true, false, cond, refl, sym, ap, subst, ◌∙◌, List, [], ◌∷◌, length}
+use Rattle.std.specs.Prelude.{Option, Some, None, IsSomeAnd, IfSome, Result, Ok, Err, ◌==◌, ⊤}
+use Rattle.std.specs.List.{AllZip}
+use Rattle.a1_notation.specs.Canonical.{canonical}
+use Rattle.cell_value.specs.declared.cell.Block.{Block}
 use Rattle.cell_value.specs.declared.cell.Cell.{Cell}
 use Rattle.cell_value.specs.declared.cell.Render.{Render}
+use Rattle.grid_range.specs.Band.{first_line, end_line}
+use Rattle.grid_range.specs.Area.{AreaWithin}
 use Rattle.grid_range.specs.declared.area.Area.{Area}
 use Rattle.grid_range.specs.declared.axis.Axis.{Axis}
 use Rattle.world_model.specs.Book.{PlaceBook}
 use Rattle.world_model.specs.Sheet.{PlaceSheet}
 use Rattle.world_model.specs.Sound.{place_sheet_with}
-use Rattle.world_model.specs.Updating.{Updates}
+use Rattle.world_model.specs.Updating.{SheetUpdated, Updates}
 use Rattle.dimension_ops.specs.Rules.{IsUnlessNoMemory}
 use Rattle.dimension_ops.specs.declared.rule.Rule.{Rule}
 use Rattle.dimension_ops.specs.declared.rule.RuleOr.{RuleOr}
 use Rattle.dimension_ops.specs.declared.rule.RuleOr.TheVariants as refusal
 use Rattle.values_api.specs.Blocks.{IsWrite, contents_of}
-use Rattle.values_api.specs.Ranges.{FoundArea, Resolves, area_text}
+use Rattle.values_api.specs.Ranges.{FoundArea, IsThere, Resolves, area_text}
 use Rattle.values_api.specs.Sheets.{formula_sheets}
 use Rattle.values_api.specs.Shown.{area_shown}
 use Rattle.values_api.specs.Updates.{cleared, AreUpdated}
 use Rattle.values_api.specs.declared.writing.Written.{Written}
 use Rattle.sheets_json.specs.declared.answer.Answer.{Answer}
-use Rattle.sheets_json.specs.declared.answer.Answer.TheVariants as answer
+use Rattle.sheets_json.specs.declared.answer.ShownRange.{ShownRange}
 use Rattle.sheets_json.specs.declared.answer.Update.{Update as UpdateAnswer}
-use Rattle.sheets_json.specs.declared.call.ValueRange.{ValueRange}
-use Rattle.batch_engine.specs.Effects.{AreChanged, Change, Effect}
+use Rattle.batch_engine.specs.Effects.{AreChanged, Change}
 use Rattle.batch_engine.specs.Effects.Effect.{Nothing}
-use Rattle.batch_engine.specs.Ranges.{IsTarget}
-use Rattle.batch_engine.specs.Calls.{OnRange, done, refused, is_columns, axis_or_rows, render_or_formatted, unless_empty}
-use Rattle.batch_engine.specs.Calls.{update_of, IsShown, IsClearOf, IsClearedTo, IsWriteOf, IsChange}
+use Rattle.batch_engine.specs.Members.{IsDoneTo}
+use Rattle.batch_engine.specs.Values.{OnRange, done, refused, is_columns, axis_or_rows, render_or_formatted, unless_empty}
+use Rattle.batch_engine.specs.Values.{IsCleared, IsShown, IsUpdate, Wrote, update_of}
+use Rattle.batch_engine.specs.Calls.{IsChange, IsMade, IsReadOf}
 
 -- the thing that is there
 pub some_and : {A : Type 0} (P : A → Type 0) (found : Option A) → IsSomeAnd found P → (x : A) × (found ≡ Some x) × P x
@@ -42,18 +47,94 @@ pub one_changed : (sheet : ℕ) (updates : Updates) (before after : PlaceBook) �
     → AreChanged (one_change sheet updates) before after
 one_changed sheet updates before after updated = record { id = updated.places.id; names = updated.names }
 
--- a range that breaks a rule
-module _ (Found : Result FoundArea Rule → Type 0) (sheets : List PlaceSheet)
-    (IsDone : FoundArea → PlaceSheet → Result Answer Rule → Effect → Type 0) where
+abbrev as_shown : ShownRange → Result ShownRange Rule
+as_shown shown = Ok shown
+
+abbrev as_cleared : List ℕ → Area → Result (List ℕ × Change) Rule
+as_cleared text area = Ok (text, record { sheet = area.sheet; updates = cleared area })
+
+abbrev as_written : UpdateAnswer → Written → ℕ → Updates → Result (Wrote × Change) Rule
+as_written update counts sheet updates = Ok ((update, counts), record { sheet = sheet; updates = updates })
+
+abbrev told_so : List ℕ → List ℕ → ℕ → ℕ → Written → UpdateAnswer
+told_so id title rows cols counts = record {
+  spreadsheet_id = id;
+  updated_cells = counts.cells;
+  updated_columns = length counts.cols;
+  updated_range = canonical title (first_line counts.area.rows, end_line counts.area.rows rows)
+      (first_line counts.area.cols, end_line counts.area.cols cols);
+  updated_rows = length counts.rows;
+}
+
+none_is_some : (sheet : PlaceSheet) → None ≡ Some sheet → ⊥
+none_is_some sheet e = cc
+
+first_some : (one other : PlaceSheet) → Some one ≡ Some other → one ≡ other
+first_some one other e = cc
+
+-- ---- a range that breaks a rule
+
+module _ {A : Type 0} (Found : Result FoundArea Rule → Type 0) (sheets : List PlaceSheet)
+    (IsDone : FoundArea → PlaceSheet → Result A Rule → Type 0) where
   pub range_refused : (fault : RuleOr) → IsUnlessNoMemory Found (Err fault)
-      → IsUnlessNoMemory (λ told. OnRange Found sheets IsDone told Nothing) (Err fault)
-  range_refused (refusal.Rule broken) is = refused broken is refl refl
+      → IsUnlessNoMemory (OnRange Found sheets IsDone) (Err fault)
+  range_refused (refusal.Rule broken) is = refused broken is refl
   range_refused refusal.NoMemory is = tt
 
-  pub change_refused : (book : PlaceBook) (fault : RuleOr) → IsUnlessNoMemory Found (Err fault)
-      → IsUnlessNoMemory (IsChange (OnRange Found sheets IsDone) book) (Err fault)
-  change_refused book (refusal.Rule broken) is = refused broken is refl refl
-  change_refused book refusal.NoMemory is = tt
+module _ {A : Type 0} (Found : Result FoundArea Rule → Type 0) (sheets : List PlaceSheet)
+    (IsDone : FoundArea → PlaceSheet → Result (A × Change) Rule → Type 0) (before after : PlaceBook) where
+  pub change_refused : (fault : RuleOr) → IsUnlessNoMemory Found (Err fault)
+      → IsUnlessNoMemory (IsDoneTo (OnRange Found sheets IsDone) before after) (Err fault)
+  change_refused (refusal.Rule broken) is = refused broken is refl
+  change_refused refusal.NoMemory is = tt
+
+-- what is done on the sheet of a range that is there
+module _ {A : Type 0} (Found : Result FoundArea Rule → Type 0) (sheets : List PlaceSheet)
+    (IsDone : FoundArea → PlaceSheet → Result (A × Change) Rule → Type 0) (before after : PlaceBook) (found : FoundArea)
+    (is_found : Found (Ok found)) where
+  on_sheet : (sheet : PlaceSheet) → place_sheet_with found.0.sheet sheets ≡ Some sheet → (told : Result A RuleOr)
+      → IsUnlessNoMemory (IsDoneTo (IsDone found sheet) before after) told
+      → IsUnlessNoMemory (IsDoneTo (OnRange Found sheets IsDone) before after) told
+  on_sheet sheet is (Ok one) holds =
+      let (change, holds_so, updated) = holds in
+      (change, done found sheet is_found is holds_so, updated)
+  on_sheet sheet is (Err (refusal.Rule broken)) holds = done found sheet is_found is holds
+  on_sheet sheet is (Err refusal.NoMemory) holds = tt
+
+  pub done_there : (told : Result A RuleOr)
+      → IsSomeAnd (place_sheet_with found.0.sheet sheets)
+      (λ sheet. IsUnlessNoMemory (IsDoneTo (IsDone found sheet) before after) told)
+      → IsUnlessNoMemory (IsDoneTo (OnRange Found sheets IsDone) before after) told
+  done_there told there =
+      let (sheet, is, holds) = some_and (λ (sheet : PlaceSheet). IsUnlessNoMemory (IsDoneTo (IsDone found sheet) before after)
+      told) (place_sheet_with found.0.sheet sheets) there in
+      on_sheet sheet is told holds
+
+-- ---- a call on one range
+
+module _ {A : Type 0} (Is : Result (A × Change) Rule → Type 0) (answer_of : A → Answer) (before after : PlaceBook) where
+  pub made_alone : (one : A) → IsDoneTo Is before after (Ok one)
+      → IsChange (IsMade Is answer_of before) before (Ok (answer_of one, after))
+  made_alone one (change, is, updated) = (
+    change ∷ [],
+    record { one = Ok (one, change); is = is; told_is = refl; effect_is = refl },
+    one_changed change.sheet change.updates before after updated,
+  )
+
+  pub refused_alone : (fault : RuleOr) → IsUnlessNoMemory (IsDoneTo Is before after) (Err fault)
+      → IsUnlessNoMemory (IsChange (IsMade Is answer_of before) before) (Err fault)
+  refused_alone (refusal.Rule broken) is = record { one = Err broken; is = is; told_is = refl; effect_is = refl }
+  refused_alone refusal.NoMemory is = tt
+
+-- what a range shows is answered
+pub seen_so : (range : List ℕ) (dimension : Option Axis) (render : Option Render) (book : PlaceBook)
+    (fault : RuleOr) → IsUnlessNoMemory (IsShown dimension render book range) (Err fault)
+    → IsUnlessNoMemory (λ told. IsReadOf range dimension render book told Nothing) (Err fault)
+seen_so range dimension render book (refusal.Rule broken) is =
+    record { one = Err broken; is = is; told_is = refl; nothing = refl }
+seen_so range dimension render book refusal.NoMemory is = tt
+
+-- ---- reads
 
 pub read_done : (range : List ℕ) (dimension : Option Axis) (render : Option Render) (book : PlaceBook)
     (found : FoundArea) (text : List ℕ) (shown : List (List Cell)) → Resolves range book.sheets (Ok found)
@@ -71,80 +152,112 @@ read_done range dimension render book found text shown resolves text_of shown_if
     subst (λ one. IfSome one (λ (sheet : PlaceSheet). shown
     ≡ area_shown (formula_sheets book.sheets) found.0 (is_columns (axis_or_rows dimension))
     (render_or_formatted render) sheet)) is shown_if in
-    done found sheet resolves is (
-      ap (λ told. Ok (answer.Read (record {
-        range = told;
-        major_dimension = axis_or_rows dimension;
-        values = unless_empty shown;
-      }))) text_is
-          ∙ ap (λ values. Ok (answer.Read (record {
-            range = area_text sheet found.0;
-            major_dimension = axis_or_rows dimension;
-            values = unless_empty values;
-          }))) shown_is,
-      refl,
-    )
+    done found sheet resolves is
+    (ap (λ told. as_shown (record {
+      range = told;
+      major_dimension = axis_or_rows dimension;
+      values = unless_empty shown;
+    })) text_is
+    ∙ ap (λ values. as_shown (record {
+      range = area_text sheet found.0;
+      major_dimension = axis_or_rows dimension;
+      values = unless_empty values;
+    })) shown_is)
+
+-- ---- clears
 
 pub emptied_done : (range : List ℕ) (book after : PlaceBook) (found : FoundArea) (text : List ℕ)
     → Resolves range book.sheets (Ok found)
     → IsSomeAnd (place_sheet_with found.0.sheet book.sheets) (λ sheet. text ≡ area_text sheet found.0)
-    → AreUpdated found.0.sheet (cleared found.0) book after → IsClearedTo (Ok range) book after (Ok text)
+    → AreUpdated found.0.sheet (cleared found.0) book after → IsDoneTo (IsCleared book (Ok range)) book after (Ok text)
 emptied_done range book after found text resolves text_of updated =
     let (sheet, is, text_is) = some_and (λ (sheet : PlaceSheet). text ≡ area_text sheet found.0)
     (place_sheet_with found.0.sheet book.sheets) text_of in (
       record { sheet = found.0.sheet; updates = cleared found.0 },
-      done found sheet resolves is (ap (λ told. Ok (answer.Clear told book.id)) text_is, refl),
+      done found sheet resolves is (ap (λ told. as_cleared told found.0) text_is),
       updated,
     )
 
-pub emptied_refused : (range : List ℕ) (book after : PlaceBook) (fault : RuleOr)
-    → IsUnlessNoMemory (Resolves range book.sheets) (Err fault)
-    → IsUnlessNoMemory (IsClearedTo (Ok range) book after) (Err fault)
-emptied_refused range book after (refusal.Rule broken) is = refused broken is refl refl
-emptied_refused range book after refusal.NoMemory is = tt
+-- ---- writes
 
--- a range that was cleared in a copy
-pub clear_done : (range : List ℕ) (book after : PlaceBook) (text : List ℕ) → IsClearedTo (Ok range) book after (Ok text)
-    → IsChange (IsClearOf range book) book (Ok (answer.Clear text book.id, after))
-clear_done range book after text (change, clears, updated) =
-    (change ∷ [], clears, one_changed change.sheet change.updates book after updated)
+-- the sheet with the id stays where it is
+module _ (number : ℕ) (updates : Updates) (id : ℕ) where
+  abbrev pub Kept : PlaceSheet → Option PlaceSheet → Type 0
+  Kept sheet after = (now : PlaceSheet) × (after ≡ Some now) × SheetUpdated number updates sheet now
 
-pub clear_refused : (range : List ℕ) (book after : PlaceBook) (fault : RuleOr)
-    → IsUnlessNoMemory (IsClearedTo (Ok range) book after) (Err fault)
-    → IsUnlessNoMemory (IsChange (IsClearOf range book) book) (Err fault)
-clear_refused range book after (refusal.Rule broken) is = is
-clear_refused range book after refusal.NoMemory is = tt
+  kept_first : (same : Bool) (one other sheet : PlaceSheet) (ones others : Option PlaceSheet)
+      → SheetUpdated number updates one other → (ones ≡ Some sheet → Kept sheet others)
+      → cond same (Some one) ones ≡ Some sheet → Kept sheet (cond same (Some other) others)
+  kept_first true one other sheet ones others updated rest found =
+      (other, refl, subst (λ first. SheetUpdated number updates first other) (first_some one sheet found) updated)
+  kept_first false one other sheet ones others updated rest found = rest found
 
-module _ (range : List ℕ) (values : ValueRange) (book after : PlaceBook) (found : FoundArea)
-    (target : IsTarget range values.range book.sheets (Ok found)) where
+  pub kept_sheet : (before after : List PlaceSheet) → AllZip (SheetUpdated number updates) before after
+      → (sheet : PlaceSheet) → place_sheet_with id before ≡ Some sheet → Kept sheet (place_sheet_with id after)
+  kept_sheet [] [] updated sheet is = absurd (none_is_some sheet is)
+  kept_sheet [] (other ∷ others) updated sheet is = absurd updated
+  kept_sheet (one ∷ ones) [] updated sheet is = absurd updated
+  kept_sheet (one ∷ ones) (other ∷ others) updated sheet is =
+      subst (λ key. Kept sheet (cond (key == id) (Some other) (place_sheet_with id others))) (sym updated.0.id)
+      (kept_first (one.id == id) one other sheet (place_sheet_with id ones) (place_sheet_with id others) updated.0
+      (kept_sheet ones others updated.1 sheet) is)
+
+-- the area stays on its sheet
+pub stays_there : (number : ℕ) (updates : Updates) (area : Area) (before after : List PlaceSheet)
+    → AllZip (SheetUpdated number updates) before after → IsThere before area → IsThere after area
+stays_there number updates area before after updated there =
+    let (sheet, is, within) = some_and (λ (sheet : PlaceSheet). AreaWithin area sheet.table.rows sheet.table.cols)
+    (place_sheet_with area.sheet before) there in
+    let (now, is_now, same) = kept_sheet number updates area.sheet before after updated sheet is in
+    subst (λ one. IsSomeAnd one (λ (sheet : PlaceSheet). AreaWithin area sheet.table.rows sheet.table.cols)) (sym is_now)
+    (subst (λ cols. AreaWithin area now.table.rows cols) (sym same.cols)
+    (subst (λ rows. AreaWithin area rows sheet.table.cols) (sym same.rows) within))
+
+-- what is told of a write doesn't tell the spreadsheet after it from the one before
+told_same : (number : ℕ) (updates : Updates) (book after : PlaceBook) (sheet now : PlaceSheet) (wrote : Written)
+    → after.id ≡ book.id → SheetUpdated number updates sheet now → update_of after now wrote ≡ update_of book sheet wrote
+told_same number updates book after sheet now wrote same_id same =
+    ap (λ id. told_so id now.title now.table.rows now.table.cols wrote) same_id
+    ∙ ap (λ title. told_so book.id title now.table.rows now.table.cols wrote) same.title
+    ∙ ap (λ rows. told_so book.id sheet.title rows now.table.cols wrote) same.rows
+    ∙ ap (λ cols. told_so book.id sheet.title sheet.table.rows cols wrote) same.cols
+
+module _ (book after : PlaceBook) (block : Block) (area : Area) (one_cell : Bool) where
   abbrev Writes : Result Written Rule → PlaceSheet → Type 0
-  Writes wrote sheet = IsWrite found.1 found.0 values.block sheet book after wrote
+  Writes wrote sheet = IsWrite one_cell area block sheet book after wrote
 
-  pub write_done : (wrote : Written) (update : UpdateAnswer)
-      → IsSomeAnd (place_sheet_with found.0.sheet book.sheets)
-      (λ sheet. IsUnlessNoMemory (IsWrite found.1 found.0 values.block sheet book after) (Ok wrote))
-      → IsSomeAnd (place_sheet_with wrote.area.sheet book.sheets) (λ sheet. update ≡ update_of book sheet wrote)
-      → IsChange (IsWriteOf range (Ok values) book) book (Ok (answer.Write update, after))
-  write_done wrote update writes_it told =
-      let (sheet, is, writes) = some_and (Writes (Ok wrote)) (place_sheet_with found.0.sheet book.sheets) writes_it in
-      let same = ap (λ (area : Area). place_sheet_with area.sheet book.sheets) writes.answered.1.area_is in
-      let told_is : update ≡ update_of book sheet wrote =
-      subst (λ one. IsSomeAnd one (λ (sheet : PlaceSheet). update ≡ update_of book sheet wrote)) (same ∙ is) told in (
-        one_change found.0.sheet (contents_of writes.entries),
-        done found sheet target is (record {
+  pub put_there : (wrote : Written)
+      → IsSomeAnd (place_sheet_with area.sheet book.sheets)
+      (λ sheet. IsUnlessNoMemory (IsWrite one_cell area block sheet book after) (Ok wrote))
+      → IsThere book.sheets wrote.area → IsThere after.sheets wrote.area
+  put_there wrote writes_it there =
+      let (sheet, is, writes) = some_and (Writes (Ok wrote)) (place_sheet_with area.sheet book.sheets) writes_it in
+      stays_there area.sheet (contents_of writes.entries) wrote.area book.sheets after.sheets writes.updated.places.sheets
+      there
+
+  pub put_done : (wrote : Written) (update : UpdateAnswer)
+      → IsSomeAnd (place_sheet_with area.sheet book.sheets)
+      (λ sheet. IsUnlessNoMemory (IsWrite one_cell area block sheet book after) (Ok wrote))
+      → IsSomeAnd (place_sheet_with wrote.area.sheet after.sheets) (λ sheet. update ≡ update_of after sheet wrote)
+      → IsSomeAnd (place_sheet_with area.sheet book.sheets)
+      (λ sheet. IsUnlessNoMemory (IsDoneTo (IsUpdate book block (area, one_cell) sheet) book after) (Ok (update, wrote)))
+  put_done wrote update writes_it told =
+      let (sheet, is, writes) = some_and (Writes (Ok wrote)) (place_sheet_with area.sheet book.sheets) writes_it in
+      let updates = contents_of writes.entries in
+      let (now, is_now, same) = kept_sheet area.sheet updates area.sheet book.sheets after.sheets
+      writes.updated.places.sheets sheet is in
+      let same_area = ap (λ (area : Area). place_sheet_with area.sheet after.sheets) writes.answered.1.area_is in
+      let told_now : update ≡ update_of after now wrote =
+      subst (λ one. IsSomeAnd one (λ (sheet : PlaceSheet). update ≡ update_of after sheet wrote)) (same_area ∙ is_now) told in
+      let told_is = told_now ∙ told_same area.sheet updates book after sheet now wrote writes.updated.places.id same in
+      subst (λ one. IsSomeAnd one (λ (sheet : PlaceSheet). IsUnlessNoMemory
+      (IsDoneTo (IsUpdate book block (area, one_cell) sheet) book after) (Ok (update, wrote)))) (sym is) (
+        record { sheet = area.sheet; updates = updates },
+        record {
           after = after;
           wrote = Ok wrote;
           writes = writes;
-          tells = (ap (λ one. Ok (answer.Write one)) told_is, refl);
-        }),
-        one_changed found.0.sheet (contents_of writes.entries) book after writes.updated,
+          tells = ap (λ one. as_written one wrote area.sheet updates) told_is;
+        },
+        writes.updated,
       )
-
-  pub write_refused : (fault : RuleOr)
-      → IsSomeAnd (place_sheet_with found.0.sheet book.sheets)
-      (λ sheet. IsUnlessNoMemory (IsWrite found.1 found.0 values.block sheet book after) (Err fault))
-      → IsUnlessNoMemory (IsChange (IsWriteOf range (Ok values) book) book) (Err fault)
-  write_refused (refusal.Rule broken) writes_it =
-      let (sheet, is, writes) = some_and (Writes (Err broken)) (place_sheet_with found.0.sheet book.sheets) writes_it in
-      done found sheet target is (record { after = after; wrote = Err broken; writes = writes; tells = (refl, refl) })
-  write_refused refusal.NoMemory writes_it = tt

@@ -1,5 +1,6 @@
 pub mod Effects
 pub mod Ranges
 pub mod Members
+pub mod Values
 pub mod Calls
 pub mod Laws

@@ -1,10 +1,10 @@
 -- Calls on a list, whose members are judged one after another: the first that breaks a rule refuses the call, and is
 -- named by its place.
-use Rattle.std.specs.Prelude.{◌≡◌, ℕ, ◌+◌, List, [], ◌∷◌, Result, Ok, Err}
+use Rattle.std.specs.Prelude.{◌≡◌, ℕ, ◌+◌, List, [], ◌∷◌, Result, Ok, Err, IfOk}
 use Rattle.world_model.specs.Book.{PlaceBook}
 use Rattle.dimension_ops.specs.declared.rule.Rule.{Rule}
 use Rattle.values_api.specs.Updates.{AreUpdated}
-use Rattle.batch_engine.specs.Effects.{Change}
+use Rattle.batch_engine.specs.Effects.{AreChanged, Change}
 
 -- what is told of members: of each of them, or the place of the first that breaks a rule, and the rule
 abbrev pub Told : Type 0 → Type 0
@@ -41,3 +41,18 @@ InTurn Is at [] before told changes = (told ≡ Ok []) × (changes ≡ [])
 InTurn Is at (member ∷ members) before told changes =
     (one : Result (_ × Change) Rule) × Is before member one
     × ThenOn at one (InTurn Is (at + 1) members) before told changes
+
+-- ---- what the private functions hand to one another
+
+-- one member is done on the spreadsheet, which becomes the one after it unless a rule is broken
+abbrev pub IsDoneTo : {A : Type 0} → (Result (A × Change) Rule → Type 0) → PlaceBook → PlaceBook → Result A Rule → Type 0
+IsDoneTo Is before after (Ok one) =
+    (change : Change) × Is (Ok (one, change)) × AreUpdated change.sheet change.updates before after
+IsDoneTo Is before after (Err broken) = Is (Err broken)
+
+-- and members, one after another, up to the first that breaks a rule
+pub record AreDone {M A : Type 0} (Is : PlaceBook → M → Result (A × Change) Rule → Type 0) (members : List M)
+    (before after : PlaceBook) (told : Told A) : Type 0 where
+  pub changes : List Change
+  pub each : InTurn Is 0 members before told changes
+  pub becomes : IfOk told (λ all. AreChanged changes before after)

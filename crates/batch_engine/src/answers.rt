@@ -2,14 +2,16 @@ ghost use Rattle.std.specs.Prelude.{◌≡◌, IfOk, IsSomeAnd};
 ghost use Rattle.dimension_ops.specs.Rules.{IsUnlessNoMemory};
 ghost use Rattle.world_model.specs.Sound.{place_sheet_with};
 ghost use Rattle.values_api.specs.Ranges.{IsThere};
-ghost use Rattle.batch_engine.specs.Calls.{is_columns, axis_or_rows, render_or_formatted, unless_empty, update_of, rule_of, IsReadOf, IsShown, IsClearOf, IsClearedTo, IsWriteOf, IsChange};
+ghost use Rattle.batch_engine.specs.Calls.{IsChange, IsReadOf, IsClearOf, IsWriteOf};
 ghost use Rattle.batch_engine.specs.Effects.Effect.{Nothing};
+ghost use Rattle.batch_engine.specs.Members.{IsDoneTo};
+ghost use Rattle.batch_engine.specs.Values.{is_columns, axis_or_rows, render_or_formatted, unless_empty, update_of, rule_of, IsShown, IsCleared, IsWritten, IsUpdated, IsUpdate};
 
 use crate::targets::target;
-use cell_value::{Cell, Duplicate, Items, NoMemory, Render, Text};
+use cell_value::{Block, Cell, Duplicate, Items, NoMemory, Render, Text};
 use dimension_ops::{Book, Rule, RuleOr};
-use grid_range::Axis;
-use sheets_json::{Answer, ShapeFault, ShownRange, Update, ValueRange};
+use grid_range::{Area, Axis};
+use sheets_json::{Answer, RangeBlock, ShapeFault, ShownRange, Update, ValueRange};
 use std::alloc::Global;
 use values_api::{Written, clear_values, range_text, read_values, resolve, write_values};
 
@@ -78,7 +80,7 @@ pub(crate) fn emptied(
     user: &str,
     range: &str,
 ) -> Result<Text, RuleOr>
-    ensures { IsUnlessNoMemory (IsClearedTo (Rattle.std.specs.Prelude.Ok range.now) book.old book.new) result }
+    ensures { IsUnlessNoMemory (IsDoneTo (IsCleared book.old (Rattle.std.specs.Prelude.Ok range.now)) book.old book.new) result }
 {
     let (area, _) = resolve(alloc, book, range)?;
     let text = range_text(alloc, book, &area)?;
@@ -96,27 +98,63 @@ pub(crate) fn write(
 ) -> Result<(Answer, Book), RuleOr>
     ensures { IsUnlessNoMemory (IsChange (IsWriteOf range.now values.now book.now) book.now) result }
 {
+    let mut after = book.duplicate()?;
+    let (update, _) = written(alloc, &mut after, user, range, values)?;
+    Ok((Answer::Write(update), after))
+}
+
+/// Writes what a body says to a range of the spreadsheet.
+fn written(
+    alloc: Global,
+    book: &mut Book,
+    user: &str,
+    range: &str,
+    values: &Result<ValueRange, ShapeFault>,
+) -> Result<(Update, Written), RuleOr>
+    ensures { IsUnlessNoMemory (IsDoneTo (IsWritten range.now book.old values.now) book.old book.new) result }
+{
     match values {
-        Ok(values) => update(alloc, book, user, range, values),
+        Ok(values) => {
+            let (area, one_cell) = target(alloc, book, range, values.range.as_ref())?;
+            put(alloc, book, user, &area, one_cell, &values.block)
+        }
         Err(fault) => Err(RuleOr::Rule(rule_of(*fault))),
     }
 }
 
-/// Writes values to a range: the answer, and the spreadsheet after it.
-fn update(
+/// Writes values to the range that is said with them.
+pub(crate) fn updated(
     alloc: Global,
-    book: &Book,
+    book: &mut Book,
     user: &str,
-    range: &str,
-    values: &ValueRange,
-) -> Result<(Answer, Book), RuleOr>
-    ensures { IsUnlessNoMemory (IsChange (IsWriteOf range.now (Rattle.std.specs.Prelude.Ok values.now) book.now) book.now) result }
+    values: &Result<RangeBlock, ShapeFault>,
+) -> Result<(Update, Written), RuleOr>
+    ensures { IsUnlessNoMemory (IsDoneTo (IsUpdated book.old values.now) book.old book.new) result }
 {
-    let (area, one_cell) = target(alloc, book, range, values.range.as_ref())?;
-    let mut after = book.duplicate()?;
-    let written = write_values(alloc, &mut after, user, &area, one_cell, &values.block)?;
-    let answer = Answer::Write(update_of(alloc, book, &written)?);
-    Ok((answer, after))
+    match values {
+        Ok(values) => {
+            let (area, one_cell) = resolve(alloc, book, values.range.as_str())?;
+            put(alloc, book, user, &area, one_cell, &values.block)
+        }
+        Err(fault) => Err(RuleOr::Rule(rule_of(*fault))),
+    }
+}
+
+/// Writes values to an area of the spreadsheet: what was done, as it is told and as it is counted.
+fn put(
+    alloc: Global,
+    book: &mut Book,
+    user: &str,
+    area: &Area,
+    one_cell: bool,
+    block: &Block,
+) -> Result<(Update, Written), RuleOr>
+    requires { IsThere book.old.sheets area.now }
+    ensures { IsSomeAnd (place_sheet_with area.now.sheet book.old.sheets) (λ sheet. IsUnlessNoMemory
+        (IsDoneTo (IsUpdate book.old block.now (area.now, one_cell) sheet) book.old book.new) result) }
+{
+    let written = write_values(alloc, book, user, area, one_cell, block)?;
+    Ok((update_of(alloc, book, &written)?, written))
 }
 
 /// What a write did, as it is told.

@@ -5,7 +5,7 @@ ghost use Rattle.dimension_ops.specs.World.{book_with};
 ghost use Rattle.batch_engine.specs.Calls.{HasItsBook, IsApplied, IsInstalled, alone, told_as, as_told};
 
 use crate::answers::{clear, read, write};
-use crate::lists::{Refusal, clear_many, read_many};
+use crate::lists::{Refusal, clear_many, read_many, write_many};
 use cell_value::{Duplicate, NoMemory, Text};
 use dimension_ops::{Book, Rule, RuleOr, World};
 use sheets_json::{Answer, Call, Place};
@@ -44,8 +44,8 @@ pub struct Applied {
     pub outcome: Outcome,
 }
 
-/// Makes a call on the spreadsheets, which stay as they are: what they are after it is told. Reads and
-/// clears of one range and of a list of them, and writes of one are done (Sheets API v4 reference,
+/// Makes a call on the spreadsheets, which stay as they are: what they are after it is told. Reads,
+/// writes and clears of one range and of a list of them are done (Sheets API v4 reference,
 /// spreadsheets.values); any other call is refused as [`Rule::Unsupported`]. A list is done in its order,
 /// and its first member that breaks a rule refuses the call.
 ///
@@ -94,6 +94,11 @@ pub fn apply(
             let user = caller.user.as_str();
             let told = judged(write(alloc, book, user, range.as_str(), values))?;
             changed(world, alone(told))
+        }
+        Call::WriteMany { id, data, .. } => {
+            let book = book_of(world, id.as_str());
+            let user = caller.user.as_str();
+            changed(world, write_many(alloc, book, user, data.as_slice())?)
         }
         Call::Clear { id, range } => {
             let book = book_of(world, id.as_str());

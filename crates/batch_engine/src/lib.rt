@@ -7,6 +7,7 @@ mod calls;
 mod laws;
 mod lists;
 mod targets;
+mod totals;
 
 pub use calls::{Applied, Caller, Outcome, apply};
 pub use laws::calls_answered_once;

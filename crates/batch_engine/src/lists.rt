@@ -1,16 +1,19 @@
 ghost use Rattle.std.specs.Prelude.{◌≡◌, IfOk};
 ghost use Rattle.dimension_ops.specs.Rules.{IsUnlessNoMemory};
-ghost use Rattle.batch_engine.specs.Calls.{AreCleared, IsChange, IsClearManyOf, IsClearedTo, IsReadManyOf, IsShown};
+ghost use Rattle.batch_engine.specs.Calls.{IsChange, IsClearManyOf, IsReadManyOf, IsWriteManyOf};
 ghost use Rattle.batch_engine.specs.Effects.Effect.{Nothing};
-ghost use Rattle.batch_engine.specs.Members.{InOrder};
+ghost use Rattle.batch_engine.specs.Members.{InOrder, AreDone, IsDoneTo};
+ghost use Rattle.batch_engine.specs.Values.{IsCleared, IsShown, IsUpdated};
 
-use crate::answers::{emptied, rule_of, shown};
+use crate::answers::{emptied, rule_of, shown, updated};
 use crate::calls::judged;
+use crate::totals::written_answer;
 use cell_value::{Duplicate, Items, NoMemory, Render, Text};
 use dimension_ops::{Book, Rule, RuleOr};
 use grid_range::Axis;
-use sheets_json::{Answer, Place, ShapeFault, ShownRange};
+use sheets_json::{Answer, Place, RangeBlock, ShapeFault, ShownRange, Update};
 use std::alloc::Global;
+use values_api::Written;
 
 /// Where in a call a rule is broken, and which.
 pub(crate) type Refusal = (Place, Rule);
@@ -84,7 +87,7 @@ fn all_cleared(
     user: &str,
     ranges: &[Result<Text, ShapeFault>],
 ) -> Result<Result<Items<Text>, (usize, Rule)>, NoMemory>
-    ensures { IfOk result (AreCleared ranges.now book.old book.new) }
+    ensures { IfOk result (AreDone IsCleared ranges.now book.old book.new) }
 {
     let mut cleared = Vec::new(alloc);
     for at in 0..ranges.len() {
@@ -103,10 +106,46 @@ fn cleared_range(
     user: &str,
     range: &Result<Text, ShapeFault>,
 ) -> Result<Text, RuleOr>
-    ensures { IsUnlessNoMemory (IsClearedTo range.now book.old book.new) result }
+    ensures { IsUnlessNoMemory (IsDoneTo (IsCleared book.old range.now) book.old book.new) result }
 {
     match range {
         Ok(range) => emptied(alloc, book, user, range.as_str()),
         Err(fault) => Err(RuleOr::Rule(rule_of(*fault))),
     }
+}
+
+/// Writes values to their ranges, in their order: the answer, and the spreadsheet after it.
+pub(crate) fn write_many(
+    alloc: Global,
+    book: &Book,
+    user: &str,
+    blocks: &[Result<RangeBlock, ShapeFault>],
+) -> Result<Result<(Answer, Book), Refusal>, NoMemory>
+    ensures { IfOk result (IsChange (IsWriteManyOf blocks.now book.now) book.now) }
+{
+    let mut after = book.duplicate()?;
+    match all_written(alloc, &mut after, user, blocks)? {
+        Ok(writes) => Ok(Ok((written_answer(alloc, book, writes)?, after))),
+        Err((at, rule)) => Ok(Err((Place::Data(at as u64), rule))),
+    }
+}
+
+/// Writes values to each of their ranges, up to the first that breaks a rule; that one by its place, or
+/// what each write did.
+fn all_written(
+    alloc: Global,
+    book: &mut Book,
+    user: &str,
+    blocks: &[Result<RangeBlock, ShapeFault>],
+) -> Result<Result<Items<(Update, Written)>, (usize, Rule)>, NoMemory>
+    ensures { IfOk result (AreDone IsUpdated blocks.now book.old book.new) }
+{
+    let mut writes = Vec::new(alloc);
+    for at in 0..blocks.len() {
+        match judged(updated(alloc, book, user, &blocks[at]))? {
+            Ok(write) => writes.push(write)?,
+            Err(rule) => return Ok(Err((at, rule))),
+        }
+    }
+    Ok(Ok(Items::of(writes)))
 }

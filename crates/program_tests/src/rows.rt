@@ -2219,3 +2219,183 @@ pub(crate) static LISTS: [Exchange; 19] = [
         "{\"error\":{\"code\":400,\"message\":\"BadBody\",\"status\":\"INVALID_ARGUMENT\"}}",
     ),
 ];
+
+/// Writes to several ranges, and their answers, known from outside.
+pub(crate) static WRITES_TO_LISTS: [Exchange; 16] = [
+    (
+        &[(
+            "POST /v4/spreadsheets/book1/values:batchUpdate",
+            "Content-Length: 102\r\n",
+            "{\"valueInputOption\":\"RAW\",\"data\":[{\"range\":\"A1\",\"values\":[[1]]},{\"range\":\"B1:B2\",\"values\":[[2],[3]]}]}",
+        )],
+        OK,
+        "",
+        "{\"responses\":[{\"spreadsheetId\":\"book1\",\"updatedCells\":1,\"updatedColumns\":1,\"updatedRange\":\"Sheet1!A1\",\"updatedRows\":1},{\"spreadsheetId\":\"book1\",\"updatedCells\":2,\"updatedColumns\":1,\"updatedRange\":\"Sheet1!B1:B2\",\"updatedRows\":2}],\"spreadsheetId\":\"book1\",\"totalUpdatedCells\":3,\"totalUpdatedColumns\":2,\"totalUpdatedRows\":2,\"totalUpdatedSheets\":1}",
+    ),
+    (
+        &[
+            (
+                "POST /v4/spreadsheets/book1/values:batchUpdate",
+                "Content-Length: 102\r\n",
+                "{\"valueInputOption\":\"RAW\",\"data\":[{\"range\":\"A1\",\"values\":[[1]]},{\"range\":\"B1:B2\",\"values\":[[2],[3]]}]}",
+            ),
+            ("GET /v4/spreadsheets/book1/values/A1:B2", "", ""),
+        ],
+        OK,
+        "",
+        "{\"majorDimension\":\"ROWS\",\"range\":\"Sheet1!A1:B2\",\"values\":[[\"1\",\"2\"],[\"\",\"3\"]]}",
+    ),
+    (
+        &[(
+            "POST /v4/spreadsheets/book1/values:batchUpdate",
+            "Content-Length: 97\r\n",
+            "{\"valueInputOption\":\"RAW\",\"data\":[{\"range\":\"A1\",\"values\":[[1]]},{\"range\":\"ZZZ1\",\"values\":[[2]]}]}",
+        )],
+        BAD_REQUEST,
+        "",
+        "{\"error\":{\"code\":400,\"message\":\"data[1]: OutsideGrid\",\"status\":\"INVALID_ARGUMENT\"}}",
+    ),
+    (
+        &[
+            (
+                "POST /v4/spreadsheets/book1/values:batchUpdate",
+                "Content-Length: 97\r\n",
+                "{\"valueInputOption\":\"RAW\",\"data\":[{\"range\":\"A1\",\"values\":[[1]]},{\"range\":\"ZZZ1\",\"values\":[[2]]}]}",
+            ),
+            ("GET /v4/spreadsheets/book1/values/A1", "", ""),
+        ],
+        OK,
+        "",
+        "{\"majorDimension\":\"ROWS\",\"range\":\"Sheet1!A1\"}",
+    ),
+    (
+        &[(
+            "POST /v4/spreadsheets/book1/values:batchUpdate",
+            "Content-Length: 95\r\n",
+            "{\"valueInputOption\":\"RAW\",\"data\":[{\"range\":\"A1\",\"values\":[[1]]},{\"range\":\"A1\",\"values\":[[2]]}]}",
+        )],
+        OK,
+        "",
+        "{\"responses\":[{\"spreadsheetId\":\"book1\",\"updatedCells\":1,\"updatedColumns\":1,\"updatedRange\":\"Sheet1!A1\",\"updatedRows\":1},{\"spreadsheetId\":\"book1\",\"updatedCells\":1,\"updatedColumns\":1,\"updatedRange\":\"Sheet1!A1\",\"updatedRows\":1}],\"spreadsheetId\":\"book1\",\"totalUpdatedCells\":2,\"totalUpdatedColumns\":1,\"totalUpdatedRows\":1,\"totalUpdatedSheets\":1}",
+    ),
+    (
+        &[
+            (
+                "POST /v4/spreadsheets/book1/values:batchUpdate",
+                "Content-Length: 95\r\n",
+                "{\"valueInputOption\":\"RAW\",\"data\":[{\"range\":\"A1\",\"values\":[[1]]},{\"range\":\"A1\",\"values\":[[2]]}]}",
+            ),
+            ("GET /v4/spreadsheets/book1/values/A1", "", ""),
+        ],
+        OK,
+        "",
+        "{\"majorDimension\":\"ROWS\",\"range\":\"Sheet1!A1\",\"values\":[[\"2\"]]}",
+    ),
+    (
+        &[(
+            "POST /v4/spreadsheets/book1/values:batchUpdate",
+            "Content-Length: 68\r\n",
+            "{\"valueInputOption\":\"RAW\",\"data\":[{\"range\":\"A1\",\"values\":[[null]]}]}",
+        )],
+        OK,
+        "",
+        "{\"responses\":[{\"spreadsheetId\":\"book1\",\"updatedCells\":0,\"updatedColumns\":0,\"updatedRange\":\"Sheet1!A1\",\"updatedRows\":0}],\"spreadsheetId\":\"book1\",\"totalUpdatedCells\":0,\"totalUpdatedColumns\":0,\"totalUpdatedRows\":0,\"totalUpdatedSheets\":0}",
+    ),
+    (
+        &[(
+            "POST /v4/spreadsheets/book1/values:batchUpdate",
+            "Content-Length: 99\r\n",
+            "{\"valueInputOption\":\"RAW\",\"data\":[{\"range\":\"A1\",\"values\":[[\"\"]]},{\"range\":\"C3\",\"values\":[[null]]}]}",
+        )],
+        OK,
+        "",
+        "{\"responses\":[{\"spreadsheetId\":\"book1\",\"updatedCells\":1,\"updatedColumns\":1,\"updatedRange\":\"Sheet1!A1\",\"updatedRows\":1},{\"spreadsheetId\":\"book1\",\"updatedCells\":0,\"updatedColumns\":0,\"updatedRange\":\"Sheet1!C3\",\"updatedRows\":0}],\"spreadsheetId\":\"book1\",\"totalUpdatedCells\":1,\"totalUpdatedColumns\":1,\"totalUpdatedRows\":1,\"totalUpdatedSheets\":1}",
+    ),
+    (
+        &[(
+            "POST /v4/spreadsheets/book1/values:batchUpdate",
+            "Content-Length: 104\r\n",
+            "{\"valueInputOption\":\"RAW\",\"data\":[{\"range\":\"A1\",\"values\":[[1,2]]},{\"range\":\"B1:B2\",\"values\":[[3],[4]]}]}",
+        )],
+        OK,
+        "",
+        "{\"responses\":[{\"spreadsheetId\":\"book1\",\"updatedCells\":2,\"updatedColumns\":2,\"updatedRange\":\"Sheet1!A1:B1\",\"updatedRows\":1},{\"spreadsheetId\":\"book1\",\"updatedCells\":2,\"updatedColumns\":1,\"updatedRange\":\"Sheet1!B1:B2\",\"updatedRows\":2}],\"spreadsheetId\":\"book1\",\"totalUpdatedCells\":4,\"totalUpdatedColumns\":2,\"totalUpdatedRows\":2,\"totalUpdatedSheets\":1}",
+    ),
+    (
+        &[(
+            "POST /v4/spreadsheets/book1/values:batchUpdate",
+            "Content-Length: 101\r\n",
+            "{\"valueInputOption\":\"RAW\",\"data\":[{\"range\":\"A1:B2\",\"majorDimension\":\"COLUMNS\",\"values\":[[1,2],[3]]}]}",
+        )],
+        OK,
+        "",
+        "{\"responses\":[{\"spreadsheetId\":\"book1\",\"updatedCells\":3,\"updatedColumns\":2,\"updatedRange\":\"Sheet1!A1:B2\",\"updatedRows\":2}],\"spreadsheetId\":\"book1\",\"totalUpdatedCells\":3,\"totalUpdatedColumns\":2,\"totalUpdatedRows\":2,\"totalUpdatedSheets\":1}",
+    ),
+    (
+        &[(
+            "POST /v4/spreadsheets/book1/values:batchUpdate",
+            "Content-Length: 114\r\n",
+            "{\"valueInputOption\":\"RAW\",\"data\":[{\"range\":\"A1\",\"values\":[[1]]},{\"values\":[[1]]},{\"range\":\"ZZZ1\",\"values\":[[2]]}]}",
+        )],
+        BAD_REQUEST,
+        "",
+        "{\"error\":{\"code\":400,\"message\":\"data[1]: BadShape\",\"status\":\"INVALID_ARGUMENT\"}}",
+    ),
+    (
+        &[(
+            "POST /v4/spreadsheets/book1/values:batchUpdate",
+            "Content-Length: 106\r\n",
+            "{\"valueInputOption\":\"RAW\",\"data\":[{\"range\":\"A1\",\"values\":[[1]]},{\"range\":\"B1:B2\",\"values\":[[1],[2],[3]]}]}",
+        )],
+        BAD_REQUEST,
+        "",
+        "{\"error\":{\"code\":400,\"message\":\"data[1]: ValuesPastRange\",\"status\":\"INVALID_ARGUMENT\"}}",
+    ),
+    (
+        &[(
+            "POST /v4/spreadsheets/book1/values:batchUpdate",
+            "Content-Length: 72\r\n",
+            "{\"valueInputOption\":\"RAW\",\"data\":[{\"range\":\"Sheet2!A1\",\"values\":[[1]]}]}",
+        )],
+        BAD_REQUEST,
+        "",
+        "{\"error\":{\"code\":400,\"message\":\"data[0]: NoSheet\",\"status\":\"INVALID_ARGUMENT\"}}",
+    ),
+    (
+        &[(
+            "POST /v4/spreadsheets/book1/values:batchUpdate",
+            "Content-Length: 36\r\n",
+            "{\"valueInputOption\":\"RAW\",\"data\":[]}",
+        )],
+        BAD_REQUEST,
+        "",
+        "{\"error\":{\"code\":400,\"message\":\"EmptyBatch\",\"status\":\"INVALID_ARGUMENT\"}}",
+    ),
+    (
+        &[(
+            "POST /v4/spreadsheets/book1/values:batchUpdate",
+            "Content-Length: 11\r\n",
+            "{\"data\":[]}",
+        )],
+        BAD_REQUEST,
+        "",
+        "{\"error\":{\"code\":400,\"message\":\"BadBody\",\"status\":\"INVALID_ARGUMENT\"}}",
+    ),
+    (
+        &[
+            (
+                "POST /v4/spreadsheets/book1/values:batchUpdate",
+                "Content-Length: 112\r\n",
+                "{\"valueInputOption\":\"USER_ENTERED\",\"data\":[{\"range\":\"A1\",\"values\":[[\"=b1+1\"]]},{\"range\":\"B1\",\"values\":[[\"2\"]]}]}",
+            ),
+            (
+                "GET /v4/spreadsheets/book1/values/A1:B1?valueRenderOption=FORMULA",
+                "",
+                "",
+            ),
+        ],
+        OK,
+        "",
+        "{\"majorDimension\":\"ROWS\",\"range\":\"Sheet1!A1:B1\",\"values\":[[\"=B1+1\",2]]}",
+    ),
+];

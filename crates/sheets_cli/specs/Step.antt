@@ -34,11 +34,12 @@ use Rattle.sheets_cli.specs.declared.fault.Fault.TheVariants as fault
 
 -- ---- what is served
 
--- reads, writes and clears of one range are served, and reads and clears of a list of them
+-- reads, writes and clears of one range and of a list of them are served
 abbrev pub is_served : Verb → Bool
 is_served verb.Read = true
 is_served verb.ReadMany = true
 is_served verb.Write = true
+is_served verb.WriteMany = true
 is_served verb.Clear = true
 is_served verb.ClearMany = true
 is_served _ = false

@@ -81,7 +81,7 @@ fn is_served(verb: Verb) -> bool
 {
     matches!(
         verb,
-        Verb::Read | Verb::ReadMany | Verb::Write | Verb::Clear | Verb::ClearMany
+        Verb::Read | Verb::ReadMany | Verb::Write | Verb::WriteMany | Verb::Clear | Verb::ClearMany
     )
 }
 

@@ -1,12 +1,15 @@
 use Rattle.std.proofs.lemmas.Result.{err_from_is_err_and}
-use Rattle.batch_engine.proofs.Ranged.{emptied_done, emptied_refused}
+use Rattle.values_api.specs.Ranges.{Resolves}
+use Rattle.batch_engine.specs.Values.{IsClear}
+use Rattle.batch_engine.proofs.Ranged.{change_refused, emptied_done}
 use Rattle.batch_engine.proofs.answers.emptied.Goals as goal
 
 pub returns-in_err-area : goal.returns-in_err-area
 returns-in_err-area c =
     let p = err_from_is_err_and c.from_residual.result c.from_residual.ensures.1 in
     rw (p.1, p.2)
-    (emptied_refused c.args.range.now c.args.book.now c.args.book.now c.in_err-area.field-0.0 c.in_err-area.ensures.resolved)
+    (change_refused (Resolves c.args.range.now c.args.book.now.sheets) c.args.book.now.sheets IsClear c.args.book.now
+    c.args.book.now c.in_err-area.field-0.0 c.in_err-area.ensures.resolved)
 
 pub returns : goal.returns
 returns c =

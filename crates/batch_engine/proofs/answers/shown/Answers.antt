@@ -1,6 +1,6 @@
 use Rattle.std.proofs.lemmas.Result.{err_from_is_err_and}
 use Rattle.values_api.specs.Ranges.{Resolves}
-use Rattle.batch_engine.specs.Calls.{IsRead}
+use Rattle.batch_engine.specs.Values.{IsRead}
 use Rattle.batch_engine.proofs.Ranged.{range_refused, read_done}
 use Rattle.batch_engine.proofs.answers.shown.Goals as goal
 

@@ -4,9 +4,9 @@ use Rattle.std.specs.Option.{IsSome}
 use Rattle.dimension_ops.specs.World.{book_with}
 use Rattle.dimension_ops.specs.declared.rule.Rule.TheVariants as rule
 use Rattle.sheets_json.specs.declared.place.Place.TheVariants as place
-use Rattle.batch_engine.specs.Calls.{IsApplied, IsInstalled, told_as}
+use Rattle.batch_engine.specs.Calls.{IsAnswered, IsApplied, IsClearManyOf, IsInstalled, IsWriteManyOf, told_as}
 use Rattle.batch_engine.proofs.Installed.{applied_unchanged, if_ok, other_answered, read_applied, read_judged}
-use Rattle.batch_engine.proofs.Installed.{write_there, write_applied, clear_there, clear_applied, clears_there, clears_applied}
+use Rattle.batch_engine.proofs.Installed.{applied_change, change_there, write_there, write_applied, clear_there, clear_applied}
 use Rattle.batch_engine.proofs.calls.apply.Goals as goal
 
 pub changed-requires : goal.changed-requires
@@ -54,24 +54,42 @@ returns-in_ok-told-in-Clear c =
 
 pub changed-requires-in-ClearMany : goal.changed-requires-in-ClearMany
 changed-requires-in-ClearMany c =
-    clears_there _ _ c.args.world.now c.book_of-book-in-ClearMany.result.now c.args.call.now c.in-ClearMany.is
-    (rw c.as_str-in-ClearMany.ensures at c.book_of-book-in-ClearMany.ensures) c.in_ok-clear_many-in-ClearMany.field-0
-    (rw c.as_slice-in-ClearMany.ensures at c.in_ok-clear_many-in-ClearMany.ensures)
+    change_there c.args.call.now _ c.args.world.now (IsClearManyOf c.in-ClearMany.ranges)
+    (λ answered effect holds. subst (λ one. IsAnswered one c.args.world.now answered effect) (sym c.in-ClearMany.is) holds)
+    c.book_of-book-in-ClearMany.result.now (rw c.as_str-in-ClearMany.ensures at c.book_of-book-in-ClearMany.ensures)
+    c.in_ok-clear_many-in-ClearMany.field-0 (rw c.as_slice-in-ClearMany.ensures at c.in_ok-clear_many-in-ClearMany.ensures)
 
 pub returns-in_ok-clear_many-in-ClearMany : goal.returns-in_ok-clear_many-in-ClearMany
 returns-in_ok-clear_many-in-ClearMany c =
     if_ok (λ applied. IsInstalled c.args.world.now c.in_ok-clear_many-in-ClearMany.field-0 applied.outcome applied.next)
     (λ applied. IsApplied c.args.call.now c.args.world.now applied.outcome applied.next) c.changed-in-ClearMany.result
-    (λ applied installed. clears_applied _ _ c.args.world.now c.book_of-book-in-ClearMany.result.now c.args.call.now
-    c.in-ClearMany.is (rw c.as_str-in-ClearMany.ensures at c.book_of-book-in-ClearMany.ensures)
-    c.in_ok-clear_many-in-ClearMany.field-0
-    (rw c.as_slice-in-ClearMany.ensures at c.in_ok-clear_many-in-ClearMany.ensures)
-    applied.outcome applied.next installed) c.changed-in-ClearMany.ensures
+    (λ applied installed. applied_change c.args.call.now _ c.args.world.now (IsClearManyOf c.in-ClearMany.ranges)
+    (λ answered effect holds. subst (λ one. IsAnswered one c.args.world.now answered effect) (sym c.in-ClearMany.is) holds)
+    c.book_of-book-in-ClearMany.result.now (rw c.as_str-in-ClearMany.ensures at c.book_of-book-in-ClearMany.ensures)
+    c.in_ok-clear_many-in-ClearMany.field-0 applied.outcome applied.next
+    (rw c.as_slice-in-ClearMany.ensures at c.in_ok-clear_many-in-ClearMany.ensures) installed) c.changed-in-ClearMany.ensures
+
+pub changed-requires-in-WriteMany : goal.changed-requires-in-WriteMany
+changed-requires-in-WriteMany c =
+    change_there c.args.call.now _ c.args.world.now (IsWriteManyOf c.in-WriteMany.data)
+    (λ answered effect holds. subst (λ one. IsAnswered one c.args.world.now answered effect) (sym c.in-WriteMany.is) holds)
+    c.book_of-book-in-WriteMany.result.now (rw c.as_str-in-WriteMany.ensures at c.book_of-book-in-WriteMany.ensures)
+    c.in_ok-write_many-in-WriteMany.field-0 (rw c.as_slice-in-WriteMany.ensures at c.in_ok-write_many-in-WriteMany.ensures)
+
+pub returns-in_ok-write_many-in-WriteMany : goal.returns-in_ok-write_many-in-WriteMany
+returns-in_ok-write_many-in-WriteMany c =
+    if_ok (λ applied. IsInstalled c.args.world.now c.in_ok-write_many-in-WriteMany.field-0 applied.outcome applied.next)
+    (λ applied. IsApplied c.args.call.now c.args.world.now applied.outcome applied.next) c.changed-in-WriteMany.result
+    (λ applied installed. applied_change c.args.call.now _ c.args.world.now (IsWriteManyOf c.in-WriteMany.data)
+    (λ answered effect holds. subst (λ one. IsAnswered one c.args.world.now answered effect) (sym c.in-WriteMany.is) holds)
+    c.book_of-book-in-WriteMany.result.now (rw c.as_str-in-WriteMany.ensures at c.book_of-book-in-WriteMany.ensures)
+    c.in_ok-write_many-in-WriteMany.field-0 applied.outcome applied.next
+    (rw c.as_slice-in-WriteMany.ensures at c.in_ok-write_many-in-WriteMany.ensures) installed) c.changed-in-WriteMany.ensures
 
 pub returns-in_default : goal.returns-in_default
 returns-in_default c =
     applied_unchanged c.args.call.now c.args.world.now (Err (place.Alone, rule.Unsupported))
     c.unchanged-in_default.result.outcome c.unchanged-in_default.result.next
     (other_answered c.args.call.now c.args.world.now c.in_default.not-Read c.in_default.not-Write c.in_default.not-Clear
-    c.in_default.not-ReadMany c.in_default.not-ClearMany)
+    c.in_default.not-ReadMany c.in_default.not-WriteMany c.in_default.not-ClearMany)
     c.unchanged-in_default.ensures.outcome c.unchanged-in_default.ensures.next

@@ -1,42 +1,40 @@
 use Rattle.std.proofs.Common.{[], ◌+◌, subst, sym, get_or, Ok, Err}
 use Rattle.std.proofs.lemmas.List.{get_or_read}
-use Rattle.batch_engine.specs.Calls.{AreCleared, IsCleared, IsClearedTo}
-use Rattle.batch_engine.proofs.InTurns.{DoneTo, all_done, are_cleared, broken_there, cleared_so, one_more}
+use Rattle.batch_engine.specs.Members.{AreDone, IsDoneTo}
+use Rattle.batch_engine.specs.Values.{IsCleared}
+use Rattle.batch_engine.proofs.InTurns.{DoneTo, all_done, broken_there, done_so, one_more}
 use Rattle.batch_engine.proofs.lists.all_cleared.Goals as goal
 
 pub returns-in-Err : goal.returns-in-Err
 returns-in-Err c =
-    let ranges = c.args.ranges.now in
+    let members = c.args.ranges.now in
     let at = c.loop-at.at in
-    let range = get_or ranges at (Ok []) in
-    are_cleared ranges c.args.book.now c.cleared_range.new.book (Err (at, c.in-Err.rule))
-    (broken_there IsCleared ranges c.args.book.now at c.loop-at.cleared.items c.loop-at.book c.loop-at.invariant (Ok [])
+    broken_there IsCleared members c.args.book.now at c.loop-at.cleared.items c.loop-at.book c.loop-at.invariant (Ok [])
     c.in-Err.rule c.cleared_range.new.book c.loop-at-test.true
-    (subst (IsClearedTo range c.loop-at.book c.cleared_range.new.book) c.in-Err.is
-    (cleared_so range c.index-ranges-at.result c.loop-at.book c.cleared_range.new.book c.cleared_range.result
-    c.in_ok-range.field-0
-    (get_or_read ranges at c.index-ranges-at.result c.loop-at-test.true c.index-ranges-at.is (Ok []))
-    c.cleared_range.ensures c.in_ok-range.ensures)))
+    (subst (IsDoneTo (IsCleared c.loop-at.book (get_or members at (Ok []))) c.loop-at.book c.cleared_range.new.book) c.in-Err.is
+    (done_so IsCleared (get_or members at (Ok [])) c.index-ranges-at.result c.loop-at.book c.cleared_range.new.book
+    c.cleared_range.result c.in_ok-range.field-0
+    (get_or_read members at c.index-ranges-at.result c.loop-at-test.true c.index-ranges-at.is (Ok []))
+    c.cleared_range.ensures c.in_ok-range.ensures))
 
 pub loop-at-preserved : goal.loop-at-preserved
 loop-at-preserved c =
-    let ranges = c.args.ranges.now in
+    let members = c.args.ranges.now in
     let at = c.loop-at.at in
-    let range = get_or ranges at (Ok []) in
-    let (change, holds, updated) : IsClearedTo range c.loop-at.book c.cleared_range.new.book (Ok c.in-Ok.range) =
-    subst (IsClearedTo range c.loop-at.book c.cleared_range.new.book) c.in-Ok.is
-    (cleared_so range c.index-ranges-at.result c.loop-at.book c.cleared_range.new.book c.cleared_range.result
-    c.in_ok-range.field-0
-    (get_or_read ranges at c.index-ranges-at.result c.loop-at-test.true c.index-ranges-at.is (Ok []))
+    let (change, holds, updated) : IsDoneTo (IsCleared c.loop-at.book (get_or members at (Ok []))) c.loop-at.book
+    c.cleared_range.new.book (Ok c.in-Ok.range) =
+    subst (IsDoneTo (IsCleared c.loop-at.book (get_or members at (Ok []))) c.loop-at.book c.cleared_range.new.book) c.in-Ok.is
+    (done_so IsCleared (get_or members at (Ok [])) c.index-ranges-at.result c.loop-at.book c.cleared_range.new.book
+    c.cleared_range.result c.in_ok-range.field-0
+    (get_or_read members at c.index-ranges-at.result c.loop-at-test.true c.index-ranges-at.is (Ok []))
     c.cleared_range.ensures c.in_ok-range.ensures) in
-    subst (λ done. DoneTo IsCleared ranges c.args.book.now (at + 1) done c.cleared_range.new.book)
+    subst (λ done. DoneTo IsCleared members c.args.book.now (at + 1) done c.cleared_range.new.book)
     (sym c.in_ok-push-in-Ok.ensures.items)
-    (one_more IsCleared ranges c.args.book.now at c.loop-at.cleared.items c.loop-at.book c.loop-at.invariant (Ok [])
+    (one_more IsCleared members c.args.book.now at c.loop-at.cleared.items c.loop-at.book c.loop-at.invariant (Ok [])
     c.in-Ok.range change c.cleared_range.new.book c.loop-at-test.true holds updated)
 
 pub returns : goal.returns
 returns c =
-    subst (λ texts. AreCleared c.args.ranges.now c.args.book.now c.loop-at.book (Ok texts)) (sym c.of.ensures)
-    (are_cleared c.args.ranges.now c.args.book.now c.loop-at.book (Ok c.loop-at.cleared.items)
+    subst (λ all. AreDone IsCleared c.args.ranges.now c.args.book.now c.loop-at.book (Ok all)) (sym c.of.ensures)
     (all_done IsCleared c.args.ranges.now c.args.book.now c.loop-at.at c.loop-at.cleared.items c.loop-at.book
-    c.loop-at.invariant c.loop-at-test.false))
+    c.loop-at.invariant c.loop-at-test.false)

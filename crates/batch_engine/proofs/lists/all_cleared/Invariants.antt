@@ -1,4 +1,4 @@
-use Rattle.batch_engine.specs.Calls.{IsCleared}
+use Rattle.batch_engine.specs.Values.{IsCleared}
 use Rattle.batch_engine.proofs.InTurns.{DoneTo}
 use Rattle.batch_engine.proofs.lists.all_cleared.Given as goal
 

@@ -1,6 +1,6 @@
 use Rattle.std.proofs.Common.{[], ◌+◌, ◌∙◌, subst, sym, get_or, Ok}
 use Rattle.std.proofs.lemmas.List.{get_or_read}
-use Rattle.batch_engine.specs.Calls.{IsShown}
+use Rattle.batch_engine.specs.Values.{IsShown}
 use Rattle.batch_engine.specs.Members.{InOrder}
 use Rattle.batch_engine.proofs.Judging.{SoFar, all_told, broken_told, one_more, shown_so}
 use Rattle.batch_engine.proofs.lists.all_shown.Goals as goal

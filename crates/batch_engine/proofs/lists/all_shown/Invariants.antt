@@ -1,4 +1,4 @@
-use Rattle.batch_engine.specs.Calls.{IsShown}
+use Rattle.batch_engine.specs.Values.{IsShown}
 use Rattle.batch_engine.proofs.Judging.{SoFar}
 use Rattle.batch_engine.proofs.lists.all_shown.Given as goal
 

@@ -1,9 +1,10 @@
 use Rattle.std.proofs.Common.{subst, sym}
 use Rattle.dimension_ops.specs.Rules.{IsUnlessNoMemory}
-use Rattle.batch_engine.specs.Calls.{IsClearedTo}
+use Rattle.batch_engine.specs.Members.{IsDoneTo}
+use Rattle.batch_engine.specs.Values.{IsCleared}
 use Rattle.batch_engine.proofs.lists.cleared_range.Goals as goal
 
 pub returns-in-Ok : goal.returns-in-Ok
 returns-in-Ok c =
-    subst (λ range. IsUnlessNoMemory (IsClearedTo range c.args.book.now c.emptied.new.book) c.emptied.result)
+    subst (λ range. IsUnlessNoMemory (IsDoneTo (IsCleared c.args.book.now range) c.args.book.now c.emptied.new.book) c.emptied.result)
     (sym c.in-Ok.is) (rw c.as_str.ensures at c.emptied.ensures)

@@ -1,0 +1,129 @@
+-- What is done on the cells of a range: they are shown, emptied or written, and what is told of it (Google Sheets API
+-- v4 reference, ValueRange and UpdateValuesResponse).
+use Rattle.std.specs.Prelude.{◌≡◌, ℕ, Bool, true, false, List, [], ◌∷◌, length, Option, Some, None, unwrap_or, Result, Ok, Err}
+use Rattle.std.specs.Prelude.{MatchResult}
+use Rattle.grid_range.specs.declared.area.Area.{Area}
+use Rattle.grid_range.specs.declared.axis.Axis.{Axis}
+use Rattle.grid_range.specs.declared.axis.Axis.TheVariants.{Rows, Columns}
+use Rattle.cell_value.specs.declared.cell.Cell.{Cell}
+use Rattle.cell_value.specs.declared.cell.Block.{Block}
+use Rattle.cell_value.specs.declared.cell.Render.{Render}
+use Rattle.cell_value.specs.declared.cell.Render.TheVariants.{Formatted}
+use Rattle.world_model.specs.Book.{PlaceBook}
+use Rattle.world_model.specs.Sheet.{PlaceSheet}
+use Rattle.world_model.specs.Sound.{place_sheet_with}
+use Rattle.dimension_ops.specs.declared.rule.Rule.{Rule}
+use Rattle.dimension_ops.specs.declared.rule.Rule.TheVariants as rule
+use Rattle.values_api.specs.Blocks.{IsWrite, contents_of}
+use Rattle.values_api.specs.Ranges.{FoundArea, Resolves, area_text}
+use Rattle.values_api.specs.Sheets.{formula_sheets}
+use Rattle.values_api.specs.Shown.{area_shown}
+use Rattle.values_api.specs.Updates.{cleared}
+use Rattle.values_api.specs.declared.writing.Written.{Written}
+use Rattle.sheets_json.specs.Reading.{Reading}
+use Rattle.sheets_json.specs.declared.answer.ShownRange.{ShownRange}
+use Rattle.sheets_json.specs.declared.answer.Update.{Update as UpdateAnswer}
+use Rattle.sheets_json.specs.declared.call.RangeBlock.{RangeBlock}
+use Rattle.sheets_json.specs.declared.call.ValueRange.{ValueRange}
+use Rattle.sheets_json.specs.declared.fault.ShapeFault.{ShapeFault}
+use Rattle.sheets_json.specs.declared.fault.ShapeFault.TheVariants as fault
+use Rattle.batch_engine.specs.Effects.{Change}
+use Rattle.batch_engine.specs.Ranges.{IsTarget}
+
+-- what is on the cells of a range is done there, or refused by the rule that the range breaks
+pub data OnRange {A : Type 0} (Found : Result FoundArea Rule → Type 0) (sheets : List PlaceSheet)
+    (IsDone : FoundArea → PlaceSheet → Result A Rule → Type 0) (told : Result A Rule) : Type 0 where
+  done : (found : FoundArea) (sheet : PlaceSheet) → Found (Ok found)
+      → place_sheet_with found.0.sheet sheets ≡ Some sheet → IsDone found sheet told → OnRange Found sheets IsDone told
+  refused : (broken : Rule) → Found (Err broken) → told ≡ Err broken → OnRange Found sheets IsDone told
+
+-- the rule that a shape breaks
+abbrev pub rule_of : ShapeFault → Rule
+rule_of fault.BadShape = rule.BadShape
+rule_of fault.Unsupported = rule.Unsupported
+rule_of fault.BadNumber = rule.BadNumber
+rule_of fault.TextLong = rule.TextLong
+
+-- ---- reads
+
+abbrev pub is_columns : Axis → Bool
+is_columns Rows = false
+is_columns Columns = true
+
+-- rows are listed, and cells are shown as texts, where nothing else is asked for
+abbrev pub axis_or_rows : Option Axis → Axis
+axis_or_rows dimension = unwrap_or dimension Rows
+
+abbrev pub render_or_formatted : Option Render → Render
+render_or_formatted render = unwrap_or render Formatted
+
+-- the list, unless it is empty
+abbrev pub unless_empty : List (List Cell) → Option (List (List Cell))
+unless_empty [] = None
+unless_empty (line ∷ lines) = Some (line ∷ lines)
+
+abbrev pub shown_range : PlaceBook → Axis → Render → Area → PlaceSheet → ShownRange
+shown_range book axis render area sheet = record {
+  range = area_text sheet area;
+  major_dimension = axis;
+  values = unless_empty (area_shown (formula_sheets book.sheets) area (is_columns axis) render sheet);
+}
+
+abbrev pub IsRead : PlaceBook → Option Axis → Option Render → FoundArea → PlaceSheet → Result ShownRange Rule → Type 0
+IsRead book dimension render found sheet told =
+    told ≡ Ok (shown_range book (axis_or_rows dimension) (render_or_formatted render) found.0 sheet)
+
+-- what a range shows
+abbrev pub IsShown : Option Axis → Option Render → PlaceBook → List ℕ → Result ShownRange Rule → Type 0
+IsShown dimension render book range = OnRange (Resolves range book.sheets) book.sheets (IsRead book dimension render)
+
+-- ---- clears
+
+abbrev pub IsClear : FoundArea → PlaceSheet → Result (List ℕ × Change) Rule → Type 0
+IsClear found sheet told =
+    told ≡ Ok (area_text sheet found.0, record { sheet = found.0.sheet; updates = cleared found.0 })
+
+-- the range as text, and its cells emptied; a text whose shape is broken is no range
+abbrev pub IsCleared : PlaceBook → Reading (List ℕ) → Result (List ℕ × Change) Rule → Type 0
+IsCleared book (Ok range) told = OnRange (Resolves range book.sheets) book.sheets IsClear told
+IsCleared book (Err shape) told = told ≡ Err (rule_of shape)
+
+-- ---- writes
+
+abbrev pub update_of : PlaceBook → PlaceSheet → Written → UpdateAnswer
+update_of book sheet counts = record {
+  spreadsheet_id = book.id;
+  updated_cells = counts.cells;
+  updated_columns = length counts.cols;
+  updated_range = area_text sheet counts.area;
+  updated_rows = length counts.rows;
+}
+
+-- what a write did, as it is told, and as it is counted with others
+abbrev pub Wrote : Type 0
+Wrote = UpdateAnswer × Written
+
+-- the values are written, or a rule is broken
+pub record IsUpdate (book : PlaceBook) (block : Block) (found : FoundArea) (sheet : PlaceSheet)
+    (told : Result (Wrote × Change) Rule) : Type 0 where
+  pub after : PlaceBook
+  pub wrote : Result Written Rule
+  pub writes : IsWrite found.1 found.0 block sheet book after wrote
+  pub tells : MatchResult wrote
+      (λ counts. told ≡ Ok (
+        (update_of book sheet counts, counts),
+        record { sheet = found.0.sheet; updates = contents_of writes.entries },
+      ))
+      (λ broken. told ≡ Err broken)
+
+-- values for a range are written; those whose shape is broken are refused whatever the range is
+abbrev pub IsWritten : List ℕ → PlaceBook → Reading ValueRange → Result (Wrote × Change) Rule → Type 0
+IsWritten range book (Ok values) told =
+    OnRange (IsTarget range values.range book.sheets) book.sheets (IsUpdate book values.block) told
+IsWritten range book (Err shape) told = told ≡ Err (rule_of shape)
+
+-- and those that say their range
+abbrev pub IsUpdated : PlaceBook → Reading RangeBlock → Result (Wrote × Change) Rule → Type 0
+IsUpdated book (Ok values) told =
+    OnRange (Resolves values.range book.sheets) book.sheets (IsUpdate book values.block) told
+IsUpdated book (Err shape) told = told ≡ Err (rule_of shape)
