@@ -7,3 +7,4 @@ pub mod Endless
 pub mod LookUps
 pub mod Listed
 pub mod Many
+pub mod AllGiven

@@ -21,4 +21,5 @@ pub use numbers::{absolute, modulo, sign, whole_quotient};
 pub use sum_if::matches_summed;
 pub use table::Function;
 pub use texts::{left_part, middle_part, right_part, same_text, text_length};
+pub(crate) use values::value_of_cells;
 pub use values::{called_value, function_value};

@@ -1,16 +1,19 @@
-//! The values of formulas: what operators and functions make of the values that they are given.
+//! The values of formulas by their trees: what operators and functions make of the values that they are given.
 #![tactic(auto)]
 
 mod arguments;
 mod arithmetic;
 mod comparison;
 mod conversion;
+mod evaluation;
 mod functions;
 mod laws;
 mod operators;
 mod outcome;
+mod reader;
 
 pub use arguments::{AreaCells, Argument, FilledCell};
+pub use evaluation::value_of_tree;
 pub use functions::{
     Function, absolute, all_value, any_value, called_value, chosen, column_count, count_all_value,
     count_value, function_named, function_value, greatest_value, indexed_value, is_blank, is_error,
@@ -20,3 +23,4 @@ pub use functions::{
 };
 pub use laws::counts_are_bounds;
 pub use operators::{negation, operation};
+pub use reader::CellReader;

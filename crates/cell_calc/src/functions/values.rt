@@ -247,7 +247,8 @@ fn value_of(argument: &Argument) -> Result<Value, NoMemory>
     }
 }
 
-fn value_of_cells(cells: &AreaCells) -> Result<Value, NoMemory>
+/// A copy of the value of an area's only cell, and else [`Kind::Value`].
+pub(crate) fn value_of_cells(cells: &AreaCells) -> Result<Value, NoMemory>
     ensures { (all : Cells) → AreCells cells.now all → IfOk result (λ value. value ≡ value_of_cells all.values) }
 {
     if is_one_cell(cells.rows, cells.columns) {
