@@ -16,3 +16,4 @@ pub mod FunctionValues
 pub mod Book
 pub mod FormulaValue
 pub mod CellValue
+pub mod Contents

@@ -3,6 +3,7 @@
 
 mod arguments;
 mod arithmetic;
+mod cells;
 mod comparison;
 mod conversion;
 mod evaluation;
@@ -13,6 +14,7 @@ mod outcome;
 mod reader;
 
 pub use arguments::{AreaCells, Argument, FilledCell};
+pub use cells::CellsOf;
 pub use evaluation::value_of_tree;
 pub use functions::{
     Function, absolute, all_value, any_value, called_value, chosen, column_count, count_all_value,
