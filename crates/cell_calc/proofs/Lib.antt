@@ -8,3 +8,4 @@ pub mod LookUps
 pub mod Listed
 pub mod Many
 pub mod AllGiven
+pub mod ReadsDecide

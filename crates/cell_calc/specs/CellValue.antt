@@ -71,3 +71,11 @@ pub record IsValueOf (book : Book) (place : Place) (value : Value) : Type 0 wher
 -- what has a value without a count has it
 abbrev pub CountsAreBounds : Type 0
 CountsAreBounds = (book : Book) (place : Place) (value : Value) → IsValueOf book place value → HasValue book place value
+
+-- the value of a cell is the same in two spreadsheets where the sizes of sheets, the areas of names, and the values
+-- in the places that it reads are the same
+abbrev pub ReadsDecide : Type 0
+ReadsDecide = (one other : Book) (read same : Place → Value) (cell : Cell)
+    → ((sheet : ℕ) → one.size sheet ≡ other.size sheet) → ((word : List ℕ) → one.named word ≡ other.named word)
+    → ((place : Place) → Reads one.named cell place → read place ≡ same place)
+    → value_of_cell one read cell ≡ value_of_cell other same cell

@@ -1,10 +1,17 @@
 //! Laws of the values of cells, as functions that do nothing, whose contracts are the laws.
 
-ghost use Rattle.cell_calc.specs.CellValue.{CountsAreBounds};
+ghost use Rattle.cell_calc.specs.CellValue.{CountsAreBounds, ReadsDecide};
 
 /// What is the value in a place by walks without an end, and else by any recursion that is deeper than each walk
 /// from there is long, is so where lengths and depth are the number of the spreadsheet's formulas.
 #[tactic(auto, using(crate::proofs::Endless::counts_are_bounds))]
 pub fn counts_are_bounds()
     ensures { CountsAreBounds }
+{}
+
+/// The value of a cell depends on the sizes of sheets, the areas of names, and the values in the places that it
+/// reads alone.
+#[tactic(auto, using(crate::proofs::ReadsDecide::reads_decide))]
+pub fn reads_decide()
+    ensures { ReadsDecide }
 {}

@@ -23,6 +23,6 @@ pub use functions::{
     matches_summed, middle_part, modulo, negated, right_part, row_count, same_text, sign,
     sum_value, text_length, unless_it_fails, whole_quotient,
 };
-pub use laws::counts_are_bounds;
+pub use laws::{counts_are_bounds, reads_decide};
 pub use operators::{negation, operation};
 pub use reader::CellReader;
