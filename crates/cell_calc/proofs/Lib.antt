@@ -9,3 +9,6 @@ pub mod Listed
 pub mod Many
 pub mod AllGiven
 pub mod ReadsDecide
+pub mod Filled
+pub mod Rectangle
+pub mod AreasLent

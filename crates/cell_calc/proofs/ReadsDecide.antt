@@ -32,7 +32,7 @@ in_range first (suc count) line has =
     ]
 
 -- each line of a band is one that it has
-has_lines : (band : Band) (count line : ℕ) → Contains (lines_of band count) line → HasLine band line
+pub has_lines : (band : Band) (count line : ℕ) → Contains (lines_of band count) line → HasLine band line
 has_lines Whole count line has = tt
 has_lines (From start) count line has = (in_range start (count - start) line has).0
 has_lines (Span start end) count line has =

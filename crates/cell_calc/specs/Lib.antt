@@ -17,3 +17,4 @@ pub mod Book
 pub mod FormulaValue
 pub mod CellValue
 pub mod Contents
+pub mod Known

@@ -8,6 +8,7 @@ mod comparison;
 mod conversion;
 mod evaluation;
 mod functions;
+mod known;
 mod laws;
 mod operators;
 mod outcome;
@@ -23,6 +24,7 @@ pub use functions::{
     matches_summed, middle_part, modulo, negated, right_part, row_count, same_text, sign,
     sum_value, text_length, unless_it_fails, whole_quotient,
 };
+pub use known::{KnownCells, ValuesOf};
 pub use laws::{counts_are_bounds, reads_decide};
 pub use operators::{negation, operation};
 pub use reader::CellReader;

@@ -1,0 +1,121 @@
+-- The cells of an area that are lent, from what is stored and the values that are known.
+use Rattle.std.proofs.Common.{◌≡◌, ℕ, ◌+◌, ◌-◌, ◌*◌, ◌<◌, Bool, cond, List, [], ◌∷◌, ◌++◌, length, map, refl, ap, sym, ◌∙◌, arith, Contains, Option, Some, None}
+use Rattle.std.specs.Prelude.{flat_map, filter, unwrap_or, IsSomeAnd}
+use Rattle.std.specs.Option.{is_some, option_map_or}
+use Rattle.std.proofs.lemmas.List.{map-append}
+use Rattle.std.proofs.lemmas.List.Kept.{IsStrictlySortedBy-filter}
+use Rattle.cell_value.specs.declared.cell.Value.{Value}
+use Rattle.cell_value.specs.declared.cell.Value.TheVariants.{Blank}
+use Rattle.cell_value.specs.Elements.{Contains-filter, Contains-filter_from}
+use Rattle.grid_range.specs.declared.area.Area.{Area}
+use Rattle.grid_range.specs.declared.band.Band.{Band}
+use Rattle.grid_range.specs.declared.band.Band.TheVariants.{Whole, From, Span}
+use Rattle.grid_range.specs.Area.{by_rows}
+use Rattle.grid_range.specs.Band.{HasLine, first_line, end_line}
+use Rattle.ref_rewrite.specs.declared.cell_content.Content.{Content}
+use Rattle.cell_calc.specs.Lent.{filled_from}
+use Rattle.cell_calc.specs.Book.{Place, lines_of, places_of}
+use Rattle.cell_calc.specs.Contents.{Contents, AreSound, AreStoredPlaces}
+use Rattle.cell_calc.specs.Known.{value_known, value_read, book_read, place_among, filled_at, cell_known}
+use Rattle.cell_calc.proofs.ReadsDecide.{has_lines}
+use Rattle.cell_calc.proofs.Filled.{sorted_alike, all_rows}
+use Rattle.cell_calc.proofs.Rectangle.{by_row, never_below, below_on, range_has, cells_have, cells_only, cells_sorted, kept, made_by_row}
+
+-- a line of a band that is among so many
+in_lines : (band : Band) (count line : ℕ) → HasLine band line → line < count → Contains (lines_of band count) line
+in_lines Whole count line has less = range_has 0 (count - 0) line (omega arith) (omega (arith, less))
+in_lines (From start) count line has less = range_has start (count - start) line has (omega (arith, has, less))
+in_lines (Span start end) count line has less = range_has start (end - start) line has.0 (omega (arith, has.0, has.1))
+
+within_size : (size : Option (ℕ × ℕ)) (row column : ℕ) → IsSomeAnd size (λ s. (row < s.0) × (column < s.1))
+    → (row < (unwrap_or size (0, 0)).0) × (column < (unwrap_or size (0, 0)).1)
+within_size None row column within = absurd within
+within_size (Some size) row column within = within
+
+nothing_before : (first width : ℕ) → 0 ≡ (first - first) * width
+nothing_before first width =
+    let none : first - first ≡ 0 = omega arith in
+    let nought : 0 * width ≡ 0 = omega arith in
+    sym (ap (λ n. n * width) none ∙ nought)
+
+-- where something is stored what is known is read, and elsewhere nothing
+stored_alone : (content : Option Content) (place : ℕ) (value : Value)
+    → cond (is_some content) (filled_at place value) [] ≡ filled_at place (option_map_or (λ c. value) content Blank)
+stored_alone None place value = refl
+stored_alone (Some content) place value = refl
+
+-- how many cells some rows have
+module _ (read : Place → Value) (sheet : ℕ) (columns : List ℕ) where
+  row_long : (row : ℕ) (some : List ℕ)
+      → length (map read (map (λ column. record { sheet = sheet; row = row; column = column }) some)) ≡ length some
+  row_long row [] = refl
+  row_long row (column ∷ some) = omega (arith, row_long row some)
+
+  appended : (xs ys : List Value) → length (xs ++ ys) ≡ length xs + length ys
+  appended [] ys = omega arith
+  appended (x ∷ xs) ys = omega (arith, appended xs ys)
+
+  pub rows_long : (rows : List ℕ)
+      → length (map read (flat_map (λ row. map (λ column. record { sheet = sheet; row = row; column = column }) columns) rows))
+      ≡ length rows * length columns
+  rows_long [] = omega arith
+  rows_long (row ∷ rows) =
+      let here = map (λ column. record { sheet = sheet; row = row; column = column }) columns in
+      let later = flat_map (λ row. map (λ column. record { sheet = sheet; row = row; column = column }) columns) rows in
+      ap length (map-append read here later) ∙ appended (map read here) (map read later)
+      ∙ omega (arith, row_long row columns, rows_long rows)
+
+module _ (contents : Contents) (known : Place → Option Value) (sound : AreSound contents) (area : Area) where
+  abbrev size : ℕ × ℕ
+  size = unwrap_or (contents.size area.sheet) (0, 0)
+
+  abbrev row_count : ℕ
+  row_count = end_line area.rows size.0 - first_line area.rows
+
+  abbrev column_count : ℕ
+  column_count = end_line area.cols size.1 - first_line area.cols
+
+  abbrev rows : List ℕ
+  rows = lines_of area.rows size.0
+
+  abbrev columns : List ℕ
+  columns = lines_of area.cols size.1
+
+  abbrev place_of : ℕ × ℕ → Place
+  place_of cell = record { sheet = area.sheet; row = cell.0; column = cell.1 }
+
+  abbrev is_stored : ℕ × ℕ → Bool
+  is_stored cell = is_some (contents.content (place_of cell))
+
+  places_are : (places : List (ℕ × ℕ)) → AreStoredPlaces contents area places
+      → places ≡ filter is_stored (by_row rows columns)
+  places_are places are =
+      sorted_alike by_rows never_below below_on places (filter is_stored (by_row rows columns)) are.in_order
+      (IsStrictlySortedBy-filter by_rows is_stored (by_row rows columns)
+      (cells_sorted (first_line area.rows) row_count (first_line area.cols) column_count))
+      (λ cell has.
+      let is = (are.exactly cell.0 cell.1).0 has in
+      let within = within_size (contents.size area.sheet) cell.0 cell.1 (sound.inside (place_of cell) is.1) in
+      Contains-filter is_stored (by_row rows columns) cell
+      (cells_have rows columns cell.0 cell.1 (in_lines area.rows size.0 cell.0 is.0.0 within.0)
+      (in_lines area.cols size.1 cell.1 is.0.1 within.1)) is.1)
+      (λ cell has.
+      let found = Contains-filter_from is_stored (by_row rows columns) cell has in
+      let own = cells_only rows columns cell found.0 in
+      (are.exactly cell.0 cell.1).1
+      ((has_lines area.rows size.0 cell.0 own.0, has_lines area.cols size.1 cell.1 own.1), found.1))
+
+  -- the cells that are lent
+  pub area_filled : (places : List (ℕ × ℕ)) → AreStoredPlaces contents area places
+      → flat_map (cell_known known area column_count) places
+      ≡ filled_from 0 (map (value_read contents known) (places_of (book_read contents known) area))
+  area_filled places are =
+      let read = value_read contents known in
+      let entries = λ (cell : ℕ × ℕ). filled_at (place_among area column_count cell.0 cell.1) (read (place_of cell)) in
+      ap (flat_map (cell_known known area column_count)) (places_are places are)
+      ∙ kept (cell_known known area column_count) entries is_stored
+      (λ cell. stored_alone (contents.content (place_of cell)) (place_among area column_count cell.0 cell.1) (value_known known (place_of cell)))
+      (by_row rows columns)
+      ∙ made_by_row entries rows columns
+      ∙ sym (all_rows read area.sheet (first_line area.rows) (first_line area.cols) column_count
+      (first_line area.rows) row_count 0 (omega arith) (nothing_before (first_line area.rows) column_count))

@@ -1,0 +1,43 @@
+-- A spreadsheet by the values that are known of what is stored in it.
+use Rattle.std.specs.Prelude.{ℕ, ◌+◌, ◌-◌, ◌*◌, List, [], ◌∷◌, if◌then◌else◌, Option, unwrap_or}
+use Rattle.std.specs.Option.{option_map_or}
+use Rattle.cell_value.specs.declared.cell.Value.{Value}
+use Rattle.cell_value.specs.declared.cell.Value.TheVariants.{Blank}
+use Rattle.grid_range.specs.declared.area.Area.{Area}
+use Rattle.grid_range.specs.Band.{first_line}
+use Rattle.cell_calc.specs.LogicFunctions.{is_blank}
+use Rattle.cell_calc.specs.Book.{Book, Place, stored}
+use Rattle.cell_calc.specs.Contents.{Contents}
+
+-- the value that is known in a place; blank where none is
+abbrev pub value_known : (Place → Option Value) → Place → Value
+value_known known place = unwrap_or (known place) Blank
+
+-- the value that is read in a place: the one that is known of what is stored there; blank where nothing is
+abbrev pub value_read : Contents → (Place → Option Value) → Place → Value
+value_read contents known place =
+    option_map_or (λ content. value_known known place) (contents.content place) Blank
+
+-- the spreadsheet of these values alone, with its sheets' sizes and its named ranges
+abbrev pub book_read : Contents → (Place → Option Value) → Book
+book_read contents known = record {
+  cells = λ place. stored (value_read contents known place);
+  size = λ sheet. unwrap_or (contents.size sheet) (0, 0);
+  named = contents.named;
+}
+
+-- the place of a cell among those of an area by rows, counted from 0, where a row has so many
+abbrev pub place_among : Area → ℕ → ℕ → ℕ → ℕ
+place_among area columns row column =
+    (row - first_line area.rows) * columns + (column - first_line area.cols)
+
+-- a value and its place, where it isn't blank
+abbrev pub filled_at : ℕ → Value → List (ℕ × Value)
+filled_at place value = if is_blank value then [] else (place, value) ∷ []
+
+-- the value that is known in a row and a column of the area's sheet, if it isn't blank, with its place among the
+-- area's cells
+abbrev pub cell_known : (Place → Option Value) → Area → ℕ → ℕ × ℕ → List (ℕ × Value)
+cell_known known area columns cell =
+    filled_at (place_among area columns cell.0 cell.1)
+    (value_known known (record { sheet = area.sheet; row = cell.0; column = cell.1 }))
