@@ -12,3 +12,4 @@ pub mod ReadsDecide
 pub mod Filled
 pub mod Rectangle
 pub mod AreasLent
+pub mod OneAnswer

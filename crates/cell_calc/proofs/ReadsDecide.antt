@@ -1,13 +1,13 @@
 -- What a cell reads decides its value.
-use Rattle.std.proofs.Common.{◌≡◌, ℕ, zero, suc, ◌+◌, ◌-◌, ◌<◌, ◌≤◌, inl, inr, List, [], ◌∷◌, ◌++◌, length, map, refl, ap, sym, subst, ◌∙◌, arith, Contains, Option, Some, None}
+use Rattle.std.proofs.Common.{◌≡◌, ℕ, ◌-◌, List, [], ◌∷◌, ◌++◌, length, map, refl, ap, sym, ◌∙◌, arith, Contains, Option, Some, None}
 use Rattle.std.specs.Prelude.{flat_map}
 use Rattle.std.specs.Option.{option_map_or, option_to_list}
-use Rattle.std.specs.List.{range_with_len}
 use Rattle.std.proofs.lemmas.List.{map-append}
+use Rattle.std.proofs.lemmas.List.Elements.{Contains-append_left, Contains-append_right}
 use Rattle.cell_value.specs.declared.cell.Kind.TheVariants as kind
 use Rattle.cell_value.specs.declared.cell.Value.{Value}
 use Rattle.cell_value.specs.declared.cell.Value.TheVariants.{Error}
-use Rattle.cell_value.specs.Elements.{nothing_in, Contains-head, Contains-cons, Contains-cons_cases}
+use Rattle.cell_value.specs.Elements.{Contains-head, Contains-cons}
 use Rattle.grid_range.specs.declared.area.Area.{Area}
 use Rattle.grid_range.specs.declared.band.Band.{Band}
 use Rattle.grid_range.specs.declared.band.Band.TheVariants.{Whole, From, Span}
@@ -18,25 +18,15 @@ use Rattle.cell_calc.specs.Operators.{operation, negation}
 use Rattle.cell_calc.specs.FunctionValues.{called_value}
 use Rattle.cell_calc.specs.Book.{Book, Place, stored, formula, HoldsPlace, lines_of, cells_of}
 use Rattle.cell_calc.specs.FormulaValue.{given_by, all_given_by}
+use Rattle.cell_calc.proofs.Rectangle.{range_only}
 use Rattle.cell_calc.specs.CellValue.{areas_of, all_areas_of, ReadsDecide}
-
--- lines from one on
-in_range : (first count line : ℕ) → Contains (range_with_len first count) line → (first ≤ line) × (line < first + count)
-in_range first zero line has = absurd (nothing_in line has)
-in_range first (suc count) line has =
-    elim (Contains-cons_cases first line (range_with_len (first + 1) count) has) [
-      | inl is ↦ (omega (arith, is), omega (arith, is))
-      | inr later ↦
-          let rest = in_range (first + 1) count line later in
-          (omega (arith, rest.0), omega (arith, rest.1))
-    ]
 
 -- each line of a band is one that it has
 pub has_lines : (band : Band) (count line : ℕ) → Contains (lines_of band count) line → HasLine band line
 has_lines Whole count line has = tt
-has_lines (From start) count line has = (in_range start (count - start) line has).0
+has_lines (From start) count line has = (range_only start (count - start) line has).0
 has_lines (Span start end) count line has =
-    let within = in_range start (end - start) line has in
+    let within = range_only start (end - start) line has in
     (within.0, omega (arith, within.0, within.1))
 
 module _ (read same : Place → Value) (sheet : ℕ) where
@@ -63,19 +53,6 @@ module _ (read same : Place → Value) (sheet : ℕ) where
       ∙ ap (λ l. map same (map (at row) columns) ++ l)
       (rows_agree rows columns (λ r c has. agree r c (Contains-cons row r rows has)))
       ∙ sym (map-append same (map (at row) columns) later)
-
--- one list behind another has what either has
-in_front : {X : Type 0} (front back : List X) (x : X) → Contains front x → Contains (front ++ back) x
-in_front [] back x has = absurd (nothing_in x has)
-in_front (head ∷ rest) back x has =
-    elim (Contains-cons_cases head x rest has) [
-      | inl is ↦ subst (Contains (head ∷ rest ++ back)) is (Contains-head head (rest ++ back))
-      | inr later ↦ Contains-cons head x (rest ++ back) (in_front rest back x later)
-    ]
-
-in_back : {X : Type 0} (front back : List X) (x : X) → Contains back x → Contains (front ++ back) x
-in_back [] back x has = has
-in_back (head ∷ rest) back x has = Contains-cons head x (rest ++ back) (in_back rest back x has)
 
 module _ (one other : Book) (read same : Place → Value)
     (sizes : (sheet : ℕ) → one.size sheet ≡ other.size sheet)
@@ -126,9 +103,9 @@ module _ (one other : Book) (read same : Place → Value)
         let lefts = areas_of one.named left in
         let rights = areas_of one.named right in
         ap (λ given. single (operation operator (value_of given) (value_of (given_by one read right))))
-        (given_agree left (λ cells has. agree cells (in_front lefts rights cells has)))
+        (given_agree left (λ cells has. agree cells (Contains-append_left lefts rights cells has)))
         ∙ ap (λ given. single (operation operator (value_of (given_by other same left)) (value_of given)))
-        (given_agree right (λ cells has. agree cells (in_back lefts rights cells has)))
+        (given_agree right (λ cells has. agree cells (Contains-append_right lefts rights cells has)))
     given_agree (call name arguments) agree = ap (λ given. single (called_value name given)) (all_agree arguments agree)
 
     all_agree : (arguments : Arguments) → AgreesOnAll (all_areas_of one.named arguments)
@@ -138,9 +115,9 @@ module _ (one other : Book) (read same : Place → Value)
         let firsts = areas_of one.named first in
         let laters = all_areas_of one.named later in
         ap (λ given. given ∷ all_given_by one read later)
-        (given_agree first (λ cells has. agree cells (in_front firsts laters cells has)))
+        (given_agree first (λ cells has. agree cells (Contains-append_left firsts laters cells has)))
         ∙ ap (λ given. given_by other same first ∷ given)
-        (all_agree later (λ cells has. agree cells (in_back firsts laters cells has)))
+        (all_agree later (λ cells has. agree cells (Contains-append_right firsts laters cells has)))
 
 pub reads_decide : ReadsDecide
 reads_decide one other read same (stored value) sizes names agree = refl

@@ -5,6 +5,7 @@ mod arguments;
 mod arithmetic;
 mod cells;
 mod comparison;
+mod content_value;
 mod conversion;
 mod evaluation;
 mod functions;
@@ -16,6 +17,7 @@ mod reader;
 
 pub use arguments::{AreaCells, Argument, FilledCell};
 pub use cells::CellsOf;
+pub use content_value::value_of_content;
 pub use evaluation::value_of_tree;
 pub use functions::{
     Function, absolute, all_value, any_value, called_value, chosen, column_count, count_all_value,
