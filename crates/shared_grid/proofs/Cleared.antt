@@ -5,15 +5,18 @@ use Rattle.std.specs.Option.{IsSome}
 use Rattle.std.specs.Cmp.{nat_cmp_total}
 use Rattle.std.specs.Ordering.{nat_cmp, eq_by_cmp}
 use Rattle.std.specs.FinMap as map
-use Rattle.std.proofs.lemmas.Bool.{cases_lt}
+use Rattle.std.proofs.lemmas.Bool.{cases_lt, false≢true}
 use Rattle.std.proofs.lemmas.Grind.{get_or_default_zero}
 use Rattle.grid_range.specs.declared.axis.Axis.{Axis}
+use Rattle.grid_range.specs.declared.change.Change.{Change}
+use Rattle.grid_range.specs.declared.change.Change.TheVariants.{Insert, Delete, Move}
+use Rattle.grid_range.specs.Change.{Fits}
 use Rattle.grid_range.specs.declared.axis.Axis.TheVariants.{Rows, Columns}
 use Rattle.shared_map.specs.Map.{AreKeysWithin}
 use Rattle.shared_grid.specs.declared.order.Order.{Order}
 use Rattle.shared_grid.specs.Orders.{number_of}
 use Rattle.shared_grid.specs.Cells.{numbers, key_of, line_in, across_in, HasMarks, HasFewer, AreKeysOnRow, IsCleared}
-use Rattle.shared_grid.specs.Sheets.{AreCleared}
+use Rattle.shared_grid.specs.Sheets.{AreCleared, AreOnAxis, deleted}
 use Rattle.shared_grid.proofs.Numbers.{same_key, key_itself, line-key, across-key}
 
 -- the keys of a row
@@ -194,3 +197,47 @@ module _ {T : Type 0} where
         cleared.kept key (λ on. off line low (omega arith) (on ∙ is))
         ∙ are.kept key (λ other from high. off other from (omega arith));
   }
+
+module _ {T : Type 0} (items : map.FinMap nat_cmp T) (key : ℕ) where
+  -- an item taken is one less
+  pub one_less : IsSome (map.get items key) → map.len (map.remove items key) + 1 ≡ map.len items
+  one_less some =
+      let less : map.len (map.remove items key) ≡ map.len items - 1 =
+      map.len-remove nat_cmp_total items key ∙ ap (λ b. cond b (map.len items - 1) (map.len items)) some in
+      let several : map.len items ≢ 0 = λ zero. false≢true (ap is_some
+      (sym (map.get-empty nat_cmp key) ∙ ap (λ m. map.get m key) (sym (map.empty_of_len items zero))) ∙ some) in
+      elim (cases_lt 0 (map.len items)) [
+        | inl positive ↦ omega (arith, less, positive)
+        | inr none ↦ absurd (several (omega (arith, none)))
+      ]
+
+  pub none_less : map.get items key ≡ None → map.len (map.remove items key) ≡ map.len items
+  none_less none = map.len-remove nat_cmp_total items key
+      ∙ ap (λ b. cond b (map.len items - 1) (map.len items)) (ap is_some none)
+
+-- where all lines are deleted, no item is left
+pub all_cleared : {T : Type 0} (axis : Axis) (order : Order) (first end : ℕ) (old new : map.FinMap nat_cmp T)
+    → AreOnAxis axis order old → first ≡ 0 → end ≡ order.count → new ≡ map.empty → AreCleared axis order first end old new
+all_cleared {T} axis order first end old new are low high is = record {
+  fewer = record {
+    each = λ key. inl (none key);
+    count = omega (arith, ap map.len is ∙ map.len-empty nat_cmp T);
+  };
+  gone = λ line key _ _ _ _. none key;
+  kept = λ key off. elim (map.get old key) as (λ (was : Option T). map.get old key ≡ was → map.get new key ≡ map.get old key) [
+    | None ↦ λ was. none key ∙ sym was
+    | Some item ↦ λ was.
+        let on = are.each key (ap is_some was) in
+        absurd (off on.line (omega (arith, low)) (omega (arith, high, on.there)) on.is)
+  ] refl;
+}
+  where
+    none : (key : ℕ) → map.get new key ≡ None
+    none key = ap (λ m. map.get m key) is ∙ map.get-empty nat_cmp key
+
+-- the deleted lines are of the axis
+pub deleted_within : (change : Change) (count : ℕ) → Fits change count
+    → ((deleted change).0 ≤ (deleted change).1) × ((deleted change).1 ≤ count)
+deleted_within (Insert at inserted) count fits = (omega arith, omega arith)
+deleted_within (Delete start end) count fits = (omega (arith, fits.0), fits.1)
+deleted_within (Move start end to) count fits = (omega arith, omega arith)

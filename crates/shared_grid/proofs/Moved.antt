@@ -1,5 +1,5 @@
 -- The sheet after a change of its lines.
-use Rattle.std.proofs.Common.{◌≡◌, ◌⊎◌, inl, inr, ℕ, ◌+◌, ◌^◌, ◌<◌, ◌≤◌, true, false, nat_lt, cond, length, refl, sym, ap, subst, ◌∙◌, arith}
+use Rattle.std.proofs.Common.{◌≡◌, ◌⊎◌, inl, inr, ℕ, ◌+◌, ◌-◌, ◌*◌, ◌^◌, ◌<◌, ◌≤◌, true, false, nat_lt, cond, length, refl, sym, ap, subst, ◌∙◌, arith}
 use Rattle.std.specs.Prelude.{Option, Some, None, is_some, max}
 use Rattle.std.specs.Option.{IsSome, option_map, unwrap_or}
 use Rattle.std.specs.Ordering.{nat_cmp}
@@ -20,7 +20,7 @@ use Rattle.shared_grid.specs.declared.order.Order.{Order}
 use Rattle.shared_grid.specs.Orders.{AreMoved, IsOrder, number_of}
 use Rattle.shared_grid.specs.Cells.{numbers, key_of, line_in, across_in, number_on, HasFewer}
 use Rattle.cell_store.specs.Kept.{KeptTable, ReusesLines}
-use Rattle.shared_grid.specs.Sheets.{sheet_of, numbered_table, deleted, IsOnLines, IsSheet, AreCleared}
+use Rattle.shared_grid.specs.Sheets.{sheet_of, numbered_table, deleted, IsOnLines, IsSheet, AreCleared, AreOnAxis}
 use Rattle.shared_grid.proofs.Numbers.{line-key, across-key, small}
 use Rattle.shared_grid.proofs.Placed.{item-place, inside, filled}
 use Rattle.cell_store.specs.TurningLaws.{chosen, goes_below}
@@ -128,6 +128,32 @@ module _ {X : Type 0} (items left : fin.FinMap nat_cmp X) where
 
 fits_key : (key line across : ℕ) → line < numbers → across < numbers → key ≡ key_of line across → key < 2 ^ 64
 fits_key key line across one two is = omega arith
+
+-- each item of a sheet is on a row, and on a column
+module _ {X : Type 0} (rows columns : Order) (items : fin.FinMap nat_cmp X) (is : IsSheet rows columns items) where
+  pub on_rows : AreOnAxis Rows rows items
+  on_rows = record {
+    each = λ key some.
+        let on = is.lines.each key some in
+        record {
+          line = on.row;
+          there = on.there.0;
+          is = ap line_in on.is ∙ line-key (number_of rows on.row) (number_of columns on.column)
+              (small columns is.columns_are on.column on.there.1);
+        };
+  }
+
+  pub on_columns : AreOnAxis Columns columns items
+  on_columns = record {
+    each = λ key some.
+        let on = is.lines.each key some in
+        record {
+          line = on.column;
+          there = on.there.1;
+          is = ap across_in on.is ∙ across-key (number_of rows on.row) (number_of columns on.column)
+              (small columns is.columns_are on.column on.there.1);
+        };
+  }
 
 module _ {X : Type 0} (laws : TablesByItems X) (below : PlacesStayBelow) (change : Change) (rows columns after : Order)
     (items left : fin.FinMap nat_cmp X) (is : IsSheet rows columns items) (sheet : KeptTable X)
@@ -238,13 +264,28 @@ module _ {X : Type 0} (laws : TablesByItems X) (below : PlacesStayBelow) (change
       );
     }
 
+    rows_left : filled_places (sheet_of after columns left) ≡ fin.len left
+    rows_left = filled laws after columns after_is is.columns_are left rows_sheet.lines
+
     pub rows_fewer : filled_places (sheet_of after columns left) ≤ filled_places sheet.table
-    rows_fewer = omega (
-      arith,
-      filled laws after columns after_is is.columns_are left rows_sheet.lines,
-      filled-view laws rows columns items is sheet view,
-      cleared.fewer.count,
-    )
+    rows_fewer = omega (arith, rows_left, filled-view laws rows columns items is sheet view, cleared.fewer.count)
+
+    -- the steps for the entries, and those for the maps
+    pub rows_steps : (old made new : ℕ) → made ≡ old + rows.count + count_after change rows.count
+        → new + 2 * fin.len left ≤ made + 2 * fin.len items + rows.count + count_after change rows.count
+        → new ≤ old + 2 * sheet.table.rows + 2 * count_after change sheet.table.rows
+        + 2 * (filled_places sheet.table - filled_places (sheet_of after columns left))
+    rows_steps old made new entries maps =
+        subst (λ (n : ℕ). new ≤ old + 2 * n + 2 * count_after change n
+        + 2 * (filled_places sheet.table - filled_places (sheet_of after columns left))) rows_same
+        (omega (
+          arith,
+          entries,
+          maps,
+          rows_left,
+          filled-view laws rows columns items is sheet view,
+          cleared.fewer.count,
+        ))
 
   module _ (fits : Fits change columns.count) (moved : AreMoved change columns after)
       (cleared : AreCleared Columns columns (deleted change).0 (deleted change).1 items left)
@@ -312,13 +353,28 @@ module _ {X : Type 0} (laws : TablesByItems X) (below : PlacesStayBelow) (change
       );
     }
 
+    columns_left : filled_places (sheet_of rows after left) ≡ fin.len left
+    columns_left = filled laws rows after is.rows_are after_is left columns_sheet.lines
+
     pub columns_fewer : filled_places (sheet_of rows after left) ≤ filled_places sheet.table
-    columns_fewer = omega (
-      arith,
-      filled laws rows after is.rows_are after_is left columns_sheet.lines,
-      filled-view laws rows columns items is sheet view,
-      cleared.fewer.count,
-    )
+    columns_fewer = omega (arith, columns_left, filled-view laws rows columns items is sheet view, cleared.fewer.count)
+
+    -- the steps for the entries, and those for the maps
+    pub columns_steps : (old made new : ℕ) → made ≡ old + columns.count + count_after change columns.count
+        → new + 2 * fin.len left ≤ made + 2 * fin.len items + columns.count + count_after change columns.count
+        → new ≤ old + 2 * sheet.table.cols + 2 * count_after change sheet.table.cols
+        + 2 * (filled_places sheet.table - filled_places (sheet_of rows after left))
+    columns_steps old made new entries maps =
+        subst (λ (n : ℕ). new ≤ old + 2 * n + 2 * count_after change n
+        + 2 * (filled_places sheet.table - filled_places (sheet_of rows after left))) cols_same
+        (omega (
+          arith,
+          entries,
+          maps,
+          columns_left,
+          filled-view laws rows columns items is sheet view,
+          cleared.fewer.count,
+        ))
 
 -- the change fits the lines, and there is room, as the sheet that callers see has it
 module _ {X : Type 0} (change : Change) (rows columns : Order) (items : fin.FinMap nat_cmp X) (sheet : KeptTable X)

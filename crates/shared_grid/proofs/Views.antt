@@ -17,6 +17,11 @@ pub on_ok : {A E P Q : Type 0} (follows : P → Q) (r : Result A E) → OnOk r P
 on_ok follows (Ok value) p = follows p
 on_ok follows (Err error) p = tt
 
+-- what holds in any case holds on success
+pub always : {A E P : Type 0} (r : Result A E) → P → OnOk r P
+always (Ok value) p = p
+always (Err error) p = tt
+
 module _ {X : Type 0} (laws : TablesByItems X) (rows columns : Order) (items : map.FinMap nat_cmp X)
     (is : IsSheet rows columns items) (sheet : KeptTable X) (view : numbered_table rows columns items ≡ sheet) where
   pub item-view : (row col : ℕ) → row < rows.count → col < columns.count

@@ -51,6 +51,16 @@ pub record IsOnLines (rows columns : Order) (key : ℕ) : Type 0 where
 pub record AreOnLines {T : Type 0} (rows columns : Order) (items : fin.FinMap nat_cmp T) : Type 0 where
   pub each : (key : ℕ) → IsSome (fin.get items key) → IsOnLines rows columns key
 
+-- the key has the number of a line of the axis
+pub record IsOnAxis (axis : Axis) (order : Order) (key : ℕ) : Type 0 where
+  pub line : ℕ
+  pub there : line < order.count
+  pub is : number_on axis key ≡ number_of order line
+
+-- each item is on a line of the axis
+pub record AreOnAxis {T : Type 0} (axis : Axis) (order : Order) (items : fin.FinMap nat_cmp T) : Type 0 where
+  pub each : (key : ℕ) → IsSome (fin.get items key) → IsOnAxis axis order key
+
 -- the items stand for a sheet
 pub record IsSheet {T : Type 0} (rows columns : Order) (items : fin.FinMap nat_cmp T) : Type 0 where
   pub rows_are : IsOrder rows

@@ -1,4 +1,4 @@
-ghost use Rattle.std.specs.Prelude.{◌≡◌, ◌≤◌, Some, IfOk, OnOk, OnErr, IfErr};
+ghost use Rattle.std.specs.Prelude.{◌≡◌, ◌+◌, ◌-◌, ◌*◌, ◌≤◌, Some, IfOk, OnOk, OnErr, IfErr};
 ghost use Rattle.std.specs.Option.{option_copied, IsSome};
 ghost use Rattle.std.specs.Borrow.{sem, LendsSoOk};
 ghost use Rattle.std.specs.FinMap as map;
@@ -8,12 +8,14 @@ ghost use Rattle.shared_grid.specs.Orders.{IsOrder};
 ghost use Rattle.shared_grid.specs.Sheets.{AreCleared};
 ghost use Rattle.shared_grid.specs.contracts.cells.Cells.{the_row};
 
+use crate::counting::Steps;
 use crate::order::Order;
 use cell_value::{Duplicate, Items, NoMemory};
 use grid_range::Axis;
 use shared_map::SharedMap;
 use std::alloc::Global;
 use std::marker::Model;
+use std::sync::ledger::Ledger;
 
 /// Tells that the place of a column and a row holds an item.
 #[derive(Clone, Copy)]
@@ -140,56 +142,139 @@ impl<T: Duplicate + Drop> Cells<T> {
         self.items.keys(key(row, 0), key(row, u32::MAX))
     }
 
-    /// Drops the items on the lines from `first` to `end - 1`.
+    /// The items without those on the lines from `first` to `end - 1`, with two steps for each of these,
+    /// one for each of the lines, and two for the copies.
+    ///
+    /// # Errors
+    ///
+    /// [`NoMemory`] where memory runs out.
+    pub(crate) fn without<L: Ledger>(
+        &self,
+        axis: Axis,
+        order: &Order,
+        first: u32,
+        end: u32,
+        steps: &mut Steps<L>,
+    ) -> Result<Cells<T>, NoMemory>
+        requires order { IsOrder order.now }
+        requires there { (first ≤ end) × (end ≤ order.now.count) }
+        ensures cleared { IfOk result (AreCleared axis order.now first end self.now) }
+        ensures steps { IfOk result (λ left. steps.new + 2 * map.len left
+            ≡ steps.old + 2 * map.len self.now + (end - first) + 2) }
+    {
+        steps.add(2);
+        let mut left = self.copy()?;
+        left.drop_lines(axis, order, first, end, steps)?;
+        Ok(left)
+    }
+
+    /// Drops all items: one step to count them, and two for the maps that are made anew where there are
+    /// some.
+    ///
+    /// # Errors
+    ///
+    /// [`NoMemory`] where memory runs out; the items are as they were.
+    pub(crate) fn drop_all<L: Ledger>(
+        &mut self,
+        alloc: Global,
+        steps: &mut Steps<L>,
+    ) -> Result<(), NoMemory>
+        ensures dropped { OnOk result (self.new ≡ map.empty) }
+        ensures unchanged { OnErr result (self.new ≡ self.old) }
+        ensures steps { OnOk result (steps.new + 2 * map.len self.new ≤ steps.old + 1 + 2 * map.len self.old) }
+    {
+        steps.tick();
+        if self.count() == 0 {
+            return Ok(());
+        }
+        steps.add(2);
+        *self = Cells::new(alloc)?;
+        Ok(())
+    }
+
+    /// Drops the items on the lines from `first` to `end - 1`, with a step for each line and two for each
+    /// item.
     ///
     /// # Errors
     ///
     /// [`NoMemory`] where memory runs out; some of the items are dropped then.
-    pub(crate) fn drop_lines(
+    fn drop_lines<L: Ledger>(
         &mut self,
         axis: Axis,
         order: &Order,
         first: u32,
         end: u32,
+        steps: &mut Steps<L>,
     ) -> Result<(), NoMemory>
         requires order { IsOrder order.now }
         requires there { (first ≤ end) × (end ≤ order.now.count) }
-        ensures { OnOk result (AreCleared axis order.now first end self.old self.new) }
+        ensures cleared { OnOk result (AreCleared axis order.now first end self.old self.new) }
+        ensures steps { OnOk result (steps.new + 2 * map.len self.new
+            ≡ steps.old + 2 * map.len self.old + (end - first)) }
     {
         for line in first..end {
-            self.clear(axis, order.number(line))?;
+            self.clear(axis, order.number(line), steps)?;
         }
         Ok(())
     }
 
-    /// Drops the items on the line with the number.
-    fn clear(&mut self, axis: Axis, number: u32) -> Result<(), NoMemory>
-        ensures { OnOk result (IsCleared axis number self.old self.new) }
+    /// Drops the items on the line with the number, with one step and two for each item.
+    fn clear<L: Ledger>(
+        &mut self,
+        axis: Axis,
+        number: u32,
+        steps: &mut Steps<L>,
+    ) -> Result<(), NoMemory>
+        ensures cleared { OnOk result (IsCleared axis number self.old self.new) }
+        ensures steps { OnOk result (steps.new + 2 * map.len self.new ≡ steps.old + 2 * map.len self.old + 1) }
     {
         match axis {
-            Axis::Rows => self.clear_row(number),
-            Axis::Columns => self.clear_column(number),
+            Axis::Rows => self.clear_row(number, steps),
+            Axis::Columns => self.clear_column(number, steps),
         }
     }
 
-    fn clear_row(&mut self, row: u32) -> Result<(), NoMemory>
-        ensures { OnOk result (IsCleared Rows row self.old self.new) }
+    fn clear_row<L: Ledger>(&mut self, row: u32, steps: &mut Steps<L>) -> Result<(), NoMemory>
+        ensures cleared { OnOk result (IsCleared Rows row self.old self.new) }
+        ensures steps { OnOk result (steps.new + 2 * map.len self.new ≡ steps.old + 2 * map.len self.old + 1) }
     {
+        steps.tick();
         let keys = self.on_row(row)?;
         for key in keys.as_slice() {
-            self.take(row, across(*key))?;
+            self.drop_item(row, across(*key), steps)?;
         }
         Ok(())
     }
 
-    fn clear_column(&mut self, column: u32) -> Result<(), NoMemory>
-        ensures { OnOk result (IsCleared Columns column self.old self.new) }
+    fn clear_column<L: Ledger>(&mut self, column: u32, steps: &mut Steps<L>) -> Result<(), NoMemory>
+        ensures cleared { OnOk result (IsCleared Columns column self.old self.new) }
+        ensures steps { OnOk result (steps.new + 2 * map.len self.new ≡ steps.old + 2 * map.len self.old + 1) }
     {
+        steps.tick();
         let marks = self.marks.keys(key(column, 0), key(column, u32::MAX))?;
         for mark in marks.as_slice() {
-            self.take(across(*mark), column)?;
+            self.drop_item(across(*mark), column, steps)?;
         }
         Ok(())
+    }
+
+    /// Drops the item at the place, as two steps. A mark that stands where no item is goes with none.
+    fn drop_item<L: Ledger>(
+        &mut self,
+        row: u32,
+        column: u32,
+        steps: &mut Steps<L>,
+    ) -> Result<(), NoMemory>
+        ensures dropped { OnOk result (self.new ≡ map.remove self.old (key_of row column)) }
+        ensures steps { OnOk result (steps.new + 2 * map.len self.new ≡ steps.old + 2 * map.len self.old) }
+    {
+        match self.take(row, column)? {
+            Some(_) => {
+                steps.add(2);
+                Ok(())
+            }
+            None => Ok(()),
+        }
     }
 
     /// Other cells with the same items, none of which is copied.

@@ -1,26 +1,29 @@
-ghost use Rattle.std.specs.Prelude.{◌≡◌, ℕ, ◌+◌, ◌++◌, ◌<◌, ◌≤◌, length, map, max};
+ghost use Rattle.std.specs.Prelude.{◌≡◌, ℕ, ◌+◌, ◌-◌, ◌*◌, ◌++◌, ◌<◌, ◌≤◌, length, map, max};
 ghost use Rattle.std.specs.Prelude.{Some, None, Contains, IfOk, OnOk, OnErr, IfErr};
 ghost use Rattle.std.specs.Option.{option_copied, IsSome};
 ghost use Rattle.std.specs.Borrow.{sem, LendsSoOk};
+ghost use Rattle.std.specs.FinMap as fin;
 ghost use Rattle.cell_store.specs.Table.{empty_table, most_lines, item_at, filled_places, most_filled};
 ghost use Rattle.cell_store.specs.Table.{HasPlace, HasItemsInside, with_item, without_item};
-ghost use Rattle.cell_store.specs.Moved.{GoesWithLines, IsRoomAfter, lines_on};
+ghost use Rattle.cell_store.specs.Moved.{GoesWithLines, IsRoomAfter, lines_on, size_after};
 ghost use Rattle.cell_store.specs.Places.{AreFilledPlaces};
 ghost use Rattle.grid_range.specs.Change.{Fits, count_after};
 ghost use Rattle.grid_range.specs.declared.axis.Axis.TheVariants.{Rows, Columns};
 ghost use Rattle.shared_grid.specs.Cells.{across_in};
 ghost use Rattle.shared_grid.specs.Orders.{AreMoved, IsOrder, number_of, place_noted};
-ghost use Rattle.shared_grid.specs.Sheets.{AreCleared, AreOnRows, deleted};
+ghost use Rattle.shared_grid.specs.Sheets.{AreCleared, AreOnAxis, AreOnRows, deleted};
 ghost use Rattle.shared_grid.specs.contracts.grid.SharedGrid.{the_row};
 
 use crate::cells::{Cells, across};
+use crate::counting::Steps;
 use crate::held::Held;
 use crate::order::Order;
 use cell_store::{CellStore, held_by_rows, tables_by_items};
 use cell_value::{Duplicate, Items, NoMemory};
 use grid_range::{Area, Axis, Change, places_stay_below};
 use std::alloc::Global;
-use std::marker::Model;
+use std::marker::{Brand, Model};
+use std::sync::ledger::{Blank, Ledger};
 
 /// The cells of a sheet in maps that copies share: each item by the number of its row and that of its
 /// column. A copy copies no item, and a write copies what stands near its place where another version
@@ -95,60 +98,115 @@ impl<T: Duplicate + Drop> SharedGrid<T> {
         }
     }
 
-    /// The sheet after the change.
-    fn changed(&self, axis: Axis, change: &Change) -> Result<SharedGrid<T>, NoMemory>
-        requires fits { Fits change.now (lines_on axis self.now.table.rows self.now.table.cols) }
-        requires room { IsRoomAfter axis change.now self.now.table }
-        ensures moved { IfOk result (λ grid. GoesWithLines axis change.now self.now.table grid.table) }
-        ensures filled { IfOk result (λ grid. filled_places grid.table ≤ filled_places self.now.table) }
-        ensures numbers { IfOk result (ReusesLines axis change.now self.now) }
+    /// [`CellStore::change`], with its steps added: one for each line's entry that is passed over or given
+    /// up, of the lines before, one for each that is made, of the lines after, and one for each call of a
+    /// map. They are at most twice the axis's lines before and twice those after, and two for each item
+    /// that is dropped. The numbers of no line, kept for lines to come, are copied with those of the lines
+    /// and aren't counted, nor are marks that want of memory left without an item.
+    ///
+    /// # Errors
+    ///
+    /// [`NoMemory`] where memory runs out; the sheet is as it was.
+    pub fn change_counted<L: Ledger>(
+        &mut self,
+        axis: Axis,
+        change: &Change,
+        steps: &mut Steps<L>,
+    ) -> Result<(), NoMemory>
+        requires fits { Fits change.now (lines_on axis self.old.table.rows self.old.table.cols) }
+        requires room { IsRoomAfter axis change.now self.old.table }
+        ensures moved { OnOk result (GoesWithLines axis change.now self.old.table self.new.table) }
+        ensures unchanged { OnErr result (self.new.table ≡ self.old.table) }
+        ensures filled { filled_places self.new.table ≤ filled_places self.old.table }
+        ensures numbers { OnOk result (ReusesLines axis change.now self.old self.new) }
+        ensures steps { OnOk result (steps.new ≤ steps.old
+            + 2 * lines_on axis self.old.table.rows self.old.table.cols
+            + 2 * lines_on axis (size_after axis change.now self.old.table.rows self.old.table.cols).0
+            (size_after axis change.now self.old.table.rows self.old.table.cols).1
+            + 2 * (filled_places self.old.table - filled_places self.new.table)) }
     {
         match axis {
-            Axis::Rows => self.rows_changed(change),
-            Axis::Columns => self.columns_changed(change),
+            Axis::Rows => self.change_rows(change, steps),
+            Axis::Columns => self.change_columns(change, steps),
         }
     }
 
-    /// The sheet after the change of its rows.
-    fn rows_changed(&self, change: &Change) -> Result<SharedGrid<T>, NoMemory>
-        requires fits { Fits change.now self.now.table.rows }
-        requires room { IsRoomAfter Rows change.now self.now.table }
-        ensures moved { IfOk result (λ grid. GoesWithLines Rows change.now self.now.table grid.table) }
-        ensures filled { IfOk result (λ grid. filled_places grid.table ≤ filled_places self.now.table) }
-        ensures numbers { IfOk result (ReusesLines Rows change.now self.now) }
+    /// The change of the rows, counted.
+    fn change_rows<L: Ledger>(
+        &mut self,
+        change: &Change,
+        steps: &mut Steps<L>,
+    ) -> Result<(), NoMemory>
+        requires fits { Fits change.now self.old.table.rows }
+        requires room { IsRoomAfter Rows change.now self.old.table }
+        ensures moved { OnOk result (GoesWithLines Rows change.now self.old.table self.new.table) }
+        ensures unchanged { OnErr result (self.new.table ≡ self.old.table) }
+        ensures filled { filled_places self.new.table ≤ filled_places self.old.table }
+        ensures numbers { OnOk result (ReusesLines Rows change.now self.old self.new) }
+        ensures steps { OnOk result (steps.new ≤ steps.old + 2 * self.old.table.rows
+            + 2 * count_after change.now self.old.table.rows
+            + 2 * (filled_places self.old.table - filled_places self.new.table)) }
     {
         tables_by_items::<T>();
         places_stay_below();
-        let cells = cells_left(&self.cells, Axis::Rows, &self.rows, change)?;
-        let rows = lines_after(self.alloc, &self.rows, change)?;
-        let columns = self.columns.share()?;
-        Ok(SharedGrid {
-            alloc: self.alloc,
-            rows,
-            columns,
-            cells,
-        })
+        let rows = lines_after(self.alloc, &self.rows, change, steps)?;
+        let cells = &mut self.cells;
+        drop_deleted(cells, self.alloc, Axis::Rows, &self.rows, change, steps)?;
+        self.rows = rows;
+        Ok(())
     }
 
-    /// The sheet after the change of its columns.
-    fn columns_changed(&self, change: &Change) -> Result<SharedGrid<T>, NoMemory>
-        requires fits { Fits change.now self.now.table.cols }
-        requires room { IsRoomAfter Columns change.now self.now.table }
-        ensures moved { IfOk result (λ grid. GoesWithLines Columns change.now self.now.table grid.table) }
-        ensures filled { IfOk result (λ grid. filled_places grid.table ≤ filled_places self.now.table) }
-        ensures numbers { IfOk result (ReusesLines Columns change.now self.now) }
+    /// The change of the columns, counted.
+    fn change_columns<L: Ledger>(
+        &mut self,
+        change: &Change,
+        steps: &mut Steps<L>,
+    ) -> Result<(), NoMemory>
+        requires fits { Fits change.now self.old.table.cols }
+        requires room { IsRoomAfter Columns change.now self.old.table }
+        ensures moved { OnOk result (GoesWithLines Columns change.now self.old.table self.new.table) }
+        ensures unchanged { OnErr result (self.new.table ≡ self.old.table) }
+        ensures filled { filled_places self.new.table ≤ filled_places self.old.table }
+        ensures numbers { OnOk result (ReusesLines Columns change.now self.old self.new) }
+        ensures steps { OnOk result (steps.new ≤ steps.old + 2 * self.old.table.cols
+            + 2 * count_after change.now self.old.table.cols
+            + 2 * (filled_places self.old.table - filled_places self.new.table)) }
     {
         tables_by_items::<T>();
         places_stay_below();
-        let cells = cells_left(&self.cells, Axis::Columns, &self.columns, change)?;
-        let columns = lines_after(self.alloc, &self.columns, change)?;
-        let rows = self.rows.share()?;
-        Ok(SharedGrid {
-            alloc: self.alloc,
-            rows,
-            columns,
+        let columns = lines_after(self.alloc, &self.columns, change, steps)?;
+        let cells = &mut self.cells;
+        drop_deleted(
             cells,
-        })
+            self.alloc,
+            Axis::Columns,
+            &self.columns,
+            change,
+            steps,
+        )?;
+        self.columns = columns;
+        Ok(())
+    }
+
+    /// The change, with steps on a ledger of its own.
+    fn change_alone<L: Ledger>(
+        &mut self,
+        axis: Axis,
+        change: &Change,
+        blank: Blank,
+    ) -> Result<(), NoMemory>
+        requires name { blank.name ≡ L.name }
+        requires parts { blank.parts ≡ L.parts }
+        requires open { 0 < blank.parts }
+        requires fits { Fits change.now (lines_on axis self.old.table.rows self.old.table.cols) }
+        requires room { IsRoomAfter axis change.now self.old.table }
+        ensures moved { OnOk result (GoesWithLines axis change.now self.old.table self.new.table) }
+        ensures unchanged { OnErr result (self.new.table ≡ self.old.table) }
+        ensures filled { filled_places self.new.table ≤ filled_places self.old.table }
+        ensures numbers { OnOk result (ReusesLines axis change.now self.old self.new) }
+    {
+        let mut steps = Steps::<L>::new(blank);
+        self.change_counted(axis, change, &mut steps)
     }
 
     /// The filled places of the rows from `first` to `end - 1`.
@@ -246,8 +304,7 @@ impl<T: Duplicate + Drop> CellStore<T> for SharedGrid<T> {
         ensures unchanged { OnErr result (self.new.table ≡ self.old.table) }
         ensures numbers { OnOk result (ReusesLines axis change.now self.old self.new) }
     {
-        *self = self.changed(axis, change)?;
-        Ok(())
+        self.change_alone::<Brand>(axis, change, Blank::new(1))
     }
 
     /// The filled places of the area, by rows. Only the rows of the area are visited, and its sheet isn't
@@ -304,8 +361,13 @@ fn number(lines: &Held<Order>, line: u32) -> u32
     lines.value().number(line)
 }
 
-/// The lines after the change.
-fn lines_after(alloc: Global, lines: &Held<Order>, change: &Change) -> Result<Held<Order>, NoMemory>
+/// The lines after the change, with a step for each line before and one for each line after.
+fn lines_after<L: Ledger>(
+    alloc: Global,
+    lines: &Held<Order>,
+    change: &Change,
+    steps: &mut Steps<L>,
+) -> Result<Held<Order>, NoMemory>
     requires order { IsOrder lines.now }
     requires fits { Fits change.now lines.now.count }
     requires room { count_after change.now lines.now.count ≤ most_lines }
@@ -313,26 +375,40 @@ fn lines_after(alloc: Global, lines: &Held<Order>, change: &Change) -> Result<He
     ensures moved { IfOk result (AreMoved change.now lines.now) }
     ensures numbers { IfOk result (λ after. length after.numbers.items
         ≤ max (length lines.now.numbers.items) (count_after change.now lines.now.count)) }
+    ensures steps { steps.new ≡ steps.old + lines.now.count + count_after change.now lines.now.count }
 {
-    let order = lines.value().changed(alloc, change)?;
+    let order = lines.value().changed_counted(alloc, change, steps)?;
     Held::new(alloc, order)
 }
 
-/// The items that a change of those lines leaves.
-fn cells_left<T: Duplicate + Drop>(
-    cells: &Cells<T>,
+/// Drops the items of the lines that the change deletes, in no more steps than there are lines before
+/// and after, and two for each item.
+fn drop_deleted<T: Duplicate + Drop, L: Ledger>(
+    cells: &mut Cells<T>,
+    alloc: Global,
     axis: Axis,
     lines: &Held<Order>,
     change: &Change,
-) -> Result<Cells<T>, NoMemory>
+    steps: &mut Steps<L>,
+) -> Result<(), NoMemory>
     requires order { IsOrder lines.now }
     requires fits { Fits change.now lines.now.count }
-    ensures { IfOk result (AreCleared axis lines.now (deleted change.now).0 (deleted change.now).1 cells.now) }
+    requires there { AreOnAxis axis lines.now cells.old }
+    ensures cleared { OnOk result (AreCleared axis lines.now (deleted change.now).0 (deleted change.now).1
+        cells.old cells.new) }
+    ensures unchanged { OnErr result (cells.new ≡ cells.old) }
+    ensures steps { OnOk result (steps.new + 2 * fin.len cells.new ≤ steps.old + 2 * fin.len cells.old
+        + lines.now.count + count_after change.now lines.now.count) }
 {
     let (first, end) = deleted(change);
-    let mut left = cells.copy()?;
-    left.drop_lines(axis, lines.value(), first, end)?;
-    Ok(left)
+    if first == end {
+        return Ok(());
+    }
+    if end - first == count(lines) {
+        return cells.drop_all(alloc, steps);
+    }
+    *cells = cells.without(axis, lines.value(), first, end, steps)?;
+    Ok(())
 }
 
 /// The first of the lines that the change deletes, and the one past the last.

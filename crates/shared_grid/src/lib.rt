@@ -2,8 +2,10 @@
 #![tactic(auto)]
 
 mod cells;
+mod counting;
 mod grid;
 mod held;
 mod order;
 
+pub use counting::Steps;
 pub use grid::SharedGrid;

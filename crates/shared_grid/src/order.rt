@@ -1,13 +1,15 @@
-ghost use Rattle.std.specs.Prelude.{◌≡◌, ℕ, ◌<◌, ◌≤◌, length, max, slice_index, slice_set, IfOk};
+ghost use Rattle.std.specs.Prelude.{◌≡◌, ℕ, ◌+◌, ◌<◌, ◌≤◌, length, max, slice_index, slice_set, IfOk};
 ghost use Rattle.grid_range.specs.Change.{Fits, count_after};
 ghost use Rattle.cell_store.specs.Table.{most_lines};
 ghost use Rattle.shared_grid.specs.Orders.{AreMoved, AreNumbers, IsOrder};
 ghost use Rattle.shared_grid.specs.Orders.{number_of, parts_of, place_noted};
 
+use crate::counting::Steps;
 use cell_store::turn;
 use cell_value::NoMemory;
 use grid_range::{Change, places_stay_apart, places_stay_below};
 use std::alloc::Global;
+use std::sync::ledger::Ledger;
 
 /// The lines of one axis in their order, each by a number that no change of lines alters.
 #[derive(Drop)]
@@ -84,6 +86,32 @@ impl Order {
         turn(&mut numbers, start, middle, end);
         let order = Order::of(alloc, numbers, count)?;
         Ok(order)
+    }
+
+    /// [`Order::changed`], with a step for each line before, whose entry is passed over or given up, and
+    /// one for each line after, whose entry is made.
+    ///
+    /// # Errors
+    ///
+    /// [`NoMemory`] where memory runs out.
+    pub(crate) fn changed_counted<L: Ledger>(
+        &self,
+        alloc: Global,
+        change: &Change,
+        steps: &mut Steps<L>,
+    ) -> Result<Order, NoMemory>
+        requires order { IsOrder self.now }
+        requires fits { Fits change.now self.now.count }
+        requires room { count_after change.now self.now.count ≤ most_lines }
+        ensures order { IfOk result IsOrder }
+        ensures moved { IfOk result (AreMoved change.now self.now) }
+        ensures numbers { IfOk result (λ order. length order.numbers.items
+            ≤ max (length self.now.numbers.items) (count_after change.now self.now.count)) }
+        ensures steps { steps.new ≡ steps.old + self.now.count + count_after change.now self.now.count }
+    {
+        steps.add(self.count);
+        steps.add(change.lines_after(self.count));
+        self.changed(alloc, change)
     }
 
     /// The numbers, and behind them as many as so many lines need.
