@@ -1,12 +1,16 @@
 -- The items once those of a line, and those of several lines, are taken.
 use Rattle.std.proofs.Common.{◌≡◌, ◌≢◌, ◌⊎◌, inl, inr, ℕ, ◌+◌, ◌-◌, ◌<◌, ◌≤◌, Bool, true, false, cond, List, length, get_or, refl, sym, ap, subst, ◌∙◌, arith}
-use Rattle.std.specs.Prelude.{Option, Some, None, is_some}
+use Rattle.std.specs.Prelude.{Option, Some, None, is_some, Contains}
+use Rattle.std.specs.List.{filter}
+use Rattle.std.specs.List.Sorted.{IsStrictlySortedBy}
 use Rattle.std.specs.Option.{IsSome}
 use Rattle.std.specs.Cmp.{nat_cmp_total}
 use Rattle.std.specs.Ordering.{nat_cmp, eq_by_cmp}
 use Rattle.std.specs.FinMap as map
 use Rattle.std.proofs.lemmas.Bool.{cases_lt, false≢true}
 use Rattle.std.proofs.lemmas.Grind.{get_or_default_zero}
+use Rattle.std.proofs.lemmas.List.Kept.{IsStrictlySortedBy-filter}
+use Rattle.cell_value.specs.Elements.{Contains-filter, Contains-filter_from}
 use Rattle.grid_range.specs.declared.axis.Axis.{Axis}
 use Rattle.grid_range.specs.declared.change.Change.{Change}
 use Rattle.grid_range.specs.declared.change.Change.TheVariants.{Insert, Delete, Move}
@@ -15,7 +19,7 @@ use Rattle.grid_range.specs.declared.axis.Axis.TheVariants.{Rows, Columns}
 use Rattle.shared_map.specs.Map.{AreKeysWithin}
 use Rattle.shared_grid.specs.declared.order.Order.{Order}
 use Rattle.shared_grid.specs.Orders.{number_of}
-use Rattle.shared_grid.specs.Cells.{numbers, key_of, line_in, across_in, HasMarks, HasFewer, AreKeysOnRow, IsCleared}
+use Rattle.shared_grid.specs.Cells.{numbers, key_of, line_in, across_in, HasMarks, HasFewer, AreKeysOnRow, AreMarksOnColumn, IsCleared}
 use Rattle.shared_grid.specs.Sheets.{AreCleared, AreOnAxis, deleted}
 use Rattle.shared_grid.proofs.Numbers.{same_key, key_itself, line-key, across-key}
 
@@ -35,6 +39,36 @@ keys_on_row items row first last keys first_is last_is within = record {
         (within.exactly key).1 (omega (arith, first_is, on), omega (arith, last_is, on), held.1)),
   );
 }
+
+-- the marks of a column whose items are there
+pub marks_on_column : {T M : Type 0} (items : map.FinMap nat_cmp T) (marks : map.FinMap nat_cmp M) → HasMarks items marks
+    → (column first last : ℕ) (keys held : List ℕ) → column < numbers
+    → first ≡ key_of column 0 → last ≡ key_of column 4294967295 → AreKeysWithin first last marks keys
+    → held ≡ filter (λ (mark : ℕ). is_some (map.get items (key_of (across_in mark) column))) keys
+    → AreMarksOnColumn column items held
+marks_on_column items marks are column first last keys held fits first_is last_is within is =
+    let there : ℕ → Bool = λ mark. is_some (map.get items (key_of (across_in mark) column)) in
+    record {
+      in_order = subst (IsStrictlySortedBy nat_cmp) (sym is) (IsStrictlySortedBy-filter nat_cmp there keys within.in_order);
+      exactly = λ mark. (
+        (λ has.
+            let found = Contains-filter_from there keys mark (subst (λ (xs : List ℕ). Contains xs mark) is has) in
+            let ends = (within.exactly mark).0 found.0 in
+            let low = ends.0 in
+            let high = ends.1 in
+            (omega (arith, first_is, last_is, low, high), found.1)),
+        (λ found.
+            let line = found.0 in
+            let same : key_of column (across_in mark) ≡ mark = omega (arith, line) in
+            let marked = are.each (across_in mark) column (omega arith) fits found.1 in
+            let has = (within.exactly mark).1 (
+              omega (arith, first_is, line),
+              omega (arith, last_is, line),
+              subst (λ (k : ℕ). IsSome (map.get marks k)) same marked,
+            ) in
+            subst (λ (xs : List ℕ). Contains xs mark) (sym is) (Contains-filter there keys mark has found.1)),
+      );
+    }
 
 -- keys that differ do so by the test
 differ : (one other : ℕ) → one ≢ other → eq_by_cmp nat_cmp one other ≡ false

@@ -21,9 +21,9 @@ use Rattle.cell_store.specs.Places.{AreFilledPlaces}
 use Rattle.cell_store.specs.Laws.{TablesByItems}
 use Rattle.shared_grid.specs.declared.order.Order.{Order}
 use Rattle.shared_grid.specs.Orders.{number_of, place_noted}
-use Rattle.shared_grid.specs.Cells.{line_in, across_in, AreKeysOnRow}
+use Rattle.shared_grid.specs.Cells.{numbers, key_of, line_in, across_in, AreKeysOnRow, AreMarksOnColumn}
 use Rattle.cell_store.specs.Kept.{KeptTable}
-use Rattle.shared_grid.specs.Sheets.{key_at, place_in, numbered_table, IsOnLines, IsSheet, AreOnRows}
+use Rattle.shared_grid.specs.Sheets.{key_at, place_in, numbered_table, IsOnLines, IsSheet, AreOnColumns, AreOnRows}
 use Rattle.shared_grid.proofs.Numbers.{same_place, line-key, across-key, small, place-key, place-line}
 use Rattle.shared_grid.proofs.Views.{item-view, inside-view}
 
@@ -186,6 +186,123 @@ module _ {X : Type 0} (laws : TablesByItems X) (rows columns : Order) (items : f
     ];
   })
 
+-- no columns have no places
+pub no_columns : {X : Type 0} (first : ℕ) (table : Table X) → AreOnColumns first first table []
+no_columns first table = record {
+  distinct = IsDistinct-none (eq_by_cmp by_rows);
+  only = λ row col has. absurd (nothing_in (row, col) has);
+  all = λ row col low high some. absurd (omega arith);
+}
+
+module _ {X : Type 0} (laws : TablesByItems X) (rows columns : Order) (items : fin.FinMap nat_cmp X)
+    (is : IsSheet rows columns items) (sheet : KeptTable X) (view : numbered_table rows columns items ≡ sheet)
+    (column number : ℕ) (column_there : column < columns.count) (number_is : number ≡ number_of columns column)
+    (marks : List ℕ) (listed : AreMarksOnColumn number items marks) where
+  abbrev pub marked : ℕ → ℕ × ℕ
+  marked mark = (place_noted rows (across_in mark), column)
+
+  abbrev key : ℕ → ℕ
+  key mark = key_of (across_in mark) number
+
+  fits_number : number < numbers
+  fits_number = omega (arith, number_is, small columns is.columns_are column column_there)
+
+  item_on : (mark : ℕ) → Contains marks mark → IsOnLines rows columns (key mark)
+  item_on mark has = is.lines.each (key mark) ((listed.exactly mark).0 has).1
+
+  row_of_key : (mark : ℕ) → line_in (key mark) ≡ across_in mark
+  row_of_key mark = line-key (across_in mark) number fits_number
+
+  marked_is : (mark : ℕ) → Contains marks mark → marked mark ≡ place_in rows columns (key mark)
+  marked_is mark has =
+      let row : place_noted rows (line_in (key mark)) ≡ place_noted rows (across_in mark) =
+      ap (place_noted rows) (row_of_key mark) in
+      let col : place_noted columns (across_in (key mark)) ≡ column =
+      ap (place_noted columns) (across-key (across_in mark) number fits_number ∙ number_is)
+      ∙ is.columns_are.noted column column_there in
+      λ i. (sym row i, sym col i)
+
+  marked_stands : (mark : ℕ) (has : Contains marks mark) → marked mark ≡ ((item_on mark has).row, (item_on mark has).column)
+  marked_stands mark has = marked_is mark has
+      ∙ place-line rows columns is.rows_are is.columns_are (key mark) (item_on mark has)
+
+  marks_tell : (one other : ℕ) → Contains marks one → Contains marks other → marked one ≡ marked other → one ≡ other
+  marks_tell one other here there same =
+      let keys : key one ≡ key other =
+      (item_on one here).is
+      ∙ ap (λ (p : ℕ × ℕ). key_at rows columns p.0 p.1)
+      (sym (marked_stands one here) ∙ same ∙ marked_stands other there)
+      ∙ sym (item_on other there).is in
+      let across : across_in one ≡ across_in other = sym (row_of_key one) ∙ ap line_in keys ∙ row_of_key other in
+      let first = ((listed.exactly one).0 here).0 in
+      let second = ((listed.exactly other).0 there).0 in
+      omega (arith, across, first, second)
+
+  -- the number of an item's row has a place
+  pub row_is_there : (mark : ℕ) → Contains marks mark → across_in mark < length rows.places.items
+  row_is_there mark has =
+      let line = item_on mark has in
+      let fits = small columns is.columns_are line.column line.there.1 in
+      let same : across_in mark ≡ number_of rows line.row =
+      sym (row_of_key mark) ∙ ap line_in line.is ∙ line-key (number_of rows line.row) (number_of columns line.column) fits in
+      omega (
+        arith,
+        same,
+        is.rows_are.each.within line.row (omega (arith, line.there.0, is.rows_are.count)),
+        is.rows_are.long,
+      )
+
+  pub column_more : (first : ℕ) (before after : List (ℕ × ℕ)) → after ≡ before ++ map marked marks
+      → AreOnColumns first column sheet.table before → AreOnColumns first (column + 1) sheet.table after
+  column_more first before after put are = subst (AreOnColumns first (column + 1) sheet.table) (sym put) (record {
+    distinct = distinct_more marked before marks are.distinct listed.in_order
+        (λ p mark has held same.
+        let less = (are.only p.0 p.1 has).0 in
+        let at : p.1 ≡ column = ap (λ (q : ℕ × ℕ). q.1) same in
+        omega (arith, less, at))
+        marks_tell;
+    only = λ r c has. elim (Contains-append_cases before (map marked marks) (r, c) has) [
+      | inl old ↦ let held = are.only r c old in (omega (arith, held.0), held.1)
+      | inr new ↦
+          let found = from_map marked marks (r, c) new in
+          let line = item_on found.0 found.1 in
+          let same : (line.row, line.column) ≡ (r, c) = sym (marked_stands found.0 found.1) ∙ found.2 in
+          let at : column ≡ c = ap (λ (q : ℕ × ℕ). q.1) found.2 in (
+            omega (arith, at),
+            subst (λ (q : ℕ × ℕ). IsSome (item_at sheet.table q.0 q.1)) same
+                (subst IsSome (ap (fin.get items) line.is
+                ∙ item-view laws rows columns items is sheet view line.row line.column line.there.0 line.there.1)
+                ((listed.exactly found.0).0 found.1).1),
+          )
+    ];
+    all = λ r c low high some. elim (cases_lt c column) [
+      | inl less ↦ Contains-append_left before (map marked marks) (r, c) (are.all r c low less some)
+      | inr last ↦
+          let at : c ≡ column = omega arith in
+          let there : r < rows.count = omega (
+            arith,
+            (inside-view laws rows columns items is sheet view r c some).0,
+            ap (λ s. s.table.rows) view,
+          ) in
+          let mark : ℕ = key_of number (number_of rows r) in
+          let fits = small rows is.rows_are r there in
+          let line : line_in mark ≡ number = line-key number (number_of rows r) fits in
+          let across : across_in mark ≡ number_of rows r = across-key number (number_of rows r) fits in
+          let same_key : key_at rows columns r column ≡ key mark =
+          λ i. key_of (sym across i) (sym number_is i) in
+          let held : IsSome (fin.get items (key_at rows columns r column)) =
+          subst IsSome (sym (item-view laws rows columns items is sheet view r column there column_there))
+          (subst (λ (n : ℕ). IsSome (item_at sheet.table r n)) at some) in
+          let has = (listed.exactly mark).1 (line, subst (λ (k : ℕ). IsSome (fin.get items k)) same_key held) in
+          let same : marked mark ≡ (r, c) =
+          ap (λ (n : ℕ). (place_noted rows n, column)) across
+          ∙ ap (λ (n : ℕ). (n, column)) (is.rows_are.noted r there)
+          ∙ ap (λ (n : ℕ). (r, n)) (sym at) in
+          Contains-append_right before (map marked marks) (r, c)
+          (subst (Contains (map marked marks)) same (in_map marked marks mark has))
+    ];
+  })
+
 -- the lines of a band, among so many
 has_ends : (band : Band) (count line : ℕ) → line < count → HasLine band line
     → (first_line band ≤ line) × (line < min (end_line band count) count)
@@ -205,6 +322,25 @@ are_places area table count first end places held inside count_is low high are s
     (λ filled.
         let there : row < count = omega (arith, (inside row col filled.1).0, count_is) in
         let ends = has_ends area.rows count row there filled.0.0 in
+        (exact row col).1 (
+          filled.0,
+          are.all row col (omega (arith, ends.0, low)) (omega (arith, ends.1, high)) filled.1,
+        )),
+  );
+}
+
+pub are_column_places : {X : Type 0} (area : Area) (table : Table X) (count first end : ℕ) (places held : List (ℕ × ℕ))
+    → HasItemsInside table → count ≡ table.cols → first ≤ first_line area.cols → min (end_line area.cols count) count ≤ end
+    → AreOnColumns first end table places → IsStrictlySortedBy by_rows held
+    → ((row col : ℕ) → Contains held (row, col) ↔ (Holds area row col × Contains places (row, col)))
+    → AreFilledPlaces area table held
+are_column_places area table count first end places held inside count_is low high are sorted exact = record {
+  in_order = sorted;
+  exactly = λ row col. (
+    (λ has. let found = (exact row col).0 has in (found.0, (are.only row col found.1).1)),
+    (λ filled.
+        let there : col < count = omega (arith, (inside row col filled.1).1, count_is) in
+        let ends = has_ends area.cols count col there filled.0.1 in
         (exact row col).1 (
           filled.0,
           are.all row col (omega (arith, ends.0, low)) (omega (arith, ends.1, high)) filled.1,

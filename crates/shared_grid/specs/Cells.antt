@@ -32,6 +32,12 @@ pub record AreKeysOnRow {T : Type 0} (row : ℕ) (items : map.FinMap nat_cmp T) 
   pub in_order : IsStrictlySortedBy nat_cmp keys
   pub exactly : (key : ℕ) → Contains keys key ↔ ((line_in key ≡ row) × IsSome (map.get items key))
 
+-- these are the marks of the items on the column with that number, in order
+pub record AreMarksOnColumn {T : Type 0} (column : ℕ) (items : map.FinMap nat_cmp T) (marks : List ℕ) : Type 0 where
+  pub in_order : IsStrictlySortedBy nat_cmp marks
+  pub exactly : (mark : ℕ) → Contains marks mark
+      ↔ ((line_in mark ≡ column) × IsSome (map.get items (key_of (across_in mark) column)))
+
 -- the number of a key's line on the axis
 abbrev pub number_on : Axis → ℕ → ℕ
 number_on Rows key = line_in key

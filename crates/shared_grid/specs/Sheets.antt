@@ -74,6 +74,12 @@ pub record AreOnRows {T : Type 0} (first end : ℕ) (table : Table T) (places : 
   pub only : (row col : ℕ) → Contains places (row, col) → (row < end) × IsSome (item_at table row col)
   pub all : (row col : ℕ) → first ≤ row → row < end → IsSome (item_at table row col) → Contains places (row, col)
 
+-- these are the filled places of the columns from `first` on below `end`, each once
+pub record AreOnColumns {T : Type 0} (first end : ℕ) (table : Table T) (places : List (ℕ × ℕ)) : Type 0 where
+  pub distinct : IsDistinct (eq_by_cmp by_rows) places
+  pub only : (row col : ℕ) → Contains places (row, col) → (col < end) × IsSome (item_at table row col)
+  pub all : (row col : ℕ) → first ≤ col → col < end → IsSome (item_at table row col) → Contains places (row, col)
+
 -- the items on the lines of the axis from `first` on below `end` are gone, and no others
 pub record AreCleared {T : Type 0} (axis : Axis) (order : Order) (first end : ℕ) (before after : fin.FinMap nat_cmp T) : Type 0 where
   pub fewer : HasFewer before after

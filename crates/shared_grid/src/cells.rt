@@ -1,9 +1,9 @@
-ghost use Rattle.std.specs.Prelude.{◌≡◌, ◌+◌, ◌-◌, ◌*◌, ◌≤◌, Some, IfOk, OnOk, OnErr, IfErr};
+ghost use Rattle.std.specs.Prelude.{◌≡◌, ◌+◌, ◌-◌, ◌*◌, ◌≤◌, ◌∷◌, ◌++◌, [], if◌then◌else◌, Some, IfOk, OnOk, OnErr, IfErr};
 ghost use Rattle.std.specs.Option.{option_copied, IsSome};
 ghost use Rattle.std.specs.Borrow.{sem, LendsSoOk};
 ghost use Rattle.std.specs.FinMap as map;
 ghost use Rattle.grid_range.specs.declared.axis.Axis.TheVariants.{Rows, Columns};
-ghost use Rattle.shared_grid.specs.Cells.{across_in, key_of, AreKeysOnRow, IsCleared};
+ghost use Rattle.shared_grid.specs.Cells.{across_in, key_of, AreKeysOnRow, AreMarksOnColumn, IsCleared};
 ghost use Rattle.shared_grid.specs.Orders.{IsOrder};
 ghost use Rattle.shared_grid.specs.Sheets.{AreCleared};
 ghost use Rattle.shared_grid.specs.contracts.cells.Cells.{the_row};
@@ -140,6 +140,23 @@ impl<T: Duplicate + Drop> Cells<T> {
         ensures { IfOk result (AreKeysOnRow row self.now) }
     {
         self.items.keys(key(row, 0), key(row, u32::MAX))
+    }
+
+    /// The marks of the items on the column, in order.
+    ///
+    /// # Errors
+    ///
+    /// [`NoMemory`] where memory runs out.
+    pub(crate) fn on_column(&self, alloc: Global, column: u32) -> Result<Items<u64>, NoMemory>
+        ensures { IfOk result (AreMarksOnColumn column self.now) }
+    {
+        let marks = self.marks.keys(key(column, 0), key(column, u32::MAX))?;
+        let mut held = Vec::new(alloc);
+        for mark in marks.as_slice() {
+            let item = self.get(across(*mark), column);
+            push_if(&mut held, *mark, item.is_some())?;
+        }
+        Ok(Items::of(held))
     }
 
     /// The items without those on the lines from `first` to `end - 1`, with two steps for each of these,
@@ -290,6 +307,17 @@ impl<T: Duplicate + Drop> Cells<T> {
             marks: self.marks.copy()?,
         })
     }
+}
+
+/// Puts the mark behind the others, where its item is there.
+fn push_if(marks: &mut Vec<u64>, mark: u64, held: bool) -> Result<(), NoMemory>
+    ensures { OnOk result (marks.new.items ≡ marks.old.items ++ (if held then mark ∷ [] else [])) }
+{
+    if held {
+        marks.push(mark)?;
+        return Ok(());
+    }
+    Ok(())
 }
 
 /// The key of a place: the number of its line, and that of the line across it.

@@ -1,4 +1,4 @@
-ghost use Rattle.std.specs.Prelude.{◌≡◌, ℕ, ◌+◌, ◌-◌, ◌*◌, ◌++◌, ◌<◌, ◌≤◌, length, map, max};
+ghost use Rattle.std.specs.Prelude.{◌≡◌, ℕ, ◌+◌, ◌-◌, ◌*◌, ◌++◌, ◌<◌, ◌≤◌, length, map, max, min};
 ghost use Rattle.std.specs.Prelude.{Some, None, Contains, IfOk, OnOk, OnErr, IfErr};
 ghost use Rattle.std.specs.Option.{option_copied, IsSome};
 ghost use Rattle.std.specs.Borrow.{sem, LendsSoOk};
@@ -7,11 +7,12 @@ ghost use Rattle.cell_store.specs.Table.{empty_table, most_lines, item_at, fille
 ghost use Rattle.cell_store.specs.Table.{HasPlace, HasItemsInside, with_item, without_item};
 ghost use Rattle.cell_store.specs.Moved.{GoesWithLines, IsRoomAfter, lines_on, size_after};
 ghost use Rattle.cell_store.specs.Places.{AreFilledPlaces};
+ghost use Rattle.grid_range.specs.Band.{end_line, first_line};
 ghost use Rattle.grid_range.specs.Change.{Fits, count_after};
 ghost use Rattle.grid_range.specs.declared.axis.Axis.TheVariants.{Rows, Columns};
 ghost use Rattle.shared_grid.specs.Cells.{across_in};
 ghost use Rattle.shared_grid.specs.Orders.{AreMoved, IsOrder, number_of, place_noted};
-ghost use Rattle.shared_grid.specs.Sheets.{AreCleared, AreOnAxis, AreOnRows, deleted};
+ghost use Rattle.shared_grid.specs.Sheets.{AreCleared, AreOnAxis, AreOnColumns, AreOnRows, deleted};
 ghost use Rattle.shared_grid.specs.contracts.grid.SharedGrid.{the_row};
 
 use crate::cells::{Cells, across};
@@ -20,7 +21,7 @@ use crate::held::Held;
 use crate::order::Order;
 use cell_store::{CellStore, held_by_rows, tables_by_items};
 use cell_value::{Duplicate, Items, NoMemory};
-use grid_range::{Area, Axis, Change, places_stay_below};
+use grid_range::{Area, Axis, Band, Change, places_stay_below};
 use std::alloc::Global;
 use std::marker::{Brand, Model};
 use std::sync::ledger::{Blank, Ledger};
@@ -231,6 +232,51 @@ impl<T: Duplicate + Drop> SharedGrid<T> {
         let keys = self.cells.on_row(number(&self.rows, row))?;
         put_places(row, self.columns.value(), keys.as_slice(), places)
     }
+
+    /// The filled places of the columns from `first` to `end - 1`.
+    fn places_on_columns(&self, first: u32, end: u32) -> Result<Vec<(u32, u32)>, NoMemory>
+        requires { (first ≤ end) × (end ≤ self.now.table.cols) }
+        ensures { IfOk result (λ places. AreOnColumns first end self.now.table places.items) }
+    {
+        let mut places = Vec::new(self.alloc);
+        for column in first..end {
+            self.put_column(column, &mut places)?;
+        }
+        Ok(places)
+    }
+
+    /// Puts the filled places of the column behind those of the columns before it.
+    fn put_column(&self, column: u32, places: &mut Vec<(u32, u32)>) -> Result<(), NoMemory>
+        requires { column < self.now.table.cols }
+        ensures { OnOk result ((first : ℕ) → AreOnColumns first column self.now.table places.old.items
+            → AreOnColumns first (column + 1) self.now.table places.new.items) }
+    {
+        tables_by_items::<T>();
+        let marks = self
+            .cells
+            .on_column(self.alloc, number(&self.columns, column))?;
+        put_column_places(column, self.rows.value(), marks.as_slice(), places)
+    }
+
+    /// The filled places of the area, by a walk of its rows.
+    fn places_by_rows(&self, area: &Area) -> Result<Items<(u32, u32)>, NoMemory>
+        ensures { IfOk result (AreFilledPlaces area.now self.now.table) }
+    {
+        tables_by_items::<T>();
+        let (first, end) = ends(area.rows, count(&self.rows));
+        let places = self.places_on_rows(first, end)?;
+        Ok(held_by_rows(places, area))
+    }
+
+    /// The filled places of the area, by a walk of its columns.
+    fn places_by_columns(&self, area: &Area) -> Result<Items<(u32, u32)>, NoMemory>
+        ensures { IfOk result (AreFilledPlaces area.now self.now.table) }
+    {
+        tables_by_items::<T>();
+        let (first, end) = ends(area.cols, count(&self.columns));
+        let places = self.places_on_columns(first, end)?;
+        Ok(held_by_rows(places, area))
+    }
 }
 
 impl<T: Duplicate + Drop> CellStore<T> for SharedGrid<T> {
@@ -307,19 +353,18 @@ impl<T: Duplicate + Drop> CellStore<T> for SharedGrid<T> {
         self.change_alone::<Brand>(axis, change, Blank::new(1))
     }
 
-    /// The filled places of the area, by rows. Only the rows of the area are visited, and its sheet isn't
-    /// looked at.
+    /// The filled places of the area, by rows. Only the rows of the area are visited, or only its columns,
+    /// whichever is estimated to take less time, and its sheet isn't looked at.
     ///
     /// # Errors
     ///
     /// [`NoMemory`] where memory runs out.
     fn places(&self, area: &Area) -> Result<Items<(u32, u32)>, NoMemory> {
-        tables_by_items::<T>();
-        let rows = count(&self.rows);
-        let end = area.rows.end_line(rows).min(rows);
-        let first = area.rows.first_line().min(end);
-        let places = self.places_on_rows(first, end)?;
-        Ok(held_by_rows(places, area))
+        if is_narrow(area, count(&self.rows), count(&self.columns)) {
+            self.places_by_columns(area)
+        } else {
+            self.places_by_rows(area)
+        }
     }
 
     fn filled(&self) -> u64 {
@@ -359,6 +404,26 @@ fn number(lines: &Held<Order>, line: u32) -> u32
     ensures { result ≡ number_of lines.now line }
 {
     lines.value().number(line)
+}
+
+/// The first of the band's lines among so many, and the one past the last.
+fn ends(band: Band, count: u32) -> (u32, u32)
+    ensures first { result.0 ≤ first_line band }
+    ensures end { result.1 ≡ min (end_line band count) count }
+    ensures order { result.0 ≤ result.1 }
+{
+    let end = band.end_line(count).min(count);
+    (band.first_line().min(end), end)
+}
+
+/// Whether a walk of the area's columns in a full sheet of that size takes less time than one of its
+/// rows: to look an item up takes that of sixteen that are listed.
+fn is_narrow(area: &Area, rows: u32, columns: u32) -> bool {
+    let (top, bottom) = ends(area.rows, rows);
+    let (left, right) = ends(area.cols, columns);
+    let by_rows = u64::from(bottom - top).saturating_mul(u64::from(columns) + 16);
+    let by_columns = u64::from(right - left).saturating_mul(u64::from(rows));
+    by_columns.saturating_mul(16) <= by_rows
 }
 
 /// The lines after the change, with a step for each line before and one for each line after.
@@ -434,6 +499,23 @@ fn put_places(
 {
     for key in keys {
         places.push((row, columns.place(across(*key))))?;
+    }
+    Ok(())
+}
+
+/// Puts the places of the marks, which are of items on that column, behind the others.
+fn put_column_places(
+    column: u32,
+    rows: &Order,
+    marks: &[u64],
+    places: &mut Vec<(u32, u32)>,
+) -> Result<(), NoMemory>
+    requires { (mark : ℕ) → Contains marks.now mark → across_in mark < length rows.now.places.items }
+    ensures { OnOk result (places.new.items
+        ≡ places.old.items ++ map (λ mark. (place_noted rows.now (across_in mark), column)) marks.now) }
+{
+    for mark in marks {
+        places.push((rows.place(across(*mark)), column))?;
     }
     Ok(())
 }

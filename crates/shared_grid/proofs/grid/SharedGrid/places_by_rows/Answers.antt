@@ -1,22 +1,22 @@
 use Rattle.std.proofs.Common.{ap, arith}
 use Rattle.shared_grid.proofs.Listed.{are_places}
 use Rattle.shared_grid.proofs.Views.{inside-view}
-use Rattle.shared_grid.proofs.grid.SharedGridCellStore.places.Goals as goal
+use Rattle.shared_grid.proofs.grid.SharedGrid.places_by_rows.Goals as goal
 
 pub places_on_rows-requires : goal.places_on_rows-requires
 places_on_rows-requires g c = (
-  omega (arith, c.min-first.ensures),
-  omega (arith, c.min-end.ensures, c.count-rows.ensures, ap (λ s. s.table.rows) c.self.view_is),
+  c.ends-first.ensures.order,
+  omega (arith, c.ends-first.ensures.end, c.count.ensures, ap (λ s. s.table.rows) c.self.view_is),
 )
 
 pub held_by_rows-requires : goal.held_by_rows-requires
 held_by_rows-requires g c = record { distinct = c.in_ok-places.ensures.distinct }
 
 pub returns : goal.returns
-returns g c = are_places c.args.area.now c.args.self.now.table c.count-rows.result c.min-first.result c.min-end.result
+returns g c = are_places c.args.area.now c.args.self.now.table c.count.result c.ends-first.result.0 c.ends-first.result.1
     c.in_ok-places.places.items c.held_by_rows.result
     (inside-view c.tables_by_items.ensures c.self.inside.rows c.self.inside.columns c.self.inside.cells c.self.invariant
     c.args.self.now c.self.view_is)
-    (omega (arith, c.count-rows.ensures, ap (λ s. s.table.rows) c.self.view_is))
-    (omega (arith, c.min-first.ensures, c.first_line.ensures)) (omega (arith, c.min-end.ensures, c.end_line.ensures))
+    (omega (arith, c.count.ensures, ap (λ s. s.table.rows) c.self.view_is))
+    c.ends-first.ensures.first (omega (arith, c.ends-first.ensures.end))
     c.in_ok-places.ensures c.held_by_rows.ensures.in_order c.held_by_rows.ensures.exactly
