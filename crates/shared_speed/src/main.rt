@@ -2,9 +2,11 @@
 //! on a tree grid.
 //!
 //! It writes the sums of the items before the write and after it. With the argument `time` it also writes
-//! how many nanoseconds the calls of both grids take, on the average, and their ratios: put, get, a copy
-//! and one write, and places, in sheets of 1,000, 100,000 and 1,000,000 items; and changes of rows in a
-//! sheet of 1,000 rows and 1,000 columns.
+//! how many nanoseconds the calls of both grids take, on the average, with what they found, and their
+//! ratios: put, get, a copy and one write, places, and changes of rows, in sheets of 1,000, 100,000 and
+//! 1,000,000 items; and the changes of rows beside those of a linked grid. With `rows` it makes a sheet of
+//! 1,000,000 rows without a cell, and with `cells` one of 1,000,000 items, so that the memory that the
+//! process takes can be read.
 #![tactic(auto)]
 
 mod cases;
@@ -13,7 +15,7 @@ mod times;
 
 use cases::{CALLS, CHANGES, Call, SIZES};
 use cell_store::CellStore;
-use sheets::{Sheet, shared, tree};
+use sheets::{Sheet, linked, shared, tree};
 use std::alloc::Global;
 use std::time::Clock;
 use std::{env, io};
@@ -22,20 +24,25 @@ use times::compare;
 fn main(rt: HostRuntime) -> anyhow::Result<()> {
     write(&rt, &mut tree(rt.alloc(), 100, 26))?;
     write(&rt, &mut shared(rt.alloc(), 100, 26)?)?;
-    if is_timed(&rt)? {
-        time(&rt, rt.alloc())
-    } else {
-        Ok(())
+    if is_told(&rt, "rows")? {
+        shared(rt.alloc(), 1_000_000, 26)?;
     }
+    if is_told(&rt, "cells")? {
+        shared(rt.alloc(), 1_000, 1_000)?.make(&Call::Fill)?;
+    }
+    if is_told(&rt, "time")? {
+        time(&rt, rt.alloc())?;
+    }
+    Ok(())
 }
 
-/// Whether the program was given the word `time`.
-fn is_timed(rt: &HostRuntime) -> io::Result<bool> {
-    let mut timed = false;
+/// Whether the program was given the word.
+fn is_told(rt: &HostRuntime, expected: &str) -> io::Result<bool> {
+    let mut told = false;
     for word in env::args(rt)?.skip(1) {
-        timed = timed || word.as_str() == "time";
+        told = told || word.as_str() == expected;
     }
-    Ok(timed)
+    Ok(told)
 }
 
 /// Fills the sheet, writes to it once, and prints the sum of its items and that of the older version's.
@@ -65,5 +72,8 @@ fn time_calls<R: Clock + Print>(
     let mut shared = shared(alloc, rows, columns)?;
     let mut tree = tree(alloc, rows, columns);
     compare(rt, &CALLS, &mut shared, &mut tree)?;
-    compare(rt, &CHANGES, &mut shared, &mut tree)
+    compare(rt, &CHANGES, &mut shared, &mut tree)?;
+    let mut linked = linked(alloc, rows, columns)?;
+    linked.make(&Call::Fill)?;
+    compare(rt, &CHANGES, &mut shared, &mut linked)
 }

@@ -2,6 +2,7 @@ use crate::cases::Call;
 use cell_store::{CellStore, MOST_FILLED, MOST_LINES, TreeGrid};
 use cell_value::NoMemory;
 use grid_range::{Area, Axis, Band, Change};
+use link_store::LinkGrid;
 use shared_grid::SharedGrid;
 use std::alloc::Global;
 
@@ -15,9 +16,9 @@ pub struct Sheet<G> {
 }
 
 /// The most rows and columns of a sheet.
-const MOST: u32 = 100_000;
+const MOST: u32 = 1_000_000;
 
-/// An empty sheet of so many rows and columns, at most 100,000 of each, on a tree grid.
+/// An empty sheet of so many rows and columns, at most 1,000,000 of each, on a tree grid.
 pub fn tree(alloc: Global, rows: u32, columns: u32) -> Sheet<TreeGrid<u64>> {
     Sheet {
         name: "tree grid",
@@ -37,18 +38,26 @@ pub fn shared(alloc: Global, rows: u32, columns: u32) -> Result<Sheet<SharedGrid
     })
 }
 
+/// The same on a linked one.
+pub fn linked(alloc: Global, rows: u32, columns: u32) -> Result<Sheet<LinkGrid<u64>>, NoMemory> {
+    Ok(Sheet {
+        name: "linked grid",
+        grid: LinkGrid::new(alloc, rows.min(MOST), columns.min(MOST))?,
+        older: None,
+        writes: 0,
+    })
+}
+
 impl<G: CellStore<u64> + Drop> Sheet<G> {
-    /// Makes the call.
-    pub fn make(&mut self, call: &Call) -> Result<(), NoMemory> {
+    /// Makes the call, and gives what it found: the sum of the items that were looked up, or how many
+    /// places were listed; 0 for a write.
+    pub fn make(&mut self, call: &Call) -> Result<u64, NoMemory> {
         match *call {
-            Call::Fill => self.fill(),
-            Call::Read => {
-                self.sum();
-                Ok(())
-            }
-            Call::Write => self.write(),
+            Call::Fill => self.fill().map(|_| 0),
+            Call::Read => Ok(self.sum()),
+            Call::Write => self.write().map(|_| 0),
             Call::Places(rows, columns) => self.list(rows, columns),
-            Call::Change(change) => self.change_rows(&change),
+            Call::Change(change) => self.change_rows(&change).map(|_| 0),
         }
     }
 
@@ -105,14 +114,14 @@ impl<G: CellStore<u64>> Sheet<G> {
         sum(&self.grid)
     }
 
-    fn list(&self, rows: Band, columns: Band) -> Result<(), NoMemory> {
+    fn list(&self, rows: Band, columns: Band) -> Result<u64, NoMemory> {
         let area = Area {
             sheet: 0,
             rows,
             cols: columns,
         };
-        self.grid.places(&area)?;
-        Ok(())
+        let places = self.grid.places(&area)?;
+        Ok(places.as_slice().len() as u64)
     }
 
     /// Makes the change of the rows, where it fits and leaves no more lines than a sheet can have.
