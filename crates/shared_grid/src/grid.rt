@@ -107,7 +107,8 @@ impl<T: Duplicate + Drop> SharedGrid<T> {
     ///
     /// # Errors
     ///
-    /// [`NoMemory`] where memory runs out; the sheet is as it was.
+    /// [`NoMemory`] where memory runs out; the sheet is as it was, and of the steps
+    /// nothing is promised.
     pub fn change_counted<L: Ledger>(
         &mut self,
         axis: Axis,
