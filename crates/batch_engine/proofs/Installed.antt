@@ -1,6 +1,6 @@
 -- A call on a spreadsheet that is there, from its answer and from what takes its place.
 use Rattle.std.proofs.Common.{◌≡◌, ℕ, refl, sym, subst, ◌∙◌, List}
-use Rattle.std.specs.Prelude.{Option, Some, None, IsSomeAnd, IfOk, Result, Ok, Err}
+use Rattle.std.specs.Prelude.{Bool, Option, Some, None, IsSomeAnd, IfOk, Result, Ok, Err}
 use Rattle.std.specs.Option.{IsSome}
 use Rattle.world_model.specs.Book.{PlaceBook}
 use Rattle.dimension_ops.specs.ByName.{ReplacesByName}
@@ -23,7 +23,8 @@ use Rattle.batch_engine.specs.Effects.{Effect, Becomes, Change, IsNext}
 use Rattle.batch_engine.specs.Effects.Effect.{Nothing, Changes}
 use Rattle.sheets_json.specs.declared.place.Place.TheVariants as place
 use Rattle.batch_engine.specs.Calls.{OnBook, IsAlone, IsAnswered, IsApplied, IsChange, IsInstalled, Refusal, alone, as_told, told_as}
-use Rattle.batch_engine.specs.Calls.{IsClearOf, IsReadOf, IsReadManyOf, IsWriteOf}
+use Rattle.batch_engine.specs.Looks.{looked}
+use Rattle.batch_engine.specs.Calls.{IsLookOf, IsClearOf, IsReadOf, IsReadManyOf, IsWriteOf}
 use Rattle.batch_engine.specs.declared.calls.Outcome.{Outcome}
 use Rattle.batch_engine.proofs.Becoming.{found_has_id, becomes_changed}
 use Rattle.batch_engine.proofs.Judged.{judged_so}
@@ -189,6 +190,14 @@ module _ (books : List PlaceBook) (book : PlaceBook) (called : Call) (outcome : 
       (λ answered effect on. subst (λ one. IsAnswered one books answered effect) (sym called_is) on) book found (alone told)
       outcome next (record { judged = told; answered = holds; told_is = refl }) is none
 
+  pub look_applied : (id : List ℕ) (grids : Option Bool) → called ≡ call.Get id grids
+      → book_with id books ≡ Some book → (told : Result Answer Refusal) → told ≡ looked grids book
+      → outcome ≡ told_as told → IsApplied called books outcome next
+  look_applied id grids called_is found told holds is =
+      applied_read called id books (IsLookOf grids)
+      (λ answered effect on. subst (λ one. IsAnswered one books answered effect) (sym called_is) on) book found told outcome
+      next (holds, refl) is none
+
   pub read_many_applied : (id : List ℕ) (ranges : List (List ℕ)) (dimension : Option Axis) (render : Option Render)
       → called ≡ call.ReadMany id ranges dimension render → book_with id books ≡ Some book
       → (told : Result Answer Refusal) → IsReadManyOf ranges dimension render book told Nothing → outcome ≡ told_as told
@@ -202,6 +211,7 @@ module _ (books : List PlaceBook) (book : PlaceBook) (called : Call) (outcome : 
 -- ---- a call that isn't done yet
 
 pub other_answered : (called : Call) (books : List PlaceBook)
+    → ((id : Text) (grids : Option Bool) → called ≡ call.Get id grids → ⊥)
     → ((id range : Text) (dimension : Option Axis) (render : Option Render) → called ≡ call.Read id range dimension render → ⊥)
     → ((id range : Text) (mode : Mode) (values : Reading ValueRange) → called ≡ call.Write id range mode values → ⊥)
     → ((id range : Text) → called ≡ call.Clear id range → ⊥)
@@ -210,18 +220,19 @@ pub other_answered : (called : Call) (books : List PlaceBook)
     → ((id : Text) (mode : Mode) (blocks : List (Reading RangeBlock)) → called ≡ call.WriteMany id mode blocks → ⊥)
     → ((id : Text) (ranges : List (Reading Text)) → called ≡ call.ClearMany id ranges → ⊥)
     → IsAnswered called books (Err (place.Alone, rule.Unsupported)) Nothing
-other_answered (call.Read id range dimension render) books no_read no_write no_clear no_list no_writes no_clears =
+other_answered (call.Read id range dimension render) books no_look no_read no_write no_clear no_list no_writes no_clears =
     absurd (no_read id range dimension render refl)
-other_answered (call.Write id range mode values) books no_read no_write no_clear no_list no_writes no_clears =
+other_answered (call.Write id range mode values) books no_look no_read no_write no_clear no_list no_writes no_clears =
     absurd (no_write id range mode values refl)
-other_answered (call.Clear id range) books no_read no_write no_clear no_list no_writes no_clears = absurd (no_clear id range refl)
-other_answered (call.Create spreadsheet) books no_read no_write no_clear no_list no_writes no_clears = (refl, refl)
-other_answered (call.Get id include) books no_read no_write no_clear no_list no_writes no_clears = (refl, refl)
-other_answered (call.Batch id requests) books no_read no_write no_clear no_list no_writes no_clears = (refl, refl)
-other_answered (call.Append id range mode insert values) books no_read no_write no_clear no_list no_writes no_clears = (refl, refl)
-other_answered (call.ReadMany id ranges dimension render) books no_read no_write no_clear no_list no_writes no_clears =
+other_answered (call.Clear id range) books no_look no_read no_write no_clear no_list no_writes no_clears = absurd (no_clear id range refl)
+other_answered (call.Create spreadsheet) books no_look no_read no_write no_clear no_list no_writes no_clears = (refl, refl)
+other_answered (call.Get id grids) books no_look no_read no_write no_clear no_list no_writes no_clears =
+    absurd (no_look id grids refl)
+other_answered (call.Batch id requests) books no_look no_read no_write no_clear no_list no_writes no_clears = (refl, refl)
+other_answered (call.Append id range mode insert values) books no_look no_read no_write no_clear no_list no_writes no_clears = (refl, refl)
+other_answered (call.ReadMany id ranges dimension render) books no_look no_read no_write no_clear no_list no_writes no_clears =
     absurd (no_list id ranges dimension render refl)
-other_answered (call.WriteMany id mode blocks) books no_read no_write no_clear no_list no_writes no_clears =
+other_answered (call.WriteMany id mode blocks) books no_look no_read no_write no_clear no_list no_writes no_clears =
     absurd (no_writes id mode blocks refl)
-other_answered (call.ClearMany id ranges) books no_read no_write no_clear no_list no_writes no_clears =
+other_answered (call.ClearMany id ranges) books no_look no_read no_write no_clear no_list no_writes no_clears =
     absurd (no_clears id ranges refl)

@@ -6,3 +6,4 @@ pub mod Once
 pub mod Judging
 pub mod InTurns
 pub mod Counting
+pub mod Looking

@@ -32,7 +32,8 @@ use Rattle.batch_engine.specs.Effects.Effect.{Nothing}
 use Rattle.batch_engine.specs.Ranges.{IsTarget, agreed}
 use Rattle.batch_engine.specs.Values.{OnRange, done, refused, IsRead, IsClear, IsUpdate, IsShown, IsCleared, IsWritten}
 use Rattle.batch_engine.specs.Values.{IsUpdated, Wrote, update_of}
-use Rattle.batch_engine.specs.Calls.{AreMade, IsAlone, IsAnswered, IsClearManyOf, IsClearOf, IsMade, IsReadManyOf}
+use Rattle.batch_engine.specs.Looks.{looked}
+use Rattle.batch_engine.specs.Calls.{AreMade, IsLookOf, IsAlone, IsAnswered, IsClearManyOf, IsClearOf, IsMade, IsReadManyOf}
 use Rattle.batch_engine.specs.Calls.{IsReadOf, IsSeen, IsWriteManyOf, IsWriteOf, OnBook, Refusal, alone, answered_at}
 use Rattle.batch_engine.specs.Calls.{answered_by, effect_of, effect_on, told_of, written_answer}
 use Rattle.batch_engine.specs.Members.{InOrder, Then, Told, with_first}
@@ -276,6 +277,7 @@ module _ (one_reading : HasOneReading) (writes : WritesOnce) (updates : UpdatesO
         (λ book sound. are_made_once IsCleared (λ book sound. cleared_once book) ranges place.Ranges
         (λ texts. answer.ClearMany texts book.id) book sound)
     answered_once (call.Create spreadsheet) = said_once (Err (place.Alone, rule.Unsupported)) Nothing
-    answered_once (call.Get id grids) = said_once (Err (place.Alone, rule.Unsupported)) Nothing
+    answered_once (call.Get id grids) =
+        on_book_once id (IsLookOf grids) (λ book sound. said_once (looked grids book) Nothing)
     answered_once (call.Batch id requests) = said_once (Err (place.Alone, rule.Unsupported)) Nothing
     answered_once (call.Append id range mode insert values) = said_once (Err (place.Alone, rule.Unsupported)) Nothing

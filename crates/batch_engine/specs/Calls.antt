@@ -1,5 +1,5 @@
 -- What a call is answered, and what it makes of the spreadsheets (Google Sheets API v4 reference,
--- spreadsheets.values.get, batchGet, update, batchUpdate, clear and batchClear).
+-- spreadsheets.get, spreadsheets.values.get, batchGet, update, batchUpdate, clear and batchClear).
 use Rattle.std.specs.Prelude.{◌≡◌, ℕ, Bool, ◌==◌, ◌&&◌, List, [], ◌∷◌, map, flat_map, Option, None, Some, Result, Ok, Err}
 use Rattle.std.specs.Prelude.{IsSomeAnd, ⊤}
 use Rattle.std.specs.List.{sum_by}
@@ -28,6 +28,7 @@ use Rattle.sheets_json.specs.declared.place.Place.TheVariants as place
 use Rattle.sheets_json.specs.Reading.{Reading}
 use Rattle.batch_engine.specs.Effects.{AreChanged, Change, Effect, IsNext}
 use Rattle.batch_engine.specs.Effects.Effect.{Nothing, Changes}
+use Rattle.batch_engine.specs.Looks.{looked}
 use Rattle.batch_engine.specs.Members.{InOrder, InTurn, Told}
 use Rattle.batch_engine.specs.Values.{IsCleared, IsShown, IsUpdated, IsWritten, Wrote}
 use Rattle.batch_engine.specs.declared.calls.Outcome.{Outcome}
@@ -151,8 +152,13 @@ IsWriteManyOf blocks book = AreMade IsUpdated blocks place.Data (written_answer 
 abbrev pub OnBook : List ℕ → List PlaceBook → (PlaceBook → Type 0) → Type 0
 OnBook id books Holds = IsSomeAnd (book_with id books) Holds
 
+-- a look at the spreadsheet changes nothing
+abbrev pub IsLookOf : Option Bool → PlaceBook → Result Answer Refusal → Effect → Type 0
+IsLookOf grids book told effect = (told ≡ looked grids book) × (effect ≡ Nothing)
+
 -- a call is answered so, or breaks that rule there, and makes that of the spreadsheets; no other call is done yet
 abbrev pub IsAnswered : Call → List PlaceBook → Result Answer Refusal → Effect → Type 0
+IsAnswered (call.Get id grids) books told effect = OnBook id books (λ book. IsLookOf grids book told effect)
 IsAnswered (call.Read id range dimension render) books told effect =
     OnBook id books (λ book. IsAlone (IsReadOf range dimension render book) told effect)
 IsAnswered (call.Write id range mode values) books told effect =
@@ -169,6 +175,7 @@ IsAnswered _ books told effect = (told ≡ Err (place.Alone, rule.Unsupported)) 
 
 -- the spreadsheet that a call is on is there
 abbrev pub HasItsBook : Call → List PlaceBook → Type 0
+HasItsBook (call.Get id grids) books = IsSome (book_with id books)
 HasItsBook (call.Read id range dimension render) books = IsSome (book_with id books)
 HasItsBook (call.Write id range mode values) books = IsSome (book_with id books)
 HasItsBook (call.Clear id range) books = IsSome (book_with id books)

@@ -18,10 +18,6 @@ pub data Effect : Type 0 where
   Nothing : Effect
   Changes : (book : List ℕ) (changes : List Change) → Effect
 
--- one change alone
-abbrev pub Update : List ℕ → ℕ → Updates → Effect
-Update id sheet updates = Changes id (record { sheet = sheet; updates = updates } ∷ [])
-
 abbrev pub book_after : NameBook → Change → NameBook
 book_after book change = book_updated change.sheet change.updates book
 

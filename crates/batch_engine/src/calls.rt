@@ -6,6 +6,7 @@ ghost use Rattle.batch_engine.specs.Calls.{HasItsBook, IsApplied, IsInstalled, a
 
 use crate::answers::{clear, read, write};
 use crate::lists::{Refusal, clear_many, read_many, write_many};
+use crate::looks::look;
 use cell_value::{Duplicate, NoMemory, Text};
 use dimension_ops::{Book, Rule, RuleOr, World};
 use sheets_json::{Answer, Call, Place};
@@ -44,9 +45,9 @@ pub struct Applied {
     pub outcome: Outcome,
 }
 
-/// Makes a call on the spreadsheets, which stay as they are: what they are after it is told. Reads,
-/// writes and clears of one range and of a list of them are done (Sheets API v4 reference,
-/// spreadsheets.values); any other call is refused as [`Rule::Unsupported`]. A list is done in its order,
+/// Makes a call on the spreadsheets, which stay as they are: what they are after it is told. Looks at
+/// a spreadsheet, and reads, writes and clears of one range and of a list of them are done (Sheets API v4
+/// reference, spreadsheets.get and spreadsheets.values); any other call is refused as [`Rule::Unsupported`]. A list is done in its order,
 /// and its first member that breaks a rule refuses the call.
 ///
 /// # Errors
@@ -110,6 +111,13 @@ pub fn apply(
             let book = book_of(world, id.as_str());
             let user = caller.user.as_str();
             changed(world, clear_many(alloc, book, user, ranges.as_slice())?)
+        }
+        Call::Get {
+            id,
+            include_grid_data,
+        } => {
+            let book = book_of(world, id.as_str());
+            Ok(unchanged(look(alloc, book, *include_grid_data)?))
         }
         _ => Ok(unchanged(Err((Place::Alone, Rule::Unsupported)))),
     }

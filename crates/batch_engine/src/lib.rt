@@ -6,6 +6,7 @@ mod answers;
 mod calls;
 mod laws;
 mod lists;
+mod looks;
 mod targets;
 mod totals;
 

@@ -1,7 +1,7 @@
 use crate::common::check;
 use crate::rows::{
-    CHANGES, CONVERSATIONS, Conversation, Exchange, FORMULAS, LIMITS, LISTS, NO_CALLS, RANGES,
-    TYPED, WRITES, WRITES_TO_LISTS,
+    CHANGES, CONVERSATIONS, Conversation, Exchange, FORMULAS, LIMITS, LISTS, LOOKS, NO_CALLS,
+    RANGES, TYPED, WRITES, WRITES_TO_LISTS,
 };
 use cell_value::{Bytes, Items};
 use sheets_cli::{cut_off_laws, reply_laws, sheets_main};
@@ -127,6 +127,13 @@ fn reads_what_is_typed(rt: HostRuntime) {
 #[test]
 fn reads_and_clears_several_ranges(rt: HostRuntime) {
     for row in &LISTS {
+        check(&rt, &row.3, is_answered(&rt, row));
+    }
+}
+
+#[test]
+fn shows_spreadsheets(rt: HostRuntime) {
+    for row in &LOOKS {
         check(&rt, &row.3, is_answered(&rt, row));
     }
 }

@@ -88,7 +88,11 @@ const CLOSE: &str = "Connection: close\r\n";
 /// Requests that are no call, and ranges, and their answers, known from outside.
 pub(crate) static NO_CALLS: [Exchange; 18] = [
     (
-        &[("GET /v4/spreadsheets/book1", "Host: localhost\r\n", "")],
+        &[(
+            "GET /v4/spreadsheets/book1/developerMetadata/1",
+            "Host: localhost\r\n",
+            "",
+        )],
         NOT_FOUND,
         "",
         "{\"error\":{\"code\":404,\"message\":\"NoRoute\",\"status\":\"NOT_FOUND\"}}",
@@ -2221,7 +2225,7 @@ pub(crate) static LISTS: [Exchange; 19] = [
 ];
 
 /// Writes to several ranges, and their answers, known from outside.
-pub(crate) static WRITES_TO_LISTS: [Exchange; 16] = [
+pub(crate) static WRITES_TO_LISTS: [Exchange; 24] = [
     (
         &[(
             "POST /v4/spreadsheets/book1/values:batchUpdate",
@@ -2397,5 +2401,129 @@ pub(crate) static WRITES_TO_LISTS: [Exchange; 16] = [
         OK,
         "",
         "{\"majorDimension\":\"ROWS\",\"range\":\"Sheet1!A1:B1\",\"values\":[[\"=B1+1\",2]]}",
+    ),
+    (
+        &[(
+            "POST /v4/spreadsheets/book1/values:batchUpdate",
+            "Content-Length: 89\r\n",
+            "{\"valueInputOption\":\"RAW\",\"data\":[{\"range\":\"A1:B1\",\"values\":[[1,2,3]]},{\"values\":[[1]]}]}",
+        )],
+        BAD_REQUEST,
+        "",
+        "{\"error\":{\"code\":400,\"message\":\"data[0]: ValuesPastRange\",\"status\":\"INVALID_ARGUMENT\"}}",
+    ),
+    (
+        &[(
+            "POST /v4/spreadsheets/book1/values:batchUpdate",
+            "Content-Length: 125\r\n",
+            "{\"valueInputOption\":\"RAW\",\"data\":[{\"range\":\"B2\",\"values\":[[1]]},{\"range\":\"A1\",\"values\":[[2]]},{\"range\":\"B2\",\"values\":[[3]]}]}",
+        )],
+        OK,
+        "",
+        "{\"responses\":[{\"spreadsheetId\":\"book1\",\"updatedCells\":1,\"updatedColumns\":1,\"updatedRange\":\"Sheet1!B2\",\"updatedRows\":1},{\"spreadsheetId\":\"book1\",\"updatedCells\":1,\"updatedColumns\":1,\"updatedRange\":\"Sheet1!A1\",\"updatedRows\":1},{\"spreadsheetId\":\"book1\",\"updatedCells\":1,\"updatedColumns\":1,\"updatedRange\":\"Sheet1!B2\",\"updatedRows\":1}],\"spreadsheetId\":\"book1\",\"totalUpdatedCells\":3,\"totalUpdatedColumns\":2,\"totalUpdatedRows\":2,\"totalUpdatedSheets\":1}",
+    ),
+    (
+        &[(
+            "POST /v4/spreadsheets/book1/values:batchUpdate",
+            "Content-Length: 93\r\n",
+            "{\"valueInputOption\":\"RAW\",\"data\":[{\"range\":\"A1\",\"majorDimension\":\"DIAGONAL\",\"values\":[[1]]}]}",
+        )],
+        BAD_REQUEST,
+        "",
+        "{\"error\":{\"code\":400,\"message\":\"data[0]: BadShape\",\"status\":\"INVALID_ARGUMENT\"}}",
+    ),
+    (
+        &[(
+            "POST /v4/spreadsheets/book1/values:batchUpdate",
+            "Content-Length: 97\r\n",
+            "{\"valueInputOption\":\"RAW\",\"data\":[{\"range\":\"A1\",\"values\":[[1]]},{\"range\":\"A2\",\"values\":[[1.5]]}]}",
+        )],
+        BAD_REQUEST,
+        "",
+        "{\"error\":{\"code\":400,\"message\":\"data[1]: BadNumber\",\"status\":\"INVALID_ARGUMENT\"}}",
+    ),
+    (
+        &[(
+            "POST /v4/spreadsheets/book1/values:batchUpdate",
+            "Content-Length: 71\r\n",
+            "{\"valueInputOption\":\"RAW\",\"data\":[{\"range\":\"A1\",\"x\":1,\"values\":[[1]]}]}",
+        )],
+        BAD_REQUEST,
+        "",
+        "{\"error\":{\"code\":400,\"message\":\"data[0]: Unsupported\",\"status\":\"INVALID_ARGUMENT\"}}",
+    ),
+    (
+        &[(
+            "POST /v4/spreadsheets/book1/values:batchUpdate",
+            "Content-Length: 50\r\n",
+            "{\"valueInputOption\":\"RAW\",\"data\":[{\"range\":\"A1\"}]}",
+        )],
+        OK,
+        "",
+        "{\"responses\":[{\"spreadsheetId\":\"book1\",\"updatedCells\":0,\"updatedColumns\":0,\"updatedRange\":\"Sheet1!A1\",\"updatedRows\":0}],\"spreadsheetId\":\"book1\",\"totalUpdatedCells\":0,\"totalUpdatedColumns\":0,\"totalUpdatedRows\":0,\"totalUpdatedSheets\":0}",
+    ),
+    (
+        &[(
+            "POST /v4/spreadsheets/book1/values:batchUpdate?valueInputOption=RAW",
+            "Content-Length: 65\r\n",
+            "{\"valueInputOption\":\"RAW\",\"data\":[{\"range\":\"A1\",\"values\":[[1]]}]}",
+        )],
+        BAD_REQUEST,
+        "",
+        "{\"error\":{\"code\":400,\"message\":\"BadQuery\",\"status\":\"INVALID_ARGUMENT\"}}",
+    ),
+    (
+        &[(
+            "POST /v4/spreadsheets/book9/values:batchUpdate",
+            "Content-Length: 1\r\n",
+            "{",
+        )],
+        NOT_FOUND,
+        "",
+        "{\"error\":{\"code\":404,\"message\":\"NoBook\",\"status\":\"NOT_FOUND\"}}",
+    ),
+];
+
+/// Looks at spreadsheets, and their answers, known from outside.
+pub(crate) static LOOKS: [Exchange; 6] = [
+    (
+        &[("GET /v4/spreadsheets/book1", "Host: localhost\r\n", "")],
+        OK,
+        "",
+        "{\"properties\":{\"title\":\"book1\"},\"sheets\":[{\"properties\":{\"gridProperties\":{\"columnCount\":26,\"rowCount\":1000},\"index\":0,\"sheetId\":0,\"sheetType\":\"GRID\",\"title\":\"Sheet1\"}}],\"spreadsheetId\":\"book1\"}",
+    ),
+    (
+        &[(
+            "GET /v4/spreadsheets/book1?includeGridData=false&alt=json",
+            "",
+            "",
+        )],
+        OK,
+        "",
+        "{\"properties\":{\"title\":\"book1\"},\"sheets\":[{\"properties\":{\"gridProperties\":{\"columnCount\":26,\"rowCount\":1000},\"index\":0,\"sheetId\":0,\"sheetType\":\"GRID\",\"title\":\"Sheet1\"}}],\"spreadsheetId\":\"book1\"}",
+    ),
+    (
+        &[("GET /v4/spreadsheets/book1?includeGridData=true", "", "")],
+        BAD_REQUEST,
+        "",
+        "{\"error\":{\"code\":400,\"message\":\"Unsupported\",\"status\":\"INVALID_ARGUMENT\"}}",
+    ),
+    (
+        &[("GET /v4/spreadsheets/book1?includeGridData=1", "", "")],
+        BAD_REQUEST,
+        "",
+        "{\"error\":{\"code\":400,\"message\":\"BadQuery\",\"status\":\"INVALID_ARGUMENT\"}}",
+    ),
+    (
+        &[("GET /v4/spreadsheets/book1", "Content-Length: 2\r\n", "{}")],
+        BAD_REQUEST,
+        "",
+        "{\"error\":{\"code\":400,\"message\":\"BadBody\",\"status\":\"INVALID_ARGUMENT\"}}",
+    ),
+    (
+        &[("GET /v4/spreadsheets/book9", "", "")],
+        NOT_FOUND,
+        "",
+        "{\"error\":{\"code\":404,\"message\":\"NoBook\",\"status\":\"NOT_FOUND\"}}",
     ),
 ];

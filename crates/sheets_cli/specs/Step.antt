@@ -34,8 +34,9 @@ use Rattle.sheets_cli.specs.declared.fault.Fault.TheVariants as fault
 
 -- ---- what is served
 
--- reads, writes and clears of one range and of a list of them are served
+-- looks at a spreadsheet, and reads, writes and clears of one range and of a list of them are served
 abbrev pub is_served : Verb → Bool
+is_served verb.Get = true
 is_served verb.Read = true
 is_served verb.ReadMany = true
 is_served verb.Write = true

@@ -81,7 +81,13 @@ fn is_served(verb: Verb) -> bool
 {
     matches!(
         verb,
-        Verb::Read | Verb::ReadMany | Verb::Write | Verb::WriteMany | Verb::Clear | Verb::ClearMany
+        Verb::Get
+            | Verb::Read
+            | Verb::ReadMany
+            | Verb::Write
+            | Verb::WriteMany
+            | Verb::Clear
+            | Verb::ClearMany
     )
 }
 

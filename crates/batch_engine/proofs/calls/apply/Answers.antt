@@ -6,7 +6,7 @@ use Rattle.dimension_ops.specs.declared.rule.Rule.TheVariants as rule
 use Rattle.sheets_json.specs.declared.place.Place.TheVariants as place
 use Rattle.batch_engine.specs.Calls.{IsAnswered, IsApplied, IsClearManyOf, IsInstalled, IsWriteManyOf, told_as}
 use Rattle.batch_engine.proofs.Installed.{applied_unchanged, if_ok, other_answered, read_applied, read_judged}
-use Rattle.batch_engine.proofs.Installed.{applied_change, change_there, write_there, write_applied, clear_there, clear_applied}
+use Rattle.batch_engine.proofs.Installed.{applied_change, change_there, look_applied, write_there, write_applied, clear_there, clear_applied}
 use Rattle.batch_engine.proofs.calls.apply.Goals as goal
 
 pub changed-requires : goal.changed-requires
@@ -86,10 +86,17 @@ returns-in_ok-write_many-in-WriteMany c =
     c.in_ok-write_many-in-WriteMany.field-0 applied.outcome applied.next
     (rw c.as_slice-in-WriteMany.ensures at c.in_ok-write_many-in-WriteMany.ensures) installed) c.changed-in-WriteMany.ensures
 
+pub returns-in_ok-look-in-Get : goal.returns-in_ok-look-in-Get
+returns-in_ok-look-in-Get c =
+    look_applied c.args.world.now c.book_of-book-in-Get.result.now c.args.call.now c.unchanged-in-Get.result.outcome
+    c.unchanged-in-Get.result.next c.unchanged-in-Get.ensures.next _ _ c.in-Get.is
+    (rw c.as_str-in-Get.ensures at c.book_of-book-in-Get.ensures)
+    c.in_ok-look-in-Get.field-0 c.in_ok-look-in-Get.ensures c.unchanged-in-Get.ensures.outcome
+
 pub returns-in_default : goal.returns-in_default
 returns-in_default c =
     applied_unchanged c.args.call.now c.args.world.now (Err (place.Alone, rule.Unsupported))
     c.unchanged-in_default.result.outcome c.unchanged-in_default.result.next
-    (other_answered c.args.call.now c.args.world.now c.in_default.not-Read c.in_default.not-Write c.in_default.not-Clear
+    (other_answered c.args.call.now c.args.world.now c.in_default.not-Get c.in_default.not-Read c.in_default.not-Write c.in_default.not-Clear
     c.in_default.not-ReadMany c.in_default.not-WriteMany c.in_default.not-ClearMany)
     c.unchanged-in_default.ensures.outcome c.unchanged-in_default.ensures.next
