@@ -40,7 +40,14 @@ IsPieceWithin contents (piece.Text text) = ⊤
 IsPieceWithin contents (piece.Word word) = ⊤
 IsPieceWithin contents piece.Lost = ⊤
 
--- a formula's symbols pass no limit, and the cells of its references are there
+-- a formula's symbols pass no limit
+abbrev pub KeepsItsLimits : Content → Type 0
+KeepsItsLimits (Formula text) = KeepsLimits text
+KeepsItsLimits (Number number) = ⊤
+KeepsItsLimits (Text text) = ⊤
+KeepsItsLimits (Truth truth) = ⊤
+
+-- and the cells of its references are there
 abbrev pub IsContentSound : Contents → Content → Type 0
 IsContentSound contents (Formula text) = KeepsLimits text × All (IsPieceWithin contents) text.pieces
 IsContentSound contents (Number number) = ⊤
