@@ -4,3 +4,4 @@ pub mod Titles
 pub mod ByName
 pub mod World
 pub mod Rules
+pub mod Broken

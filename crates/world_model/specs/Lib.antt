@@ -10,4 +10,5 @@ pub mod Writing
 pub mod Updating
 pub mod LineChange
 pub mod PlaceChange
+pub mod BookChange
 pub mod Laws

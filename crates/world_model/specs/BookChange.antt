@@ -1,0 +1,126 @@
+-- What requests make of a spreadsheet, by the names of its lines (Google Sheets API v4 reference, Request): cells are
+-- updated, lines of a sheet are inserted, deleted or moved, a sheet is added, deleted, or gets another title or mark.
+-- A line that is inserted, or that a new sheet has, gets the next name, which no line ever had.
+use Rattle.std.specs.Prelude.{◌≡◌, ℕ, Bool, false, ◌+◌, ◌++◌, ◌==◌, List, ◌∷◌, map, filter, take, drop, not, Option, None, if◌then◌else◌}
+use Rattle.std.specs.List.{fold, range_with_len}
+use Rattle.std.specs.Option.{option_map}
+use Rattle.grid_range.specs.Change.{inserted_lines, order_change}
+use Rattle.grid_range.specs.declared.axis.Axis.{Axis}
+use Rattle.grid_range.specs.declared.change.Change.{Change}
+use Rattle.world_model.specs.Book.{NameBook, PlaceBook}
+use Rattle.world_model.specs.Content.{NameContent, NamePiece, NameRef}
+use Rattle.world_model.specs.LineChange.{book_changed}
+use Rattle.world_model.specs.Sheet.{NameSheet}
+use Rattle.world_model.specs.StandsFor.{BookStandsFor}
+use Rattle.world_model.specs.Updating.{Updates, book_updated}
+use Rattle.world_model.specs.World.{HasNamesBelow}
+
+-- a sheet that is added: an empty one of that size
+pub record NewSheet : Type 0 where
+  pub id : ℕ
+  pub title : List ℕ
+  pub hidden : Bool
+  pub rows : ℕ
+  pub cols : ℕ
+
+-- one change of a spreadsheet; sheets are known by their ids, and a sheet is added before the one at a place, or last
+pub data BookChange : Type 0 where
+  CellsUpdated : (sheet : ℕ) (updates : Updates) → BookChange
+  LinesChanged : (sheet : ℕ) (axis : Axis) (change : Change) → BookChange
+  SheetAdded : (at : ℕ) (sheet : NewSheet) → BookChange
+  SheetDeleted : (sheet : ℕ) → BookChange
+  SheetTitled : (sheet : ℕ) (title : List ℕ) → BookChange
+  SheetHidden : (sheet : ℕ) (hidden : Bool) → BookChange
+
+-- a spreadsheet by the names of its lines, and the name that the next new line gets
+pub record Named : Type 0 where
+  pub book : NameBook
+  pub next : ℕ
+
+abbrev pub with_sheets : List NameSheet → NameBook → NameBook
+with_sheets sheets book = record book { sheets = sheets }
+
+-- ---- a sheet is added
+
+-- its rows get the next names, and its columns those behind them
+abbrev pub new_sheet : ℕ → NewSheet → NameSheet
+new_sheet next sheet = record {
+  id = sheet.id;
+  title = sheet.title;
+  hidden = sheet.hidden;
+  rows = range_with_len next sheet.rows;
+  cols = range_with_len (next + sheet.rows) sheet.cols;
+  cells = λ row col. None;
+}
+
+abbrev pub sheet_added : ℕ → NameSheet → NameBook → NameBook
+sheet_added at sheet book = with_sheets (take at book.sheets ++ sheet ∷ drop at book.sheets) book
+
+-- ---- a sheet is deleted
+
+-- a reference to the deleted sheet is lost for good
+abbrev pub name_piece_without : ℕ → NamePiece → NamePiece
+name_piece_without sheet (NamePiece.Text text) = NamePiece.Text text
+name_piece_without sheet (NamePiece.Word word) = NamePiece.Word word
+name_piece_without sheet (NamePiece.Ref reference) =
+    if reference.area.sheet == sheet then NamePiece.Lost else NamePiece.Ref reference
+name_piece_without sheet NamePiece.Lost = NamePiece.Lost
+
+abbrev pub name_content_without : ℕ → NameContent → NameContent
+name_content_without sheet (NameContent.Number number) = NameContent.Number number
+name_content_without sheet (NameContent.Text text) = NameContent.Text text
+name_content_without sheet (NameContent.Truth truth) = NameContent.Truth truth
+name_content_without sheet (NameContent.Formula pieces) =
+    NameContent.Formula (map (name_piece_without sheet) pieces)
+
+abbrev pub without_references : ℕ → NameSheet → NameSheet
+without_references sheet other =
+    record other { cells = λ row col. option_map (name_content_without sheet) (other.cells row col) }
+
+abbrev pub sheet_deleted : ℕ → NameBook → NameBook
+sheet_deleted id book =
+    with_sheets (map (without_references id) (filter (λ sheet. not (sheet.id == id)) book.sheets)) book
+
+-- ---- a sheet gets another title or mark
+
+abbrev pub on_sheet : ℕ → (NameSheet → NameSheet) → NameBook → NameBook
+on_sheet id changed book = with_sheets (map (λ sheet. if sheet.id == id then changed sheet else sheet) book.sheets) book
+
+abbrev pub titled : List ℕ → NameSheet → NameSheet
+titled title sheet = record sheet { title = title }
+
+abbrev pub marked_hidden : Bool → NameSheet → NameSheet
+marked_hidden hidden sheet = record sheet { hidden = hidden }
+
+-- ---- changes
+
+-- the spreadsheet after the change, and the name that the next new line gets then
+abbrev pub changed_by : Named → BookChange → Named
+changed_by named (BookChange.CellsUpdated sheet updates) =
+    record named { book = book_updated sheet updates named.book }
+changed_by named (BookChange.LinesChanged sheet axis change) = record {
+  book = book_changed sheet axis (order_change change (range_with_len named.next (inserted_lines change))) named.book;
+  next = named.next + inserted_lines change;
+}
+changed_by named (BookChange.SheetAdded at sheet) = record {
+  book = sheet_added at (new_sheet named.next sheet) named.book;
+  next = named.next + sheet.rows + sheet.cols;
+}
+changed_by named (BookChange.SheetDeleted sheet) = record named { book = sheet_deleted sheet named.book }
+changed_by named (BookChange.SheetTitled sheet title) = record named { book = on_sheet sheet (titled title) named.book }
+changed_by named (BookChange.SheetHidden sheet hidden) =
+    record named { book = on_sheet sheet (marked_hidden hidden) named.book }
+
+-- one change after another
+abbrev pub changed_by_all : Named → List BookChange → Named
+changed_by_all named changes = fold changed_by named changes
+
+-- what is kept by places stands for the spreadsheet, each of whose lines was called before the next one
+pub record NamedStandsFor (book : PlaceBook) (named : Named) : Type 0 where
+  pub stands : BookStandsFor book named.book
+  pub called : HasNamesBelow named.next named.book
+
+-- the spreadsheet after stands for the one before with these changes, whatever its lines are called
+pub record AreChanges (changes : List BookChange) (before after : PlaceBook) : Type 0 where
+  pub id : after.id ≡ before.id
+  pub names : (named : Named) → NamedStandsFor before named → NamedStandsFor after (changed_by_all named changes)
