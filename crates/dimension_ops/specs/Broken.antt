@@ -9,6 +9,7 @@ use Rattle.dimension_ops.specs.declared.rule.Rule.TheVariants as rule
 
 -- of each rule whether it is broken; of a limit which one would be passed, and of protected ranges which one denies
 pub record Broken : Type 0 where
+  pub bad_shape : Bool
   pub no_sheet : Bool
   pub bad_range : Bool
   pub outside_grid : Bool
@@ -28,6 +29,7 @@ pub record Broken : Type 0 where
 
 abbrev pub unbroken : Broken
 unbroken = record {
+  bad_shape = false;
   no_sheet = false;
   bad_range = false;
   outside_grid = false;
@@ -55,11 +57,12 @@ broken_behind broken =
     else option_map_or (λ id. Some (rule.Protected id))
     broken.protected (if broken.not_editor then Some rule.NotEditor else None)
 
--- the first rule that is broken, in the order in which they are tried. The rules of a request's shape come before all
--- of these: a request that breaks one isn't read
+-- the first rule that is broken, in the order in which they are tried. A shape that is broken whatever the spreadsheet
+-- holds is found when the request is read; the one here is a shape that what it holds makes a bad one
 abbrev pub first_broken : Broken → Option Rule
 first_broken broken =
-    if broken.no_sheet then Some rule.NoSheet
+    if broken.bad_shape then Some rule.BadShape
+    else if broken.no_sheet then Some rule.NoSheet
     else if broken.bad_range then Some rule.BadRange
     else if broken.outside_grid then Some rule.OutsideGrid
     else if broken.no_id then Some rule.NoId
@@ -71,7 +74,8 @@ first_broken broken =
     else if broken.last_sheet then Some rule.LastSheet
     else option_map_or (λ passed. Some (rule.PastLimit passed)) broken.past_limit (broken_behind broken)
 
--- what is told of a request that breaks those rules, or else that
+-- what is told of a request that breaks those rules, or else that; where something can be told only of one that breaks
+-- none, `first_broken` is asked itself
 abbrev pub judged_by : {A : Type 0} → Broken → A → Result A Rule
 judged_by broken told = option_map_or Err (first_broken broken) (Ok told)
 
