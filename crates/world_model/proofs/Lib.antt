@@ -22,3 +22,4 @@ pub mod Apart
 pub mod Filled
 pub mod Replaced
 pub mod Formulas
+pub mod Changes

@@ -1,20 +1,19 @@
 -- What is updated at once: by one write after another, and by names.
-use Rattle.std.proofs.Common.{◌≡◌, ◌≢◌, ℕ, refl, sym, ap, subst, ◌∙◌, ◌+◌, List, [], ◌∷◌, cond, Bool, true, false, length, inl, inr, ◌<◌, zero, suc, get_or, arith}
+use Rattle.std.proofs.Common.{◌≡◌, ℕ, refl, sym, ap, subst, ◌∙◌, ◌+◌, List, [], ◌∷◌, cond, Bool, true, false, length, inl, inr, zero, suc, get_or, arith}
 use Rattle.std.specs.Prelude.{Option, None, Some, IfSome, map, slice_get, ◌==◌, ◌&&◌, ◌⊎◌, Contains, unwrap_or, option_and_then}
-use Rattle.std.specs.List.{All, AllPairs, AllZip, position_from}
+use Rattle.std.specs.List.{All, AllZip, position_from}
 use Rattle.std.specs.Option.{option_map}
 use Rattle.std.proofs.lemmas.Bool.{cases_Bool, eqb-true, eq-eqb, false≢true, false_from_ne_true}
 use Rattle.std.proofs.lemmas.Option.{none-some, same_Some, slice_get_within, get_or_from_slice_get}
 use Rattle.grid_range.specs.Order.{IsOrder}
 use Rattle.cell_store.specs.Table.{item_at}
 use Rattle.ref_rewrite.specs.declared.cell_content.Content.{Content}
-use Rattle.world_model.specs.Area.{Orders}
 use Rattle.world_model.specs.Content.{NameContent, content_named}
 use Rattle.world_model.specs.Sheet.{NameSheet, PlaceSheet}
 use Rattle.world_model.specs.Book.{NameBook, PlaceBook, orders_of}
 use Rattle.world_model.specs.StandsFor.{SheetStandsFor, BookStandsFor}
 use Rattle.world_model.specs.Updating.{Updates, no_updates, with_update, place_in, update_named, sheet_updated, book_updated}
-use Rattle.world_model.specs.Updating.{item_updated, SheetUpdated, BookUpdated}
+use Rattle.world_model.specs.Updating.{SheetUpdated, BookUpdated}
 use Rattle.world_model.specs.Laws.{size_of}
 use Rattle.world_model.specs.Sound.{IsSound, place_sheet_with}
 use Rattle.world_model.specs.Writing.{sheet_put, book_put}

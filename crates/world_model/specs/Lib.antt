@@ -12,3 +12,4 @@ pub mod LineChange
 pub mod PlaceChange
 pub mod BookChange
 pub mod Laws
+pub mod ChangingLaws

@@ -2,8 +2,10 @@
 //! changes and writes make of it, and when what a program keeps by places stands for it.
 #![tactic(auto)]
 
+mod changing;
 mod laws;
 
+pub use changing::{changes_apart, changes_in_turn, updates_are_changes};
 pub use laws::{
     changes_follow, changes_stay_sound, filled_within_places, formulas_counted, ids_find,
     replacements_follow, stands_for_apart, stands_for_some, updates_are_writes, updates_follow,
