@@ -23,3 +23,4 @@ pub mod Filled
 pub mod Replaced
 pub mod Formulas
 pub mod Changes
+pub mod NewLines

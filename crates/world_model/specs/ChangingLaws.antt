@@ -1,9 +1,15 @@
 -- How changes of a spreadsheet go together: they determine what it becomes, one can follow another, and what is done
 -- by places is such a change.
-use Rattle.std.specs.Prelude.{◌≡◌, ◌++◌, ◌∷◌, [], ℕ, List}
+use Rattle.std.specs.Prelude.{◌≡◌, ◌≤◌, ◌++◌, ◌∷◌, [], ℕ, List, IsSomeAnd}
+use Rattle.grid_range.specs.Change.{Fits, count_after}
+use Rattle.grid_range.specs.declared.axis.Axis.{Axis}
+use Rattle.grid_range.specs.declared.change.Change.{Change}
+use Rattle.cell_store.specs.Moved.{lines_on}
 use Rattle.world_model.specs.Book.{NameBook, PlaceBook}
 use Rattle.world_model.specs.BookChange.{BookChange, AreChanges}
-use Rattle.world_model.specs.Sound.{IsSound}
+use Rattle.world_model.specs.Counts.{grid_places}
+use Rattle.world_model.specs.PlaceChange.{BookChanged}
+use Rattle.world_model.specs.Sound.{IsLineCount, IsSound, most_places, place_sheet_with}
 use Rattle.world_model.specs.StandsFor.{BookStandsFor}
 use Rattle.world_model.specs.Updating.{Updates, book_updated}
 
@@ -25,3 +31,12 @@ pub record UpdatesAreChanges : Type 0 where
   pub changes : (before after : PlaceBook) (sheet : ℕ) (updates : Updates) → after.id ≡ before.id
       → ((names : NameBook) → BookStandsFor before names → BookStandsFor after (book_updated sheet updates names))
       → AreChanges (BookChange.CellsUpdated sheet updates ∷ []) before after
+
+-- a change of the lines of a sheet that is there, by places, is a change, if its sheets don't get too many places
+pub record LineChangesAreChanges : Type 0 where
+  pub changes : (before after : PlaceBook) (id : ℕ) (axis : Axis) (count : ℕ) (change : Change)
+      → Fits change count → IsLineCount axis (count_after change count)
+      → IsSomeAnd (place_sheet_with id before.sheets)
+      (λ sheet. lines_on axis sheet.table.rows sheet.table.cols ≡ count)
+      → BookChanged id axis count change before after → grid_places after.sheets ≤ most_places
+      → AreChanges (BookChange.LinesChanged id axis change ∷ []) before after

@@ -1,8 +1,9 @@
 //! Laws of changes of a spreadsheet: each function does nothing of its own, and its contract is the law.
 
-ghost use Rattle.world_model.specs.ChangingLaws.{ChangesApart, ChangesInTurn, UpdatesAreChanges};
+ghost use Rattle.world_model.specs.ChangingLaws.{ChangesApart, ChangesInTurn, UpdatesAreChanges, LineChangesAreChanges};
 
-use crate::laws::{stands_for_apart, stands_for_some};
+use crate::laws::{changes_follow, stands_for_apart, stands_for_some};
+use grid_range::move_keeps_lines;
 
 /// The same changes of a spreadsheet make one spreadsheet of it.
 pub fn changes_apart()
@@ -23,3 +24,11 @@ pub fn changes_in_turn()
 pub fn updates_are_changes()
     ensures { UpdatesAreChanges }
 {}
+
+/// A change of the lines of a sheet by places is a change of the spreadsheet.
+pub fn line_changes_are_changes()
+    ensures { LineChangesAreChanges }
+{
+    changes_follow();
+    move_keeps_lines();
+}

@@ -5,7 +5,7 @@
 mod changing;
 mod laws;
 
-pub use changing::{changes_apart, changes_in_turn, updates_are_changes};
+pub use changing::{changes_apart, changes_in_turn, line_changes_are_changes, updates_are_changes};
 pub use laws::{
     changes_follow, changes_stay_sound, filled_within_places, formulas_counted, ids_find,
     replacements_follow, stands_for_apart, stands_for_some, updates_are_writes, updates_follow,
