@@ -1,6 +1,7 @@
 -- What requests make of a spreadsheet, by the names of its lines (Google Sheets API v4 reference, Request): cells are
 -- updated, lines of a sheet are inserted, deleted or moved, a sheet is added, deleted, or gets another title or mark.
--- A line that is inserted, or that a new sheet has, gets the next name, which no line ever had.
+-- A line that is inserted, or that a new sheet has, gets the next name, which no line ever had. A change is told where
+-- it can be made: its sheet is there, its places are, and a change of lines fits.
 use Rattle.std.specs.Prelude.{◌≡◌, ℕ, Bool, ◌+◌, ◌++◌, ◌==◌, List, ◌∷◌, map, filter, take, drop, not, None, if◌then◌else◌}
 use Rattle.std.specs.List.{fold, range_with_len}
 use Rattle.std.specs.Option.{option_map}
