@@ -6,64 +6,10 @@ that is full, and reads of few and of all cells, and prints the time of each wit
     python3 bench/cells.py
 """
 
-import json
-import os
-import subprocess
-import sys
-import tempfile
-import time
+from client import COLUMNS, filled, get, put, seconds
 
-PROGRAM = os.path.join(os.path.dirname(os.path.abspath(__file__)), "..", "crates", "sheets", "out", "sheets")
-PATH = "/v4/spreadsheets/book1/values/Sheet1!"
-COLUMNS = 26
 FEW = ("A1:J1", 1, 10)
 FULL = ("A1:Z1000", 1_000, COLUMNS)
-ROUNDS = 3
-
-
-def get(area):
-    """A read of an area."""
-    return f"GET {PATH}{area} HTTP/1.1\r\nHost: localhost\r\n\r\n".encode()
-
-
-def put(area, values):
-    """A write of values to an area."""
-    body = json.dumps({"values": values}, separators=(",", ":"))
-    return (
-        f"PUT {PATH}{area}?valueInputOption=RAW HTTP/1.1\r\nHost: localhost\r\n"
-        f"Content-Length: {len(body)}\r\n\r\n{body}"
-    ).encode()
-
-
-def filled(area, rows, columns):
-    """A write of numbers to a whole area."""
-    return put(area, [[row * columns + column for column in range(columns)] for row in range(rows)])
-
-
-def seconds(before, request, count):
-    """How long the program takes for so many of the request behind the one before, less the time for that
-    one alone: the least of some rounds."""
-    return max(best(before, request, count) - best(before, b"", 0), 1e-9)
-
-
-def best(before, request, count):
-    """The least time of some rounds."""
-    return min(run(before, request, count) for _ in range(ROUNDS))
-
-
-def run(before, request, count):
-    """The time of one run, which must answer each request with the status 200."""
-    with tempfile.TemporaryFile() as source, tempfile.TemporaryFile() as sink:
-        source.write(before)
-        source.write(request * count)
-        source.seek(0)
-        begin = time.monotonic()
-        status = subprocess.call([PROGRAM, "run"], stdin=source, stdout=sink)
-        taken = time.monotonic() - begin
-        sink.seek(0)
-        if status != 0 or sink.read().count(b"HTTP/1.1 200 OK\r\n") != count + 1:
-            sys.exit("a request was not answered")
-        return taken
 
 
 def one_cell(name, request, count):

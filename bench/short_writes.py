@@ -20,8 +20,11 @@ import tempfile
 import threading
 import time
 
-WRITE = "PUT /v4/spreadsheets/book1/values/Sheet1!A{0}:Z{0}?valueInputOption=RAW HTTP/1.1\r\nContent-Length: {1}\r\n\r\n{2}"
-READ = "GET /v4/spreadsheets/book1/values/Sheet1!A1:Z1000 HTTP/1.1\r\n\r\n"
+WRITE = (
+    "PUT /v4/spreadsheets/book1/values/Sheet1!A{0}:Z{0}?valueInputOption=RAW HTTP/1.1\r\n"
+    "Authorization: Bearer owner\r\nContent-Length: {1}\r\n\r\n{2}"
+)
+READ = "GET /v4/spreadsheets/book1/values/Sheet1!A1:Z1000 HTTP/1.1\r\nAuthorization: Bearer owner\r\n\r\n"
 
 
 def conversation():

@@ -14,28 +14,12 @@ import sys
 import tempfile
 import time
 
-PROGRAM = os.path.join(os.path.dirname(os.path.abspath(__file__)), "..", "crates", "sheets", "out", "sheets")
-PATH = "/v4/spreadsheets/book1/values/Sheet1!"
+from client import COLUMNS, PROGRAM, ROUNDS, get, numbers, put
+
 COUNTS = (20_000, 200_000)
 BLOCKS = (100, 1_000)
-COLUMNS = 26
 CELLS = 520_000
-ROUNDS = 3
 AT_ONCE = 1_000
-
-
-def get(area):
-    """A read of an area."""
-    return f"GET {PATH}{area} HTTP/1.1\r\nHost: localhost\r\n\r\n".encode()
-
-
-def put(area, values):
-    """A write of values to an area."""
-    body = json.dumps({"values": values}, separators=(",", ":"))
-    return (
-        f"PUT {PATH}{area}?valueInputOption=RAW HTTP/1.1\r\nHost: localhost\r\n"
-        f"Content-Length: {len(body)}\r\n\r\n{body}"
-    ).encode()
 
 
 def answer(**members):
@@ -115,8 +99,7 @@ def blocks():
     figures = []
     for rows in BLOCKS:
         area = f"A1:Z{rows}"
-        values = [[row * COLUMNS + column for column in range(COLUMNS)] for row in range(rows)]
-        seconds, _ = best(put(area, values), updated(area, rows, COLUMNS), CELLS // rows // COLUMNS)
+        seconds, _ = best(put(area, numbers(rows)), updated(area, rows, COLUMNS), CELLS // rows // COLUMNS)
         figures.append(seconds / CELLS)
         print(f"blocks of {rows} by {COLUMNS}: {seconds / CELLS * 1e9:.0f} nanoseconds a cell")
     print(f"time a cell, {BLOCKS[1] * COLUMNS} cells to {BLOCKS[0] * COLUMNS}: ratio {figures[1] / figures[0]:.3f}")
