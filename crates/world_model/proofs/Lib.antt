@@ -24,3 +24,8 @@ pub mod Replaced
 pub mod Formulas
 pub mod Changes
 pub mod NewLines
+pub mod Inserted
+pub mod StillStands
+pub mod SheetAdded
+pub mod SheetDeleted
+pub mod SheetMarked

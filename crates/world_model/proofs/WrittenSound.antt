@@ -30,14 +30,14 @@ module _ (befores afters : List PlaceSheet) (areas : (area : Area) → IsAreaWit
   piece_within (piece.Ref reference) within = areas reference.area within
   piece_within piece.Lost within = tt
 
-  content_within : (one : Content) → IsContentWithin befores one → IsContentWithin afters one
+  pub content_within : (one : Content) → IsContentWithin befores one → IsContentWithin afters one
   content_within (content.Number number) within = tt
   content_within (content.Text text) within = tt
   content_within (content.Truth truth) within = tt
   content_within (content.Formula formula) within =
       λ k d there. piece_within (get_or formula.pieces k d) (within k d there)
 
-  held_within : (held : Option Content) → IfSome held (IsContentWithin befores) → IfSome held (IsContentWithin afters)
+  pub held_within : (held : Option Content) → IfSome held (IsContentWithin befores) → IfSome held (IsContentWithin afters)
   held_within None within = tt
   held_within (Some one) within = content_within one within
 

@@ -11,5 +11,7 @@ pub mod Updating
 pub mod LineChange
 pub mod PlaceChange
 pub mod BookChange
+pub mod SheetChange
+pub mod SheetLaws
 pub mod Laws
 pub mod ChangingLaws

@@ -4,6 +4,7 @@
 
 mod changing;
 mod laws;
+mod sheets;
 
 pub use changing::{changes_apart, changes_in_turn, line_changes_are_changes, updates_are_changes};
 pub use laws::{
@@ -11,3 +12,4 @@ pub use laws::{
     replacements_follow, stands_for_apart, stands_for_some, updates_are_writes, updates_follow,
     writes_follow, writes_stay_sound,
 };
+pub use sheets::{sheets_added, sheets_deleted, sheets_hidden, sheets_titled};
