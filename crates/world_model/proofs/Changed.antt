@@ -45,7 +45,7 @@ within_on Rows area rows cols within = within.0
 within_on Columns area rows cols within = within.1
 
 -- a cell of some lines is empty unless both are among them
-both_listed : (rows cols : List ℕ) (r c : ℕ) → Contains rows r → Contains cols c
+pub both_listed : (rows cols : List ℕ) (r c : ℕ) → Contains rows r → Contains cols c
     → (is_among rows r && is_among cols c) ≡ true
 both_listed rows cols r c row col =
     ap (λ b. b && is_among cols c) (among_if_listed rows r row) ∙ among_if_listed cols c col

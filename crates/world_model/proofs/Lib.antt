@@ -23,6 +23,7 @@ pub mod Filled
 pub mod Replaced
 pub mod Formulas
 pub mod Changes
+pub mod Untouched
 pub mod NewLines
 pub mod Inserted
 pub mod StillStands

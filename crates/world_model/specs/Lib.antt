@@ -15,3 +15,4 @@ pub mod SheetChange
 pub mod SheetLaws
 pub mod Laws
 pub mod ChangingLaws
+pub mod Untouched

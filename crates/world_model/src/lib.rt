@@ -5,6 +5,7 @@
 mod changing;
 mod laws;
 mod sheets;
+mod staying;
 
 pub use changing::{changes_apart, changes_in_turn, line_changes_are_changes, updates_are_changes};
 pub use laws::{
@@ -13,3 +14,4 @@ pub use laws::{
     writes_follow, writes_stay_sound,
 };
 pub use sheets::{sheets_added, sheets_deleted, sheets_hidden, sheets_titled};
+pub use staying::untouched_cells_stay;
