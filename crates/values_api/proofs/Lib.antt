@@ -19,3 +19,6 @@ pub mod AreaText
 pub mod Told
 pub mod SameLines
 pub mod WriteOnce
+pub mod Between
+pub mod Growing
+pub mod Stored

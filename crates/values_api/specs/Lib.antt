@@ -6,3 +6,4 @@ pub mod Updates
 pub mod Blocks
 pub mod Given
 pub mod Laws
+pub mod Tables

@@ -11,6 +11,7 @@ mod printed;
 mod ranges;
 mod sheets;
 mod shown;
+mod table;
 mod writing;
 
 pub use clearing::clear_values;
