@@ -5,3 +5,6 @@ pub mod Opening
 pub mod Replacing
 pub mod OpeningNames
 pub mod Totals
+pub mod Inserting
+pub mod Judging
+pub mod SheetRoom

@@ -5,3 +5,4 @@ pub mod ByName
 pub mod World
 pub mod Rules
 pub mod Broken
+pub mod SheetRequests

@@ -1,9 +1,10 @@
 ghost use Rattle.std.specs.Prelude.{◌≡◌, ◌==◌, ◌<◌, ◌≤◌, ◌∷◌, [], map, length, IfErr, IfOk, IfSome, IsSomeAnd, OnOk, OnErr};
-ghost use Rattle.std.specs.List.{position_from};
+ghost use Rattle.std.specs.List.{insert, position_from};
 ghost use Rattle.std.specs.Option.{option_copied};
 ghost use Rattle.cell_store.specs.Table.{HasPlace, filled_places, most_filled};
-ghost use Rattle.world_model.specs.Counts.{filled_of, formulas_of};
-ghost use Rattle.world_model.specs.Sound.{IsContentWithin, IsSound, most_places, place_sheet_with};
+ghost use Rattle.world_model.specs.Counts.{filled_of, formulas_of, grid_places};
+ghost use Rattle.world_model.specs.SheetChange.{place_sheet_added};
+ghost use Rattle.world_model.specs.Sound.{IsContentWithin, IsSound, most_places, most_sheets, place_sheet_with};
 ghost use Rattle.world_model.specs.Writing.{book_put, table_written};
 ghost use Rattle.std.specs.Arc.{arc_value};
 ghost use Rattle.dimension_ops.specs.Found.{ArePlacesOf, content_at};
@@ -12,6 +13,7 @@ ghost use Rattle.dimension_ops.specs.Titles.{sheet_titled, first_visible};
 ghost use Rattle.dimension_ops.specs.World.{opening_book};
 
 use crate::sheet::Sheet;
+use crate::sheets::places_of;
 use cell_value::{Duplicate, Items, NoMemory, Text};
 use dev_metadata::Metadata;
 use grid_range::Area;
@@ -149,6 +151,49 @@ impl Book {
             Some(sheet) => Some(sheet),
             None => None,
         }
+    }
+
+    /// How many sheets there are.
+    pub(crate) fn count(&self) -> u32
+        ensures count { result ≡ length self.now.sheets }
+        ensures within { result ≤ most_sheets }
+    {
+        self.sheets.len() as u32
+    }
+
+    /// How many places the sheets have together.
+    pub(crate) fn grid_places(&self) -> u64
+        ensures places { result ≡ grid_places self.now.sheets }
+        ensures within { result ≤ most_places }
+    {
+        let mut places = 0;
+        for sheet in &self.sheets {
+            places += places_of(sheet.rows(), sheet.cols());
+        }
+        places
+    }
+
+    /// What gives the spreadsheet its memory.
+    pub(crate) fn allocator(&self) -> Global {
+        self.alloc
+    }
+
+    /// Puts the sheet before the one at the place, or last.
+    ///
+    /// # Errors
+    ///
+    /// [`NoMemory`] where memory runs out; the spreadsheet is as it was.
+    pub(crate) fn insert(&mut self, at: u32, sheet: Sheet) -> Result<(), NoMemory>
+        requires there { at ≤ length self.old.sheets }
+        requires sound { IsSound (place_sheet_added at sheet self.old) }
+        ensures added { OnOk result (self.new ≡ place_sheet_added at sheet self.old) }
+        ensures unchanged { OnErr result (self.new ≡ self.old) }
+    {
+        let ids = with_id(&self.ids, at, sheet.id())?;
+        let shared = share_new(self.alloc, sheet)?;
+        self.sheets.insert(at as usize, shared)?;
+        self.ids = ids;
+        Ok(())
     }
 
     /// The named ranges, lent; no request makes any yet.
@@ -290,6 +335,24 @@ fn place_of(sheets: &[Arc<Sheet>], id: u32) -> Option<usize>
     ensures { result ≡ position_from (λ sheet. sheet.id == id) 0 (map arc_value sheets.now) }
 {
     sheets.iter().position(|sheet| sheet.id() == id)
+}
+
+/// The ids with one more at the place.
+fn with_id(ids: &Items<u32>, at: u32, id: u32) -> Result<Items<u32>, NoMemory>
+    requires { at ≤ length ids.now }
+    ensures { IfOk result (λ more. more ≡ insert ids.now at id) }
+{
+    let mut more = ids.duplicate()?.into_vec();
+    more.insert(at as usize, id)?;
+    Ok(Items::of(more))
+}
+
+/// The sheet as copies of a spreadsheet share it.
+fn share_new(alloc: Global, sheet: Sheet) -> Result<Arc<Sheet>, NoMemory>
+    ensures { IfOk result (λ shared. arc_value shared ≡ sheet) }
+{
+    let shared = Arc::new(alloc, sheet)?;
+    Ok(shared)
 }
 
 /// The sheet as the only one.

@@ -5,10 +5,12 @@ mod book;
 mod laws;
 mod rule;
 mod sheet;
+mod sheets;
 mod world;
 
 pub use book::Book;
 pub use laws::opening_stands;
 pub use rule::{Limit, Rule, RuleOr};
 pub use sheet::Sheet;
+pub use sheets::add_sheet;
 pub use world::World;

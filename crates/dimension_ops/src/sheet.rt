@@ -3,6 +3,7 @@ ghost use Rattle.std.specs.Option.{option_copied};
 ghost use Rattle.cell_store.specs.Places.{AreFilledPlaces};
 ghost use Rattle.cell_store.specs.Table.{item_at, filled_places, empty_table, most_filled, most_lines, HasPlace, HasItemsInside};
 ghost use Rattle.world_model.specs.Counts.{formulas_at, formulas_in};
+ghost use Rattle.world_model.specs.SheetChange.{place_marked_hidden, place_titled};
 ghost use Rattle.world_model.specs.Writing.{table_written};
 
 use basic_filter::Filter;
@@ -96,6 +97,20 @@ impl Sheet {
         ensures { result ≡ self.now.table.cols }
     {
         self.cells.cols()
+    }
+
+    /// Gives the sheet another title.
+    pub(crate) fn set_title(&mut self, title: Text)
+        ensures { self.new ≡ place_titled title self.old }
+    {
+        self.title = title;
+    }
+
+    /// Hides the sheet, or shows it.
+    pub(crate) fn set_hidden(&mut self, hidden: bool)
+        ensures { self.new ≡ place_marked_hidden hidden self.old }
+    {
+        self.hidden = hidden;
     }
 
     /// The merged cells, lent; no request makes any yet.

@@ -1,0 +1,45 @@
+use Rattle.std.proofs.Common.{◌≡◌, ℕ, sym, ap, subst, ◌∙◌, List, map}
+use Rattle.std.specs.Arc.{arc_value}
+use Rattle.std.specs.List.{insert}
+use Rattle.world_model.specs.Book.{PlaceBook}
+use Rattle.world_model.specs.Sheet.{PlaceSheet}
+use Rattle.world_model.specs.SheetChange.{place_sheet_added}
+use Rattle.world_model.specs.Sound.{IsSound}
+use Rattle.dimension_ops.proofs.Inserting.{map-insert}
+use Rattle.dimension_ops.proofs.book.Book.insert.Goals.{After-drop-self-inside}
+use Rattle.dimension_ops.proofs.book.Book.insert.Goals as goal
+
+-- the spreadsheet of these sheets
+abbrev as_book : List ℕ → List ℕ → List ℕ → List PlaceSheet → PlaceBook
+as_book id title owner sheets = record { id = id; title = title; owner = owner; sheets = sheets }
+
+-- the sheets after
+sheets_after : (c : After-drop-self-inside) → map arc_value c.insert.new.self.items
+    ≡ insert (map arc_value c.self.inside.sheets.items) c.args.at c.args.sheet
+sheets_after c =
+    ap (map arc_value) c.in_ok-insert.ensures.items
+    ∙ map-insert arc_value c.self.inside.sheets.items c.args.at c.in_ok-shared.shared
+    ∙ ap (insert (map arc_value c.self.inside.sheets.items) c.args.at) c.in_ok-shared.ensures
+
+book_after : (c : After-drop-self-inside)
+    → as_book c.self.inside.id c.self.inside.title c.self.inside.owner (map arc_value c.insert.new.self.items)
+    ≡ place_sheet_added c.args.at c.args.sheet c.args.self.now
+book_after c =
+    ap (as_book c.self.inside.id c.self.inside.title c.self.inside.owner) (sheets_after c)
+    ∙ ap (place_sheet_added c.args.at c.args.sheet) c.self.view_is
+
+pub invariant_of-self-2 : goal.invariant_of-self-2
+invariant_of-self-2 c = (
+  subst IsSound (sym (book_after c)) c.requires.sound,
+  c.in_ok-ids.ensures
+      ∙ ap (insert c.self.inside.ids c.args.at) c.id.ensures
+      ∙ ap (λ ids. insert ids c.args.at c.args.sheet.id) c.self.invariant.1
+      ∙ sym (map-insert (λ (sheet : PlaceSheet). sheet.id) (map arc_value c.self.inside.sheets.items) c.args.at c.args.sheet)
+      ∙ sym (ap (map (λ (sheet : PlaceSheet). sheet.id)) (sheets_after c)),
+  c.self.invariant.2,
+  c.self.invariant.3,
+  c.self.invariant.4,
+)
+
+pub returns-clause-added : goal.returns-clause-added
+returns-clause-added c = book_after c

@@ -1,0 +1,46 @@
+use Rattle.std.proofs.Common.{◌≡◌, ◌≤◌, ℕ, sym, ap, subst, ◌∙◌, List, [], ◌∷◌, length}
+use Rattle.world_model.specs.Book.{PlaceBook}
+use Rattle.world_model.specs.BookChange.{AreChanges, BookChange, NewSheet}
+use Rattle.world_model.specs.Sheet.{PlaceSheet}
+use Rattle.world_model.specs.SheetChange.{new_place_sheet, place_sheet_added}
+use Rattle.world_model.specs.Sound.{IsSound}
+use Rattle.std.proofs.lemmas.Bool.{ltb-false}
+use Rattle.dimension_ops.specs.SheetRequests.{IsNewSheet, new_place, sheet_added_broken}
+use Rattle.dimension_ops.proofs.Judging.{breaks_none}
+use Rattle.dimension_ops.proofs.SheetRoom.{few_lines, room_for}
+use Rattle.dimension_ops.proofs.sheets.put_new.Goals as goal
+
+pub new_sheet-requires : goal.new_sheet-requires
+new_sheet-requires c = few_lines c.args.properties.now c.args.book.now.sheets c.requires
+
+pub insert-requires-clause-there : goal.insert-requires-clause-there
+insert-requires-clause-there c =
+    subst (λ n. n ≤ length c.args.book.now.sheets) (sym c.place_of_new-place.ensures)
+    (ltb-false (length c.args.book.now.sheets) (new_place c.args.properties.now c.args.book.now.sheets)
+    (breaks_none (sheet_added_broken c.args.properties.now c.args.book.now.sheets) c.requires).bad_range)
+
+pub insert-requires-clause-sound : goal.insert-requires-clause-sound
+insert-requires-clause-sound c =
+    let new = c.in_ok-sheet.ensures.0 in
+    let is = c.in_ok-sheet.ensures.1 in
+    subst (λ (sheet : PlaceSheet). IsSound (place_sheet_added c.place_of_new-place.result sheet c.args.book.now))
+    (sym c.in_ok-sheet.ensures.2)
+    (c.sheets_added.ensures.stays c.args.book.now c.place_of_new-place.result new c.stays_sound.ensures
+    (room_for c.args.properties.now c.args.book.now new c.requires is))
+
+pub returns-clause-added : goal.returns-clause-added
+returns-clause-added c =
+    let new = c.in_ok-sheet.ensures.0 in
+    let is = c.in_ok-sheet.ensures.1 in
+    let made = c.in_ok-sheet.ensures.2 in
+    let place = new_place c.args.properties.now c.args.book.now.sheets in (
+      new,
+      is,
+      c.id-id.ensures ∙ ap (λ (sheet : PlaceSheet). sheet.id) made,
+      subst (AreChanges (BookChange.SheetAdded place new ∷ []) c.args.book.now)
+          (sym (c.in_ok-insert.ensures.added
+          ∙ ap (λ (sheet : PlaceSheet). place_sheet_added c.place_of_new-place.result sheet c.args.book.now) made
+          ∙ ap (λ n. place_sheet_added n (new_place_sheet new) c.args.book.now) c.place_of_new-place.ensures))
+          (c.sheets_added.ensures.changes c.args.book.now place new
+          (room_for c.args.properties.now c.args.book.now new c.requires is)),
+    )
