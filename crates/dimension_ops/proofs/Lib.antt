@@ -8,3 +8,4 @@ pub mod Totals
 pub mod Inserting
 pub mod Judging
 pub mod SheetRoom
+pub mod Marking

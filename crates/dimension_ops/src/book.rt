@@ -1,9 +1,9 @@
 ghost use Rattle.std.specs.Prelude.{◌≡◌, ◌==◌, ◌<◌, ◌≤◌, ◌∷◌, [], map, length, IfErr, IfOk, IfSome, IsSomeAnd, OnOk, OnErr};
 ghost use Rattle.std.specs.List.{insert, position_from};
-ghost use Rattle.std.specs.Option.{option_copied};
+ghost use Rattle.std.specs.Option.{IsSome, option_copied};
 ghost use Rattle.cell_store.specs.Table.{HasPlace, filled_places, most_filled};
 ghost use Rattle.world_model.specs.Counts.{filled_of, formulas_of, grid_places};
-ghost use Rattle.world_model.specs.SheetChange.{place_sheet_added};
+ghost use Rattle.world_model.specs.SheetChange.{on_place_sheet, place_marked_hidden, place_sheet_added, place_titled};
 ghost use Rattle.world_model.specs.Sound.{IsContentWithin, IsSound, most_places, most_sheets, place_sheet_with};
 ghost use Rattle.world_model.specs.Writing.{book_put, table_written};
 ghost use Rattle.std.specs.Arc.{arc_value};
@@ -196,6 +196,42 @@ impl Book {
         Ok(())
     }
 
+    /// Gives the sheet with the id another title. It is copied first where another copy of the spreadsheet
+    /// shares it.
+    ///
+    /// # Errors
+    ///
+    /// [`NoMemory`] where memory runs out; the spreadsheet is as it was.
+    pub(crate) fn retitle(&mut self, sheet: u32, title: Text) -> Result<(), NoMemory>
+        requires there { IsSome (place_sheet_with sheet self.old.sheets) }
+        requires sound { IsSound (on_place_sheet sheet (place_titled title) self.old) }
+        ensures titled { OnOk result (self.new ≡ on_place_sheet sheet (place_titled title) self.old) }
+        ensures unchanged { OnErr result (self.new ≡ self.old) }
+    {
+        if let Some(place) = place_of(&self.sheets, sheet) {
+            retitle_shared(&mut self.sheets[place], title)?;
+        }
+        Ok(())
+    }
+
+    /// Hides the sheet with the id, or shows it. It is copied first where another copy of the spreadsheet
+    /// shares it.
+    ///
+    /// # Errors
+    ///
+    /// [`NoMemory`] where memory runs out; the spreadsheet is as it was.
+    pub(crate) fn mark_hidden(&mut self, sheet: u32, hidden: bool) -> Result<(), NoMemory>
+        requires there { IsSome (place_sheet_with sheet self.old.sheets) }
+        requires sound { IsSound (on_place_sheet sheet (place_marked_hidden hidden) self.old) }
+        ensures marked { OnOk result (self.new ≡ on_place_sheet sheet (place_marked_hidden hidden) self.old) }
+        ensures unchanged { OnErr result (self.new ≡ self.old) }
+    {
+        if let Some(place) = place_of(&self.sheets, sheet) {
+            mark_shared(&mut self.sheets[place], hidden)?;
+        }
+        Ok(())
+    }
+
     /// The named ranges, lent; no request makes any yet.
     pub fn names(&self) -> &Names
         ensures { result.now ≡ [] }
@@ -326,6 +362,34 @@ fn put_shared(
 {
     match Arc::make_mut(sheet) {
         Ok(own) => own.put(row, column, content),
+        Err(_) => Err(NoMemory),
+    }
+}
+
+/// Gives a sheet that copies of a spreadsheet may share another title.
+fn retitle_shared(shared: &mut Arc<Sheet>, title: Text) -> Result<(), NoMemory>
+    ensures titled { OnOk result (arc_value shared.new ≡ place_titled title (arc_value shared.old)) }
+    ensures unchanged { OnErr result (arc_value shared.new ≡ arc_value shared.old) }
+{
+    match Arc::make_mut(shared) {
+        Ok(own) => {
+            own.set_title(title);
+            Ok(())
+        }
+        Err(_) => Err(NoMemory),
+    }
+}
+
+/// Hides or shows a sheet that copies of a spreadsheet may share.
+fn mark_shared(shared: &mut Arc<Sheet>, hidden: bool) -> Result<(), NoMemory>
+    ensures marked { OnOk result (arc_value shared.new ≡ place_marked_hidden hidden (arc_value shared.old)) }
+    ensures unchanged { OnErr result (arc_value shared.new ≡ arc_value shared.old) }
+{
+    match Arc::make_mut(shared) {
+        Ok(own) => {
+            own.set_hidden(hidden);
+            Ok(())
+        }
         Err(_) => Err(NoMemory),
     }
 }
