@@ -1,22 +1,19 @@
--- A spreadsheet that is updated and takes the place of the one that has its id: by the names of lines this is the
+-- A spreadsheet that is changed and takes the place of the one that has its id: by the names of lines this is the
 -- world after the call.
 use Rattle.std.proofs.Common.{◌≡◌, ℕ, suc, refl, sym, ap, subst, ◌∙◌, List, [], ◌∷◌, cond, Bool, true, false, arith}
-use Rattle.std.specs.Prelude.{Option, Some, None, ◌<◌, ◌==◌, unwrap_or}
+use Rattle.std.specs.Prelude.{Option, Some, None, ◌<◌, ◌≤◌}
 use Rattle.std.specs.List.{All, AllZip}
 use Rattle.std.specs.Option.{option_map_or}
 use Rattle.std.specs.Str.{bytes_eq}
 use Rattle.std.proofs.lemmas.Bool.{false≢true}
-use Rattle.std.proofs.lemmas.List.Elements.{All-map}
 use Rattle.std.proofs.lemmas.Slice.Eq.{bytes_eq-Decides}
-use Rattle.world_model.specs.Area.{Orders}
-use Rattle.world_model.specs.Book.{NameBook, PlaceBook, orders_of}
-use Rattle.world_model.specs.Sheet.{NameSheet}
+use Rattle.world_model.specs.Book.{NameBook, PlaceBook}
+use Rattle.world_model.specs.BookChange.{AreChanges, BookChange, Named, changed_by, changed_by_all}
 use Rattle.world_model.specs.StandsFor.{BookStandsFor}
-use Rattle.world_model.specs.Updating.{Updates, book_updated, sheet_updated, update_named}
-use Rattle.world_model.specs.World.{HasNamesBelow, WorldStandsFor, world_replaced}
+use Rattle.world_model.specs.World.{HasNamesBelow, WorldStandsFor}
 use Rattle.dimension_ops.specs.ByName.{ReplacesByName}
 use Rattle.dimension_ops.specs.World.{book_with}
-use Rattle.batch_engine.specs.Effects.{AreChanged, Becomes, Change, book_after, book_changed, name_book_with}
+use Rattle.batch_engine.specs.Effects.{Becomes, name_book_with, with_named}
 use Rattle.batch_engine.specs.Effects.Effect.{Changes}
 
 -- ---- what is found by its id
@@ -78,48 +75,37 @@ module _ (id : List ℕ) (next : ℕ) where
       (ap (λ key. bytes_eq key id) (sym each.0.id)) each.0 (below 0 n (omega arith))
       (found_by_name bs ns book each.1 (λ k d there. below (suc k) d (omega arith))) found
 
--- ---- an update calls no line
+-- ---- names are never given again
 
-abbrev AreBelow : ℕ → NameSheet → Type 0
-AreBelow next sheet = All (λ name. name < next) sheet.rows × All (λ name. name < next) sheet.cols
+one_grows : (named : Named) (change : BookChange) → named.next ≤ (changed_by named change).next
+one_grows named (BookChange.CellsUpdated sheet updates) = omega arith
+one_grows named (BookChange.LinesChanged sheet axis change) = omega arith
+one_grows named (BookChange.SheetAdded at sheet) = omega arith
+one_grows named (BookChange.SheetDeleted sheet) = omega arith
+one_grows named (BookChange.SheetTitled sheet title) = omega arith
+one_grows named (BookChange.SheetHidden sheet hidden) = omega arith
 
-chosen_below : (next : ℕ) (b : Bool) (one other : NameSheet) → AreBelow next one → AreBelow next other
-    → AreBelow next (cond b one other)
-chosen_below next true one other below below' = below
-chosen_below next false one other below below' = below'
-
-sheet_below : (next id : ℕ) (orders : Orders) (updates : Updates) (sheet : NameSheet) → AreBelow next sheet
-    → AreBelow next (sheet_updated orders id updates sheet)
-sheet_below next id orders updates sheet below =
-    chosen_below next (sheet.id == id)
-    (record sheet { cells = λ row col. unwrap_or (update_named orders sheet updates row col) (sheet.cells row col) })
-    sheet below below
-
-names_below_after : (next sheet : ℕ) (updates : Updates) (names : NameBook) → HasNamesBelow next names
-    → HasNamesBelow next (book_updated sheet updates names)
-names_below_after next sheet updates names below =
-    All-map (AreBelow next) (sheet_updated (orders_of names.sheets) sheet updates) names.sheets
-    (λ k d there. sheet_below next sheet (orders_of names.sheets) updates _ (below k d there))
-
-changed_below : (next : ℕ) (changes : List Change) (names : NameBook) → HasNamesBelow next names
-    → HasNamesBelow next (book_changed changes names)
-changed_below next [] names below = below
-changed_below next (change ∷ later) names below =
-    changed_below next later (book_after names change) (names_below_after next change.sheet change.updates names below)
+names_grow : (changes : List BookChange) (named : Named) → named.next ≤ (changed_by_all named changes).next
+names_grow [] named = omega arith
+names_grow (change ∷ later) named =
+    let first = one_grows named change in
+    let behind = names_grow later (changed_by named change) in
+    omega arith
 
 -- ---- the world after a call
 
-pub becomes_changed : (id : List ℕ) (changes : List Change) (books next : List PlaceBook) (before after : PlaceBook)
-    → book_with id books ≡ Some before → AreChanged changes before after → ReplacesByName after books next
+pub becomes_changed : (id : List ℕ) (changes : List BookChange) (books next : List PlaceBook) (before after : PlaceBook)
+    → book_with id books ≡ Some before → AreChanges changes before after → ReplacesByName after books next
     → Becomes (Changes id changes) books next
 becomes_changed id changes books next before after found changed replaced = record {
   names = λ world stands.
       let meant = found_by_name id world.next books world.books before stands.each stands.called found in
+      let named : Named = record { book = meant.names; next = world.next } in
+      let made = changed.names named (record { stands = meant.stands; called = meant.below }) in
       subst
       (λ one. WorldStandsFor next (option_map_or
-      (λ (book : NameBook). world_replaced (book_changed changes book) world.next world) one world))
+      (λ (book : NameBook). with_named (changed_by_all (record { book = book; next = world.next }) changes) world) one world))
       (sym meant.is)
-      (replaced.replaced world (book_changed changes meant.names) world.next stands
-      (changed.names meant.names meant.stands) (changed_below world.next changes meant.names meant.below)
-      (omega arith));
+      (replaced.replaced world (changed_by_all named changes).book (changed_by_all named changes).next stands
+      made.stands made.called (names_grow changes named));
 }

@@ -3,6 +3,7 @@ use Rattle.std.proofs.Common.{◌≡◌, ℕ, refl, sym, subst, ◌∙◌, List}
 use Rattle.std.specs.Prelude.{Bool, Option, Some, None, IsSomeAnd, IfOk, Result, Ok, Err}
 use Rattle.std.specs.Option.{IsSome}
 use Rattle.world_model.specs.Book.{PlaceBook}
+use Rattle.world_model.specs.BookChange.{BookChange}
 use Rattle.dimension_ops.specs.ByName.{ReplacesByName}
 use Rattle.dimension_ops.specs.Rules.{IsUnlessNoMemory}
 use Rattle.dimension_ops.specs.World.{book_with}
@@ -19,7 +20,8 @@ use Rattle.sheets_json.specs.declared.call.Call.{Call}
 use Rattle.sheets_json.specs.declared.call.Call.TheVariants as call
 use Rattle.sheets_json.specs.declared.call.RangeBlock.{RangeBlock}
 use Rattle.sheets_json.specs.declared.call.ValueRange.{ValueRange}
-use Rattle.batch_engine.specs.Effects.{Effect, Becomes, Change, IsNext}
+use Rattle.sheets_json.specs.declared.request.Step.{Step}
+use Rattle.batch_engine.specs.Effects.{Effect, Becomes, IsNext}
 use Rattle.batch_engine.specs.Effects.Effect.{Nothing, Changes}
 use Rattle.sheets_json.specs.declared.place.Place.TheVariants as place
 use Rattle.batch_engine.specs.Calls.{OnBook, IsAlone, IsAnswered, IsApplied, IsChange, IsInstalled, Refusal, alone, as_told, told_as}
@@ -30,7 +32,7 @@ use Rattle.batch_engine.proofs.Becoming.{found_has_id, becomes_changed}
 use Rattle.batch_engine.proofs.Judged.{judged_so}
 
 -- what replaces the spreadsheet is there, and so are the spreadsheets after
-is_next : (books : List PlaceBook) (id : List ℕ) (changes : List Change) (after : PlaceBook)
+is_next : (books : List PlaceBook) (id : List ℕ) (changes : List BookChange) (after : PlaceBook)
     (next : Option (List PlaceBook))
     → ((one : List PlaceBook) → ReplacesByName after books one → Becomes (Changes id changes) books one)
     → IsSomeAnd next (ReplacesByName after books) → IsNext books (Changes id changes) next
@@ -212,6 +214,7 @@ module _ (books : List PlaceBook) (book : PlaceBook) (called : Call) (outcome : 
 
 pub other_answered : (called : Call) (books : List PlaceBook)
     → ((id : Text) (grids : Option Bool) → called ≡ call.Get id grids → ⊥)
+    → ((id : Text) (requests : List Step) → called ≡ call.Batch id requests → ⊥)
     → ((id range : Text) (dimension : Option Axis) (render : Option Render) → called ≡ call.Read id range dimension render → ⊥)
     → ((id range : Text) (mode : Mode) (values : Reading ValueRange) → called ≡ call.Write id range mode values → ⊥)
     → ((id range : Text) → called ≡ call.Clear id range → ⊥)
@@ -220,19 +223,23 @@ pub other_answered : (called : Call) (books : List PlaceBook)
     → ((id : Text) (mode : Mode) (blocks : List (Reading RangeBlock)) → called ≡ call.WriteMany id mode blocks → ⊥)
     → ((id : Text) (ranges : List (Reading Text)) → called ≡ call.ClearMany id ranges → ⊥)
     → IsAnswered called books (Err (place.Alone, rule.Unsupported)) Nothing
-other_answered (call.Read id range dimension render) books no_look no_read no_write no_clear no_list no_writes no_clears =
+other_answered (call.Read id range dimension render) books no_look no_batch no_read no_write no_clear no_list no_writes no_clears =
     absurd (no_read id range dimension render refl)
-other_answered (call.Write id range mode values) books no_look no_read no_write no_clear no_list no_writes no_clears =
+other_answered (call.Write id range mode values) books no_look no_batch no_read no_write no_clear no_list no_writes no_clears =
     absurd (no_write id range mode values refl)
-other_answered (call.Clear id range) books no_look no_read no_write no_clear no_list no_writes no_clears = absurd (no_clear id range refl)
-other_answered (call.Create spreadsheet) books no_look no_read no_write no_clear no_list no_writes no_clears = (refl, refl)
-other_answered (call.Get id grids) books no_look no_read no_write no_clear no_list no_writes no_clears =
+other_answered (call.Clear id range) books no_look no_batch no_read no_write no_clear no_list no_writes no_clears =
+    absurd (no_clear id range refl)
+other_answered (call.Create spreadsheet) books no_look no_batch no_read no_write no_clear no_list no_writes no_clears =
+    (refl, refl)
+other_answered (call.Get id grids) books no_look no_batch no_read no_write no_clear no_list no_writes no_clears =
     absurd (no_look id grids refl)
-other_answered (call.Batch id requests) books no_look no_read no_write no_clear no_list no_writes no_clears = (refl, refl)
-other_answered (call.Append id range mode insert values) books no_look no_read no_write no_clear no_list no_writes no_clears = (refl, refl)
-other_answered (call.ReadMany id ranges dimension render) books no_look no_read no_write no_clear no_list no_writes no_clears =
+other_answered (call.Batch id requests) books no_look no_batch no_read no_write no_clear no_list no_writes no_clears =
+    absurd (no_batch id requests refl)
+other_answered (call.Append id range mode insert values) books no_look no_batch no_read no_write no_clear no_list no_writes no_clears =
+    (refl, refl)
+other_answered (call.ReadMany id ranges dimension render) books no_look no_batch no_read no_write no_clear no_list no_writes no_clears =
     absurd (no_list id ranges dimension render refl)
-other_answered (call.WriteMany id mode blocks) books no_look no_read no_write no_clear no_list no_writes no_clears =
+other_answered (call.WriteMany id mode blocks) books no_look no_batch no_read no_write no_clear no_list no_writes no_clears =
     absurd (no_writes id mode blocks refl)
-other_answered (call.ClearMany id ranges) books no_look no_read no_write no_clear no_list no_writes no_clears =
+other_answered (call.ClearMany id ranges) books no_look no_batch no_read no_write no_clear no_list no_writes no_clears =
     absurd (no_clears id ranges refl)

@@ -2,6 +2,9 @@ pub mod Becoming
 pub mod Judged
 pub mod Ranged
 pub mod Installed
+pub mod WritingRows
+pub mod RowsOnce
+pub mod RequestsOnce
 pub mod Once
 pub mod Judging
 pub mod InTurns

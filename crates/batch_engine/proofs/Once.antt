@@ -10,6 +10,8 @@ use Rattle.grid_range.specs.declared.area.Area.{Area}
 use Rattle.grid_range.specs.declared.axis.Axis.{Axis}
 use Rattle.a1_notation.specs.Laws.{HasOneReading}
 use Rattle.world_model.specs.Book.{PlaceBook}
+use Rattle.world_model.specs.BookChange.{BookChange}
+use Rattle.world_model.specs.ChangingLaws.{ChangesApart, ChangesInTurn}
 use Rattle.world_model.specs.Sheet.{PlaceSheet}
 use Rattle.world_model.specs.Sound.{IsSound, place_sheet_with}
 use Rattle.world_model.specs.Updating.{Updates}
@@ -17,7 +19,7 @@ use Rattle.dimension_ops.specs.World.{book_with}
 use Rattle.dimension_ops.specs.declared.rule.Rule.{Rule}
 use Rattle.dimension_ops.specs.declared.rule.Rule.TheVariants as rule
 use Rattle.values_api.specs.Blocks.{contents_of}
-use Rattle.values_api.specs.Laws.{UpdatesOnce, WritesOnce}
+use Rattle.values_api.specs.Laws.{WritesOnce}
 use Rattle.values_api.specs.Ranges.{FoundArea, Resolves, named, unnamed, part_of}
 use Rattle.values_api.specs.declared.writing.Written.{Written}
 use Rattle.sheets_json.specs.Reading.{Reading}
@@ -27,13 +29,13 @@ use Rattle.sheets_json.specs.declared.call.Call.{Call}
 use Rattle.sheets_json.specs.declared.call.Call.TheVariants as call
 use Rattle.sheets_json.specs.declared.call.RangeBlock.{RangeBlock}
 use Rattle.sheets_json.specs.declared.call.ValueRange.{ValueRange}
-use Rattle.batch_engine.specs.Effects.{Change, Effect}
+use Rattle.batch_engine.specs.Effects.{Effect, cells_updated}
 use Rattle.batch_engine.specs.Effects.Effect.{Nothing}
 use Rattle.batch_engine.specs.Ranges.{IsTarget, agreed}
 use Rattle.batch_engine.specs.Values.{OnRange, done, refused, IsRead, IsClear, IsUpdate, IsShown, IsCleared, IsWritten}
 use Rattle.batch_engine.specs.Values.{IsUpdated, Wrote, update_of}
 use Rattle.batch_engine.specs.Looks.{looked}
-use Rattle.batch_engine.specs.Calls.{AreMade, IsLookOf, IsAlone, IsAnswered, IsClearManyOf, IsClearOf, IsMade, IsReadManyOf}
+use Rattle.batch_engine.specs.Calls.{AreMade, IsBatchOf, IsLookOf, IsAlone, IsAnswered, IsClearManyOf, IsClearOf, IsMade, IsReadManyOf}
 use Rattle.batch_engine.specs.Calls.{IsReadOf, IsSeen, IsWriteManyOf, IsWriteOf, OnBook, Refusal, alone, answered_at}
 use Rattle.batch_engine.specs.Calls.{answered_by, effect_of, effect_on, told_of, written_answer}
 use Rattle.batch_engine.specs.Members.{InOrder, Then, Told, with_first}
@@ -42,6 +44,8 @@ use Rattle.sheets_json.specs.declared.place.Place.{Place}
 use Rattle.sheets_json.specs.declared.place.Place.TheVariants as place
 use Rattle.batch_engine.specs.Laws.{IsOnce}
 use Rattle.batch_engine.proofs.InTurns.{in_turn_once}
+use Rattle.batch_engine.proofs.RequestsOnce.{requested_once}
+use Rattle.batch_engine.specs.Requests.{IsRequested}
 
 some_same : {A : Type 0} (one other : A) → Some one ≡ Some other → one ≡ other
 some_same one other e = cc
@@ -113,19 +117,19 @@ said_once says makes told told' effect effect' is is' = (is.0 ∙ sym is'.0, is.
 
 module _ (writes : WritesOnce) (book : PlaceBook) (sound : IsSound book) where
   -- what a write's result is told as
-  abbrev Tells : Area → PlaceSheet → Updates → Result Written Rule → Result (Wrote × Change) Rule → Type 0
+  abbrev Tells : Area → PlaceSheet → Updates → Result Written Rule → Result (Wrote × List BookChange) Rule → Type 0
   Tells area sheet updates wrote told =
       MatchResult wrote
-      (λ counts. told ≡ Ok ((update_of book sheet counts, counts), record { sheet = area.sheet; updates = updates }))
+      (λ counts. told ≡ Ok ((update_of book sheet counts, counts), cells_updated area.sheet updates))
       (λ broken. told ≡ Err broken)
 
   tells_once : (area : Area) (sheet : PlaceSheet) (updates : Updates) (wrote : Result Written Rule)
-      (told told' : Result (Wrote × Change) Rule) → Tells area sheet updates wrote told
+      (told told' : Result (Wrote × List BookChange) Rule) → Tells area sheet updates wrote told
       → Tells area sheet updates wrote told' → told ≡ told'
   tells_once area sheet updates (Ok counts) told told' is is' = is ∙ sym is'
   tells_once area sheet updates (Err broken) told told' is is' = is ∙ sym is'
 
-  update_once : (block : Block) (found : FoundArea) (sheet : PlaceSheet) (told told' : Result (Wrote × Change) Rule)
+  update_once : (block : Block) (found : FoundArea) (sheet : PlaceSheet) (told told' : Result (Wrote × List BookChange) Rule)
       → IsUpdate book block found sheet told → IsUpdate book block found sheet told' → told ≡ told'
   update_once block found sheet told told' one other =
       let area = found.0 in
@@ -175,8 +179,8 @@ module _ {A : Type 0} where
     is.nothing ∙ sym is'.nothing,
   )
 
-  made_once : (Is : Result (A × Change) Rule → Type 0) (answer_of : A → Answer) (book : PlaceBook)
-      → ((one other : Result (A × Change) Rule) → Is one → Is other → one ≡ other) → IsOnce (IsMade Is answer_of book)
+  made_once : (Is : Result (A × List BookChange) Rule → Type 0) (answer_of : A → Answer) (book : PlaceBook)
+      → ((one other : Result (A × List BookChange) Rule) → Is one → Is other → one ≡ other) → IsOnce (IsMade Is answer_of book)
   made_once Is answer_of book once told told' effect effect' is is' =
       let same = once is.one is'.one is.is is'.is in (
         is.told_is ∙ ap (λ one. answered_by answer_of (told_of one)) same ∙ sym is'.told_is,
@@ -194,7 +198,7 @@ found_sound id (b ∷ bs) all =
     first_sound (bytes_eq b.id id) b (book_with id bs) (all 0 b (omega arith))
     (found_sound id bs (λ k d there. all (suc k) d (omega arith)))
 
-module _ (one_reading : HasOneReading) (writes : WritesOnce) (updates : UpdatesOnce) where
+module _ (one_reading : HasOneReading) (writes : WritesOnce) (apart : ChangesApart) (turns : ChangesInTurn) where
   shown_once : (dimension : Option Axis) (render : Option Render) (book : PlaceBook) (range : List ℕ)
       (one other : Result ShownRange Rule) → IsShown dimension render book range one
       → IsShown dimension render book range other → one ≡ other
@@ -202,7 +206,7 @@ module _ (one_reading : HasOneReading) (writes : WritesOnce) (updates : UpdatesO
       on_range_once (Resolves range book.sheets) book.sheets (IsRead book dimension render)
       (resolves_once one_reading range book.sheets) (λ found sheet told told' is is'. is ∙ sym is')
 
-  cleared_once : (book : PlaceBook) (range : Reading (List ℕ)) (one other : Result (List ℕ × Change) Rule)
+  cleared_once : (book : PlaceBook) (range : Reading (List ℕ)) (one other : Result (List ℕ × List BookChange) Rule)
       → IsCleared book range one → IsCleared book range other → one ≡ other
   cleared_once book (Ok range) =
       on_range_once (Resolves range book.sheets) book.sheets IsClear (resolves_once one_reading range book.sheets)
@@ -210,7 +214,7 @@ module _ (one_reading : HasOneReading) (writes : WritesOnce) (updates : UpdatesO
   cleared_once book (Err shape) = λ one other is is'. is ∙ sym is'
 
   written_once : (range : List ℕ) (book : PlaceBook) → IsSound book → (values : Reading ValueRange)
-      (one other : Result (Wrote × Change) Rule) → IsWritten range book values one → IsWritten range book values other
+      (one other : Result (Wrote × List BookChange) Rule) → IsWritten range book values one → IsWritten range book values other
       → one ≡ other
   written_once range book sound (Ok values) =
       on_range_once (IsTarget range values.range book.sheets) book.sheets (IsUpdate book values.block)
@@ -218,7 +222,7 @@ module _ (one_reading : HasOneReading) (writes : WritesOnce) (updates : UpdatesO
   written_once range book sound (Err shape) = λ one other is is'. is ∙ sym is'
 
   updated_once : (book : PlaceBook) → IsSound book → (values : Reading RangeBlock)
-      (one other : Result (Wrote × Change) Rule) → IsUpdated book values one → IsUpdated book values other → one ≡ other
+      (one other : Result (Wrote × List BookChange) Rule) → IsUpdated book values one → IsUpdated book values other → one ≡ other
   updated_once book sound (Ok values) =
       on_range_once (Resolves values.range book.sheets) book.sheets (IsUpdate book values.block)
       (resolves_once one_reading values.range book.sheets) (update_once writes book sound values.block)
@@ -235,12 +239,12 @@ module _ (one_reading : HasOneReading) (writes : WritesOnce) (updates : UpdatesO
     is.nothing ∙ sym is'.nothing,
   )
 
-  are_made_once : {M A : Type 0} (Is : PlaceBook → M → Result (A × Change) Rule → Type 0)
-      (once : (book : PlaceBook) → IsSound book → (member : M) (one other : Result (A × Change) Rule)
+  are_made_once : {M A : Type 0} (Is : PlaceBook → M → Result (A × List BookChange) Rule → Type 0)
+      (once : (book : PlaceBook) → IsSound book → (member : M) (one other : Result (A × List BookChange) Rule)
       → Is book member one → Is book member other → one ≡ other) (members : List M) (at : ℕ → Place)
       (answer_of : List A → Answer) (book : PlaceBook) → IsSound book → IsOnce (AreMade Is members at answer_of book)
   are_made_once Is once members at answer_of book sound told told' effect effect' is is' =
-      let (same, same_changes) = in_turn_once updates Is once 0 members book sound is.all is'.all is.changes is'.changes
+      let (same, same_changes) = in_turn_once apart turns Is once 0 members book sound is.all is'.all is.changes is'.changes
       is.each is'.each in (
         is.told_is ∙ ap (answered_at at answer_of) same ∙ sym is'.told_is,
         is.effect_is ∙ ap (λ all. effect_of book all is.changes) same ∙ ap (effect_of book is'.all) same_changes
@@ -279,5 +283,8 @@ module _ (one_reading : HasOneReading) (writes : WritesOnce) (updates : UpdatesO
     answered_once (call.Create spreadsheet) = said_once (Err (place.Alone, rule.Unsupported)) Nothing
     answered_once (call.Get id grids) =
         on_book_once id (IsLookOf grids) (λ book sound. said_once (looked grids book) Nothing)
-    answered_once (call.Batch id requests) = said_once (Err (place.Alone, rule.Unsupported)) Nothing
+    answered_once (call.Batch id requests) =
+        on_book_once id (IsBatchOf requests)
+        (λ book sound. are_made_once IsRequested (requested_once writes apart turns) requests place.Requests
+        (λ replies. answer.Batch replies book.id) book sound)
     answered_once (call.Append id range mode insert values) = said_once (Err (place.Alone, rule.Unsupported)) Nothing

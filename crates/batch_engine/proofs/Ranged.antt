@@ -11,6 +11,8 @@ use Rattle.grid_range.specs.Area.{AreaWithin}
 use Rattle.grid_range.specs.declared.area.Area.{Area}
 use Rattle.grid_range.specs.declared.axis.Axis.{Axis}
 use Rattle.world_model.specs.Book.{PlaceBook}
+use Rattle.world_model.specs.BookChange.{AreChanges, BookChange}
+use Rattle.world_model.specs.ChangingLaws.{UpdatesAreChanges}
 use Rattle.world_model.specs.Sheet.{PlaceSheet}
 use Rattle.world_model.specs.Sound.{place_sheet_with}
 use Rattle.world_model.specs.Updating.{SheetUpdated, Updates}
@@ -27,7 +29,7 @@ use Rattle.values_api.specs.declared.writing.Written.{Written}
 use Rattle.sheets_json.specs.declared.answer.Answer.{Answer}
 use Rattle.sheets_json.specs.declared.answer.ShownRange.{ShownRange}
 use Rattle.sheets_json.specs.declared.answer.Update.{Update as UpdateAnswer}
-use Rattle.batch_engine.specs.Effects.{AreChanged, Change}
+use Rattle.batch_engine.specs.Effects.{cells_updated}
 use Rattle.batch_engine.specs.Effects.Effect.{Nothing}
 use Rattle.batch_engine.specs.Members.{IsDoneTo}
 use Rattle.batch_engine.specs.Values.{OnRange, done, refused, is_columns, axis_or_rows, render_or_formatted, unless_empty}
@@ -39,22 +41,20 @@ pub some_and : {A : Type 0} (P : A → Type 0) (found : Option A) → IsSomeAnd 
 some_and P None holds = absurd holds
 some_and P (Some x) holds = (x, refl, holds)
 
--- one update is one change
-abbrev pub one_change : ℕ → Updates → List Change
-one_change sheet updates = record { sheet = sheet; updates = updates } ∷ []
-
-pub one_changed : (sheet : ℕ) (updates : Updates) (before after : PlaceBook) → AreUpdated sheet updates before after
-    → AreChanged (one_change sheet updates) before after
-one_changed sheet updates before after updated = record { id = updated.places.id; names = updated.names }
+-- an update is a change
+pub update_made : UpdatesAreChanges → (sheet : ℕ) (updates : Updates) (before after : PlaceBook)
+    → AreUpdated sheet updates before after → AreChanges (cells_updated sheet updates) before after
+update_made are sheet updates before after updated =
+    are.changes before after sheet updates updated.places.id updated.names
 
 abbrev as_shown : ShownRange → Result ShownRange Rule
 as_shown shown = Ok shown
 
-abbrev as_cleared : List ℕ → Area → Result (List ℕ × Change) Rule
-as_cleared text area = Ok (text, record { sheet = area.sheet; updates = cleared area })
+abbrev as_cleared : List ℕ → Area → Result (List ℕ × List BookChange) Rule
+as_cleared text area = Ok (text, cells_updated area.sheet (cleared area))
 
-abbrev as_written : UpdateAnswer → Written → ℕ → Updates → Result (Wrote × Change) Rule
-as_written update counts sheet updates = Ok ((update, counts), record { sheet = sheet; updates = updates })
+abbrev as_written : UpdateAnswer → Written → ℕ → Updates → Result (Wrote × List BookChange) Rule
+as_written update counts sheet updates = Ok ((update, counts), cells_updated sheet updates)
 
 abbrev told_so : List ℕ → List ℕ → ℕ → ℕ → Written → UpdateAnswer
 told_so id title rows cols counts = record {
@@ -82,7 +82,7 @@ module _ {A : Type 0} (Found : Result FoundArea Rule → Type 0) (sheets : List 
   range_refused refusal.NoMemory is = tt
 
 module _ {A : Type 0} (Found : Result FoundArea Rule → Type 0) (sheets : List PlaceSheet)
-    (IsDone : FoundArea → PlaceSheet → Result (A × Change) Rule → Type 0) (before after : PlaceBook) where
+    (IsDone : FoundArea → PlaceSheet → Result (A × List BookChange) Rule → Type 0) (before after : PlaceBook) where
   pub change_refused : (fault : RuleOr) → IsUnlessNoMemory Found (Err fault)
       → IsUnlessNoMemory (IsDoneTo (OnRange Found sheets IsDone) before after) (Err fault)
   change_refused (refusal.Rule broken) is = refused broken is refl
@@ -90,14 +90,14 @@ module _ {A : Type 0} (Found : Result FoundArea Rule → Type 0) (sheets : List 
 
 -- what is done on the sheet of a range that is there
 module _ {A : Type 0} (Found : Result FoundArea Rule → Type 0) (sheets : List PlaceSheet)
-    (IsDone : FoundArea → PlaceSheet → Result (A × Change) Rule → Type 0) (before after : PlaceBook) (found : FoundArea)
+    (IsDone : FoundArea → PlaceSheet → Result (A × List BookChange) Rule → Type 0) (before after : PlaceBook) (found : FoundArea)
     (is_found : Found (Ok found)) where
   on_sheet : (sheet : PlaceSheet) → place_sheet_with found.0.sheet sheets ≡ Some sheet → (told : Result A RuleOr)
       → IsUnlessNoMemory (IsDoneTo (IsDone found sheet) before after) told
       → IsUnlessNoMemory (IsDoneTo (OnRange Found sheets IsDone) before after) told
   on_sheet sheet is (Ok one) holds =
-      let (change, holds_so, updated) = holds in
-      (change, done found sheet is_found is holds_so, updated)
+      let (changes, holds_so, made) = holds in
+      (changes, done found sheet is_found is holds_so, made)
   on_sheet sheet is (Err (refusal.Rule broken)) holds = done found sheet is_found is holds
   on_sheet sheet is (Err refusal.NoMemory) holds = tt
 
@@ -112,14 +112,11 @@ module _ {A : Type 0} (Found : Result FoundArea Rule → Type 0) (sheets : List 
 
 -- ---- a call on one range
 
-module _ {A : Type 0} (Is : Result (A × Change) Rule → Type 0) (answer_of : A → Answer) (before after : PlaceBook) where
+module _ {A : Type 0} (Is : Result (A × List BookChange) Rule → Type 0) (answer_of : A → Answer) (before after : PlaceBook) where
   pub made_alone : (one : A) → IsDoneTo Is before after (Ok one)
       → IsChange (IsMade Is answer_of before) before (Ok (answer_of one, after))
-  made_alone one (change, is, updated) = (
-    change ∷ [],
-    record { one = Ok (one, change); is = is; told_is = refl; effect_is = refl },
-    one_changed change.sheet change.updates before after updated,
-  )
+  made_alone one (changes, is, made) =
+      (changes, record { one = Ok (one, changes); is = is; told_is = refl; effect_is = refl }, made)
 
   pub refused_alone : (fault : RuleOr) → IsUnlessNoMemory (IsDoneTo Is before after) (Err fault)
       → IsUnlessNoMemory (IsChange (IsMade Is answer_of before) before) (Err fault)
@@ -166,16 +163,16 @@ read_done range dimension render book found text shown resolves text_of shown_if
 
 -- ---- clears
 
-pub emptied_done : (range : List ℕ) (book after : PlaceBook) (found : FoundArea) (text : List ℕ)
+pub emptied_done : UpdatesAreChanges → (range : List ℕ) (book after : PlaceBook) (found : FoundArea) (text : List ℕ)
     → Resolves range book.sheets (Ok found)
     → IsSomeAnd (place_sheet_with found.0.sheet book.sheets) (λ sheet. text ≡ area_text sheet found.0)
     → AreUpdated found.0.sheet (cleared found.0) book after → IsDoneTo (IsCleared book (Ok range)) book after (Ok text)
-emptied_done range book after found text resolves text_of updated =
+emptied_done are range book after found text resolves text_of updated =
     let (sheet, is, text_is) = some_and (λ (sheet : PlaceSheet). text ≡ area_text sheet found.0)
     (place_sheet_with found.0.sheet book.sheets) text_of in (
-      record { sheet = found.0.sheet; updates = cleared found.0 },
+      cells_updated found.0.sheet (cleared found.0),
       done found sheet resolves is (ap (λ told. as_cleared told found.0) text_is),
-      updated,
+      update_made are found.0.sheet (cleared found.0) book after updated,
     )
 
 -- ---- writes
@@ -235,13 +232,13 @@ module _ (book after : PlaceBook) (block : Block) (area : Area) (one_cell : Bool
       stays_there area.sheet (contents_of writes.entries) wrote.area book.sheets after.sheets writes.updated.places.sheets
       there
 
-  pub put_done : (wrote : Written) (update : UpdateAnswer)
+  pub put_done : UpdatesAreChanges → (wrote : Written) (update : UpdateAnswer)
       → IsSomeAnd (place_sheet_with area.sheet book.sheets)
       (λ sheet. IsUnlessNoMemory (IsWrite one_cell area block sheet book after) (Ok wrote))
       → IsSomeAnd (place_sheet_with wrote.area.sheet after.sheets) (λ sheet. update ≡ update_of after sheet wrote)
       → IsSomeAnd (place_sheet_with area.sheet book.sheets)
       (λ sheet. IsUnlessNoMemory (IsDoneTo (IsUpdate book block (area, one_cell) sheet) book after) (Ok (update, wrote)))
-  put_done wrote update writes_it told =
+  put_done are wrote update writes_it told =
       let (sheet, is, writes) = some_and (Writes (Ok wrote)) (place_sheet_with area.sheet book.sheets) writes_it in
       let updates = contents_of writes.entries in
       let (now, is_now, same) = kept_sheet area.sheet updates area.sheet book.sheets after.sheets
@@ -252,12 +249,12 @@ module _ (book after : PlaceBook) (block : Block) (area : Area) (one_cell : Bool
       let told_is = told_now ∙ told_same area.sheet updates book after sheet now wrote writes.updated.places.id same in
       subst (λ one. IsSomeAnd one (λ (sheet : PlaceSheet). IsUnlessNoMemory
       (IsDoneTo (IsUpdate book block (area, one_cell) sheet) book after) (Ok (update, wrote)))) (sym is) (
-        record { sheet = area.sheet; updates = updates },
+        cells_updated area.sheet updates,
         record {
           after = after;
           wrote = Ok wrote;
           writes = writes;
           tells = ap (λ one. as_written one wrote area.sheet updates) told_is;
         },
-        writes.updated,
+        update_made are area.sheet updates book after writes.updated,
       )

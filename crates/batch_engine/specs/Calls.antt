@@ -9,6 +9,7 @@ use Rattle.grid_range.specs.declared.axis.Axis.{Axis}
 use Rattle.grid_range.specs.declared.axis.Axis.TheVariants.{Rows, Columns}
 use Rattle.cell_value.specs.declared.cell.Render.{Render}
 use Rattle.world_model.specs.Book.{PlaceBook}
+use Rattle.world_model.specs.BookChange.{AreChanges, BookChange}
 use Rattle.dimension_ops.specs.ByName.{ReplacesByName}
 use Rattle.dimension_ops.specs.World.{book_with}
 use Rattle.dimension_ops.specs.declared.rule.Rule.{Rule}
@@ -25,11 +26,13 @@ use Rattle.sheets_json.specs.declared.call.RangeBlock.{RangeBlock}
 use Rattle.sheets_json.specs.declared.call.ValueRange.{ValueRange}
 use Rattle.sheets_json.specs.declared.place.Place.{Place}
 use Rattle.sheets_json.specs.declared.place.Place.TheVariants as place
+use Rattle.sheets_json.specs.declared.request.Step.{Step}
 use Rattle.sheets_json.specs.Reading.{Reading}
-use Rattle.batch_engine.specs.Effects.{AreChanged, Change, Effect, IsNext}
+use Rattle.batch_engine.specs.Effects.{Effect, IsNext}
 use Rattle.batch_engine.specs.Effects.Effect.{Nothing, Changes}
 use Rattle.batch_engine.specs.Looks.{looked}
 use Rattle.batch_engine.specs.Members.{InOrder, InTurn, Told}
+use Rattle.batch_engine.specs.Requests.{IsRequested}
 use Rattle.batch_engine.specs.Values.{IsCleared, IsShown, IsUpdated, IsWritten, Wrote}
 use Rattle.batch_engine.specs.declared.calls.Outcome.{Outcome}
 use Rattle.batch_engine.specs.declared.calls.Outcome.TheVariants as outcome
@@ -58,13 +61,13 @@ abbrev pub answered_by : {A : Type 0} → (A → Answer) → Result A Rule → R
 answered_by answer_of (Ok one) = Ok (answer_of one)
 answered_by answer_of (Err broken) = Err broken
 
--- what is told of it and its change
-abbrev pub told_of : {A : Type 0} → Result (A × Change) Rule → Result A Rule
-told_of (Ok (one, change)) = Ok one
+-- what is told of it, without its changes
+abbrev pub told_of : {A : Type 0} → Result (A × List BookChange) Rule → Result A Rule
+told_of (Ok (one, changes)) = Ok one
 told_of (Err broken) = Err broken
 
-abbrev pub effect_on : {A : Type 0} → PlaceBook → Result (A × Change) Rule → Effect
-effect_on book (Ok (one, change)) = Changes book.id (change ∷ [])
+abbrev pub effect_on : {A : Type 0} → PlaceBook → Result (A × List BookChange) Rule → Effect
+effect_on book (Ok (one, changes)) = Changes book.id changes
 effect_on book (Err broken) = Nothing
 
 -- something is shown
@@ -76,9 +79,9 @@ pub record IsSeen {A : Type 0} (Is : Result A Rule → Type 0) (answer_of : A �
   pub nothing : effect ≡ Nothing
 
 -- something is done, and changes the spreadsheet
-pub record IsMade {A : Type 0} (Is : Result (A × Change) Rule → Type 0) (answer_of : A → Answer) (book : PlaceBook)
+pub record IsMade {A : Type 0} (Is : Result (A × List BookChange) Rule → Type 0) (answer_of : A → Answer) (book : PlaceBook)
     (told : Result Answer Rule) (effect : Effect) : Type 0 where
-  pub one : Result (A × Change) Rule
+  pub one : Result (A × List BookChange) Rule
   pub is : Is one
   pub told_is : told ≡ answered_by answer_of (told_of one)
   pub effect_is : effect ≡ effect_on book one
@@ -99,7 +102,7 @@ abbrev pub answered_at : {A : Type 0} → (ℕ → Place) → (List A → Answer
 answered_at at answer_of (Ok all) = Ok (answer_of all)
 answered_at at answer_of (Err (number, broken)) = Err (at number, broken)
 
-abbrev pub effect_of : {A : Type 0} → PlaceBook → Told A → List Change → Effect
+abbrev pub effect_of : {A : Type 0} → PlaceBook → Told A → List BookChange → Effect
 effect_of book (Ok all) changes = Changes book.id changes
 effect_of book (Err refused_at) changes = Nothing
 
@@ -112,11 +115,11 @@ pub record IsReadManyOf (ranges : List (List ℕ)) (dimension : Option Axis) (re
   pub nothing : effect ≡ Nothing
 
 -- members are done one after another, or none is
-pub record AreMade {M A : Type 0} (Is : PlaceBook → M → Result (A × Change) Rule → Type 0) (members : List M)
+pub record AreMade {M A : Type 0} (Is : PlaceBook → M → Result (A × List BookChange) Rule → Type 0) (members : List M)
     (at : ℕ → Place) (answer_of : List A → Answer) (book : PlaceBook) (told : Result Answer Refusal) (effect : Effect)
     : Type 0 where
   pub all : Told A
-  pub changes : List Change
+  pub changes : List BookChange
   pub each : InTurn Is 0 members book all changes
   pub told_is : told ≡ answered_at at answer_of all
   pub effect_is : effect ≡ effect_of book all changes
@@ -146,6 +149,13 @@ written_answer book writes =
 abbrev pub IsWriteManyOf : List (Reading RangeBlock) → PlaceBook → Result Answer Refusal → Effect → Type 0
 IsWriteManyOf blocks book = AreMade IsUpdated blocks place.Data (written_answer book) book
 
+-- ---- batches
+
+-- requests are done one after another, or none is
+abbrev pub IsBatchOf : List Step → PlaceBook → Result Answer Refusal → Effect → Type 0
+IsBatchOf requests book =
+    AreMade IsRequested requests place.Requests (λ replies. answer.Batch replies book.id) book
+
 -- ---- calls
 
 -- what holds of the spreadsheet with the id, which is there
@@ -159,6 +169,8 @@ IsLookOf grids book told effect = (told ≡ looked grids book) × (effect ≡ No
 -- a call is answered so, or breaks that rule there, and makes that of the spreadsheets; no other call is done yet
 abbrev pub IsAnswered : Call → List PlaceBook → Result Answer Refusal → Effect → Type 0
 IsAnswered (call.Get id grids) books told effect = OnBook id books (λ book. IsLookOf grids book told effect)
+IsAnswered (call.Batch id requests) books told effect =
+    OnBook id books (λ book. IsBatchOf requests book told effect)
 IsAnswered (call.Read id range dimension render) books told effect =
     OnBook id books (λ book. IsAlone (IsReadOf range dimension render book) told effect)
 IsAnswered (call.Write id range mode values) books told effect =
@@ -176,6 +188,7 @@ IsAnswered _ books told effect = (told ≡ Err (place.Alone, rule.Unsupported)) 
 -- the spreadsheet that a call is on is there
 abbrev pub HasItsBook : Call → List PlaceBook → Type 0
 HasItsBook (call.Get id grids) books = IsSome (book_with id books)
+HasItsBook (call.Batch id requests) books = IsSome (book_with id books)
 HasItsBook (call.Read id range dimension render) books = IsSome (book_with id books)
 HasItsBook (call.Write id range mode values) books = IsSome (book_with id books)
 HasItsBook (call.Clear id range) books = IsSome (book_with id books)
@@ -203,7 +216,7 @@ pub record IsApplied (called : Call) (books : List PlaceBook) (told : Outcome) (
 abbrev pub IsChange : {Broken : Type 0} → (Result Answer Broken → Effect → Type 0) → PlaceBook
     → Result (Answer × PlaceBook) Broken → Type 0
 IsChange Answered before (Ok (told, after)) =
-    (changes : List Change) × Answered (Ok told) (Changes before.id changes) × AreChanged changes before after
+    (changes : List BookChange) × Answered (Ok told) (Changes before.id changes) × AreChanges changes before after
 IsChange Answered before (Err broken) = Answered (Err broken) Nothing
 
 -- a changed spreadsheet takes the place of the one that has its id; where a rule is broken nothing does

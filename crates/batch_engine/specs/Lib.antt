@@ -2,6 +2,9 @@ pub mod Effects
 pub mod Ranges
 pub mod Members
 pub mod Values
+pub mod Rows
+pub mod UpdateCells
+pub mod Requests
 pub mod Looks
 pub mod Calls
 pub mod Laws

@@ -1,10 +1,9 @@
 -- Calls on a list, whose members are judged one after another: the first that breaks a rule refuses the call, and is
 -- named by its place.
-use Rattle.std.specs.Prelude.{◌≡◌, ℕ, ◌+◌, List, [], ◌∷◌, Result, Ok, Err, IfOk}
+use Rattle.std.specs.Prelude.{◌≡◌, ℕ, ◌+◌, ◌++◌, List, [], ◌∷◌, Result, Ok, Err, IfOk}
 use Rattle.world_model.specs.Book.{PlaceBook}
+use Rattle.world_model.specs.BookChange.{AreChanges, BookChange}
 use Rattle.dimension_ops.specs.declared.rule.Rule.{Rule}
-use Rattle.values_api.specs.Updates.{AreUpdated}
-use Rattle.batch_engine.specs.Effects.{AreChanged, Change}
 
 -- what is told of members: of each of them, or the place of the first that breaks a rule, and the rule
 abbrev pub Told : Type 0 → Type 0
@@ -26,33 +25,32 @@ InOrder Is at (member ∷ members) told =
     (one : Result _ Rule) × Is member one × Then at one (InOrder Is (at + 1) members) told
 
 -- behind a member that changes the spreadsheet those after it are judged on what it leaves
-abbrev pub ThenOn : {A : Type 0} → ℕ → Result (A × Change) Rule → (PlaceBook → Told A → List Change → Type 0)
-    → PlaceBook → Told A → List Change → Type 0
-ThenOn at (Ok (first, change)) IsRest before told changes =
-    (between : PlaceBook) × (rest : Told _) × (others : List Change)
-    × AreUpdated change.sheet change.updates before between × IsRest between rest others
-    × (told ≡ with_first first rest) × (changes ≡ change ∷ others)
+abbrev pub ThenOn : {A : Type 0} → ℕ → Result (A × List BookChange) Rule → (PlaceBook → Told A → List BookChange → Type 0)
+    → PlaceBook → Told A → List BookChange → Type 0
+ThenOn at (Ok (first, made)) IsRest before told changes =
+    (between : PlaceBook) × (rest : Told _) × (others : List BookChange) × AreChanges made before between
+    × IsRest between rest others × (told ≡ with_first first rest) × (changes ≡ made ++ others)
 ThenOn at (Err broken) IsRest before told changes = (told ≡ Err (at, broken)) × (changes ≡ [])
 
 -- such members from a place on, in order, and what they make of the spreadsheet
-abbrev pub InTurn : {M A : Type 0} → (PlaceBook → M → Result (A × Change) Rule → Type 0) → ℕ → List M → PlaceBook
-    → Told A → List Change → Type 0
+abbrev pub InTurn : {M A : Type 0} → (PlaceBook → M → Result (A × List BookChange) Rule → Type 0) → ℕ → List M → PlaceBook
+    → Told A → List BookChange → Type 0
 InTurn Is at [] before told changes = (told ≡ Ok []) × (changes ≡ [])
 InTurn Is at (member ∷ members) before told changes =
-    (one : Result (_ × Change) Rule) × Is before member one
+    (one : Result (_ × List BookChange) Rule) × Is before member one
     × ThenOn at one (InTurn Is (at + 1) members) before told changes
 
 -- ---- what the private functions hand to one another
 
 -- one member is done on the spreadsheet, which becomes the one after it unless a rule is broken
-abbrev pub IsDoneTo : {A : Type 0} → (Result (A × Change) Rule → Type 0) → PlaceBook → PlaceBook → Result A Rule → Type 0
+abbrev pub IsDoneTo : {A : Type 0} → (Result (A × List BookChange) Rule → Type 0) → PlaceBook → PlaceBook → Result A Rule → Type 0
 IsDoneTo Is before after (Ok one) =
-    (change : Change) × Is (Ok (one, change)) × AreUpdated change.sheet change.updates before after
+    (changes : List BookChange) × Is (Ok (one, changes)) × AreChanges changes before after
 IsDoneTo Is before after (Err broken) = Is (Err broken)
 
 -- and members, one after another, up to the first that breaks a rule
-pub record AreDone {M A : Type 0} (Is : PlaceBook → M → Result (A × Change) Rule → Type 0) (members : List M)
+pub record AreDone {M A : Type 0} (Is : PlaceBook → M → Result (A × List BookChange) Rule → Type 0) (members : List M)
     (before after : PlaceBook) (told : Told A) : Type 0 where
-  pub changes : List Change
+  pub changes : List BookChange
   pub each : InTurn Is 0 members before told changes
-  pub becomes : IfOk told (λ all. AreChanged changes before after)
+  pub becomes : IfOk told (λ all. AreChanges changes before after)

@@ -10,6 +10,7 @@ use Rattle.cell_value.specs.declared.cell.Block.{Block}
 use Rattle.cell_value.specs.declared.cell.Render.{Render}
 use Rattle.cell_value.specs.declared.cell.Render.TheVariants.{Formatted}
 use Rattle.world_model.specs.Book.{PlaceBook}
+use Rattle.world_model.specs.BookChange.{BookChange}
 use Rattle.world_model.specs.Sheet.{PlaceSheet}
 use Rattle.world_model.specs.Sound.{place_sheet_with}
 use Rattle.dimension_ops.specs.declared.rule.Rule.{Rule}
@@ -27,7 +28,7 @@ use Rattle.sheets_json.specs.declared.call.RangeBlock.{RangeBlock}
 use Rattle.sheets_json.specs.declared.call.ValueRange.{ValueRange}
 use Rattle.sheets_json.specs.declared.fault.ShapeFault.{ShapeFault}
 use Rattle.sheets_json.specs.declared.fault.ShapeFault.TheVariants as fault
-use Rattle.batch_engine.specs.Effects.{Change}
+use Rattle.batch_engine.specs.Effects.{cells_updated}
 use Rattle.batch_engine.specs.Ranges.{IsTarget}
 
 -- what is on the cells of a range is done there, or refused by the rule that the range breaks
@@ -79,12 +80,12 @@ IsShown dimension render book range = OnRange (Resolves range book.sheets) book.
 
 -- ---- clears
 
-abbrev pub IsClear : FoundArea → PlaceSheet → Result (List ℕ × Change) Rule → Type 0
+abbrev pub IsClear : FoundArea → PlaceSheet → Result (List ℕ × List BookChange) Rule → Type 0
 IsClear found sheet told =
-    told ≡ Ok (area_text sheet found.0, record { sheet = found.0.sheet; updates = cleared found.0 })
+    told ≡ Ok (area_text sheet found.0, cells_updated found.0.sheet (cleared found.0))
 
 -- the range as text, and its cells emptied; a text whose shape is broken is no range
-abbrev pub IsCleared : PlaceBook → Reading (List ℕ) → Result (List ℕ × Change) Rule → Type 0
+abbrev pub IsCleared : PlaceBook → Reading (List ℕ) → Result (List ℕ × List BookChange) Rule → Type 0
 IsCleared book (Ok range) told = OnRange (Resolves range book.sheets) book.sheets IsClear told
 IsCleared book (Err shape) told = told ≡ Err (rule_of shape)
 
@@ -105,25 +106,25 @@ Wrote = UpdateAnswer × Written
 
 -- the values are written, or a rule is broken
 pub record IsUpdate (book : PlaceBook) (block : Block) (found : FoundArea) (sheet : PlaceSheet)
-    (told : Result (Wrote × Change) Rule) : Type 0 where
+    (told : Result (Wrote × List BookChange) Rule) : Type 0 where
   pub after : PlaceBook
   pub wrote : Result Written Rule
   pub writes : IsWrite found.1 found.0 block sheet book after wrote
   pub tells : MatchResult wrote
       (λ counts. told ≡ Ok (
         (update_of book sheet counts, counts),
-        record { sheet = found.0.sheet; updates = contents_of writes.entries },
+        cells_updated found.0.sheet (contents_of writes.entries),
       ))
       (λ broken. told ≡ Err broken)
 
 -- values for a range are written; those whose shape is broken are refused whatever the range is
-abbrev pub IsWritten : List ℕ → PlaceBook → Reading ValueRange → Result (Wrote × Change) Rule → Type 0
+abbrev pub IsWritten : List ℕ → PlaceBook → Reading ValueRange → Result (Wrote × List BookChange) Rule → Type 0
 IsWritten range book (Ok values) told =
     OnRange (IsTarget range values.range book.sheets) book.sheets (IsUpdate book values.block) told
 IsWritten range book (Err shape) told = told ≡ Err (rule_of shape)
 
 -- and those that say their range
-abbrev pub IsUpdated : PlaceBook → Reading RangeBlock → Result (Wrote × Change) Rule → Type 0
+abbrev pub IsUpdated : PlaceBook → Reading RangeBlock → Result (Wrote × List BookChange) Rule → Type 0
 IsUpdated book (Ok values) told =
     OnRange (Resolves values.range book.sheets) book.sheets (IsUpdate book values.block) told
 IsUpdated book (Err shape) told = told ≡ Err (rule_of shape)

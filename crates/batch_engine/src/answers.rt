@@ -14,6 +14,7 @@ use grid_range::{Area, Axis};
 use sheets_json::{Answer, RangeBlock, ShapeFault, ShownRange, Update, ValueRange};
 use std::alloc::Global;
 use values_api::{Written, clear_values, range_text, read_values, resolve, write_values};
+use world_model::updates_are_changes;
 
 /// What a read of a range is answered.
 pub(crate) fn read(
@@ -82,6 +83,7 @@ pub(crate) fn emptied(
 ) -> Result<Text, RuleOr>
     ensures { IsUnlessNoMemory (IsDoneTo (IsCleared book.old (Rattle.std.specs.Prelude.Ok range.now)) book.old book.new) result }
 {
+    updates_are_changes();
     let (area, _) = resolve(alloc, book, range)?;
     let text = range_text(alloc, book, &area)?;
     clear_values(book, user, &area)?;
@@ -153,6 +155,7 @@ fn put(
     ensures { IsSomeAnd (place_sheet_with area.now.sheet book.old.sheets) (λ sheet. IsUnlessNoMemory
         (IsDoneTo (IsUpdate book.old block.now (area.now, one_cell) sheet) book.old book.new) result) }
 {
+    updates_are_changes();
     let written = write_values(alloc, book, user, area, one_cell, block)?;
     Ok((update_of(alloc, book, &written)?, written))
 }

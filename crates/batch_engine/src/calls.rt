@@ -5,6 +5,7 @@ ghost use Rattle.dimension_ops.specs.World.{book_with};
 ghost use Rattle.batch_engine.specs.Calls.{HasItsBook, IsApplied, IsInstalled, alone, told_as, as_told};
 
 use crate::answers::{clear, read, write};
+use crate::batch::batch;
 use crate::lists::{Refusal, clear_many, read_many, write_many};
 use crate::looks::look;
 use cell_value::{Duplicate, NoMemory, Text};
@@ -46,9 +47,11 @@ pub struct Applied {
 }
 
 /// Makes a call on the spreadsheets, which stay as they are: what they are after it is told. Looks at
-/// a spreadsheet, and reads, writes and clears of one range and of a list of them are done (Sheets API v4
-/// reference, spreadsheets.get and spreadsheets.values); any other call is refused as [`Rule::Unsupported`]. A list is done in its order,
-/// and its first member that breaks a rule refuses the call.
+/// a spreadsheet, batches of requests, and reads, writes and clears of one range and of a list of them are
+/// done (Sheets API v4 reference, spreadsheets.get, spreadsheets.batchUpdate and spreadsheets.values); any
+/// other call is refused as [`Rule::Unsupported`], and so is a request of a kind that isn't done. A batch
+/// and a list are done in their order, each member on what those before it leave, and the first member that
+/// breaks a rule refuses the call.
 ///
 /// # Errors
 ///
@@ -111,6 +114,11 @@ pub fn apply(
             let book = book_of(world, id.as_str());
             let user = caller.user.as_str();
             changed(world, clear_many(alloc, book, user, ranges.as_slice())?)
+        }
+        Call::Batch { id, requests } => {
+            let book = book_of(world, id.as_str());
+            let user = caller.user.as_str();
+            changed(world, batch(alloc, book, user, requests.as_slice())?)
         }
         Call::Get {
             id,

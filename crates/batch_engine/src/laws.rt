@@ -3,7 +3,8 @@
 ghost use Rattle.batch_engine.specs.Laws.{CallsAnsweredOnce};
 
 use a1_notation::a1_laws;
-use values_api::{updates_once, writes_once};
+use values_api::writes_once;
+use world_model::{changes_apart, changes_in_turn};
 
 /// A call has one answer and one effect on given spreadsheets.
 pub fn calls_answered_once()
@@ -11,5 +12,6 @@ pub fn calls_answered_once()
 {
     a1_laws();
     writes_once();
-    updates_once();
+    changes_apart();
+    changes_in_turn();
 }

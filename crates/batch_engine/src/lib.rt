@@ -3,7 +3,9 @@
 #![tactic(auto)]
 
 mod answers;
+mod batch;
 mod calls;
+mod kinds;
 mod laws;
 mod lists;
 mod looks;

@@ -14,6 +14,7 @@ use grid_range::Axis;
 use sheets_json::{Answer, Place, RangeBlock, ShapeFault, ShownRange, Update};
 use std::alloc::Global;
 use values_api::Written;
+use world_model::changes_in_turn;
 
 /// Where in a call a rule is broken, and which.
 pub(crate) type Refusal = (Place, Rule);
@@ -89,6 +90,7 @@ fn all_cleared(
 ) -> Result<Result<Items<Text>, (usize, Rule)>, NoMemory>
     ensures { IfOk result (AreDone IsCleared ranges.now book.old book.new) }
 {
+    changes_in_turn();
     let mut cleared = Vec::new(alloc);
     for at in 0..ranges.len() {
         match judged(cleared_range(alloc, book, user, &ranges[at]))? {
@@ -140,6 +142,7 @@ fn all_written(
 ) -> Result<Result<Items<(Update, Written)>, (usize, Rule)>, NoMemory>
     ensures { IfOk result (AreDone IsUpdated blocks.now book.old book.new) }
 {
+    changes_in_turn();
     let mut writes = Vec::new(alloc);
     for at in 0..blocks.len() {
         match judged(updated(alloc, book, user, &blocks[at]))? {

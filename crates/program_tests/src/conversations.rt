@@ -1,3 +1,4 @@
+use crate::batches::BATCHES;
 use crate::common::check;
 use crate::rows::{
     CHANGES, CONVERSATIONS, Conversation, Exchange, FORMULAS, LIMITS, LISTS, LOOKS, NO_CALLS,
@@ -134,6 +135,13 @@ fn reads_and_clears_several_ranges(rt: HostRuntime) {
 #[test]
 fn shows_spreadsheets(rt: HostRuntime) {
     for row in &LOOKS {
+        check(&rt, &row.3, is_answered(&rt, row));
+    }
+}
+
+#[test]
+fn does_batches(rt: HostRuntime) {
+    for row in &BATCHES {
         check(&rt, &row.3, is_answered(&rt, row));
     }
 }

@@ -77,11 +77,11 @@ pub(crate) type Exchange = (
     &'static str,
 );
 
-const OK: &str = "200 OK";
+pub(crate) const OK: &str = "200 OK";
 
-const NOT_FOUND: &str = "404 Not Found";
+pub(crate) const NOT_FOUND: &str = "404 Not Found";
 
-const BAD_REQUEST: &str = "400 Bad Request";
+pub(crate) const BAD_REQUEST: &str = "400 Bad Request";
 
 const CLOSE: &str = "Connection: close\r\n";
 
@@ -103,9 +103,9 @@ pub(crate) static NO_CALLS: [Exchange; 18] = [
             "Content-Length: 2\r\n",
             "{}",
         )],
-        NOT_FOUND,
+        BAD_REQUEST,
         "",
-        "{\"error\":{\"code\":404,\"message\":\"NoRoute\",\"status\":\"NOT_FOUND\"}}",
+        "{\"error\":{\"code\":400,\"message\":\"BadBody\",\"status\":\"INVALID_ARGUMENT\"}}",
     ),
     (
         &[(

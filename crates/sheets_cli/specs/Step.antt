@@ -34,9 +34,11 @@ use Rattle.sheets_cli.specs.declared.fault.Fault.TheVariants as fault
 
 -- ---- what is served
 
--- looks at a spreadsheet, and reads, writes and clears of one range and of a list of them are served
+-- looks at a spreadsheet, batches of requests, and reads, writes and clears of one range and of a list of them are
+-- served
 abbrev pub is_served : Verb → Bool
 is_served verb.Get = true
+is_served verb.Batch = true
 is_served verb.Read = true
 is_served verb.ReadMany = true
 is_served verb.Write = true

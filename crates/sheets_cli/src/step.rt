@@ -82,6 +82,7 @@ fn is_served(verb: Verb) -> bool
     matches!(
         verb,
         Verb::Get
+            | Verb::Batch
             | Verb::Read
             | Verb::ReadMany
             | Verb::Write

@@ -4,7 +4,7 @@ use Rattle.std.specs.Option.{IsSome}
 use Rattle.dimension_ops.specs.World.{book_with}
 use Rattle.dimension_ops.specs.declared.rule.Rule.TheVariants as rule
 use Rattle.sheets_json.specs.declared.place.Place.TheVariants as place
-use Rattle.batch_engine.specs.Calls.{IsAnswered, IsApplied, IsClearManyOf, IsInstalled, IsWriteManyOf, told_as}
+use Rattle.batch_engine.specs.Calls.{IsAnswered, IsApplied, IsBatchOf, IsClearManyOf, IsInstalled, IsWriteManyOf, told_as}
 use Rattle.batch_engine.proofs.Installed.{applied_unchanged, if_ok, other_answered, read_applied, read_judged}
 use Rattle.batch_engine.proofs.Installed.{applied_change, change_there, look_applied, write_there, write_applied, clear_there, clear_applied}
 use Rattle.batch_engine.proofs.calls.apply.Goals as goal
@@ -86,6 +86,23 @@ returns-in_ok-write_many-in-WriteMany c =
     c.in_ok-write_many-in-WriteMany.field-0 applied.outcome applied.next
     (rw c.as_slice-in-WriteMany.ensures at c.in_ok-write_many-in-WriteMany.ensures) installed) c.changed-in-WriteMany.ensures
 
+pub changed-requires-in-Batch : goal.changed-requires-in-Batch
+changed-requires-in-Batch c =
+    change_there c.args.call.now _ c.args.world.now (IsBatchOf c.in-Batch.requests)
+    (λ answered effect holds. subst (λ one. IsAnswered one c.args.world.now answered effect) (sym c.in-Batch.is) holds)
+    c.book_of-book-in-Batch.result.now (rw c.as_str-in-Batch.ensures at c.book_of-book-in-Batch.ensures)
+    c.in_ok-batch-in-Batch.field-0 (rw c.as_slice-in-Batch.ensures at c.in_ok-batch-in-Batch.ensures)
+
+pub returns-in_ok-batch-in-Batch : goal.returns-in_ok-batch-in-Batch
+returns-in_ok-batch-in-Batch c =
+    if_ok (λ applied. IsInstalled c.args.world.now c.in_ok-batch-in-Batch.field-0 applied.outcome applied.next)
+    (λ applied. IsApplied c.args.call.now c.args.world.now applied.outcome applied.next) c.changed-in-Batch.result
+    (λ applied installed. applied_change c.args.call.now _ c.args.world.now (IsBatchOf c.in-Batch.requests)
+    (λ answered effect holds. subst (λ one. IsAnswered one c.args.world.now answered effect) (sym c.in-Batch.is) holds)
+    c.book_of-book-in-Batch.result.now (rw c.as_str-in-Batch.ensures at c.book_of-book-in-Batch.ensures)
+    c.in_ok-batch-in-Batch.field-0 applied.outcome applied.next
+    (rw c.as_slice-in-Batch.ensures at c.in_ok-batch-in-Batch.ensures) installed) c.changed-in-Batch.ensures
+
 pub returns-in_ok-look-in-Get : goal.returns-in_ok-look-in-Get
 returns-in_ok-look-in-Get c =
     look_applied c.args.world.now c.book_of-book-in-Get.result.now c.args.call.now c.unchanged-in-Get.result.outcome
@@ -97,6 +114,6 @@ pub returns-in_default : goal.returns-in_default
 returns-in_default c =
     applied_unchanged c.args.call.now c.args.world.now (Err (place.Alone, rule.Unsupported))
     c.unchanged-in_default.result.outcome c.unchanged-in_default.result.next
-    (other_answered c.args.call.now c.args.world.now c.in_default.not-Get c.in_default.not-Read c.in_default.not-Write c.in_default.not-Clear
+    (other_answered c.args.call.now c.args.world.now c.in_default.not-Get c.in_default.not-Batch c.in_default.not-Read c.in_default.not-Write c.in_default.not-Clear
     c.in_default.not-ReadMany c.in_default.not-WriteMany c.in_default.not-ClearMany)
     c.unchanged-in_default.ensures.outcome c.unchanged-in_default.ensures.next

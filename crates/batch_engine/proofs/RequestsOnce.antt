@@ -1,0 +1,59 @@
+-- A request on a given spreadsheet has one reply and makes one list of changes.
+use Rattle.std.proofs.Common.{◌≡◌, true, false, sym, ◌∙◌, List, []}
+use Rattle.std.specs.Prelude.{Result, Err}
+use Rattle.cell_value.specs.declared.cell.Block.{Block}
+use Rattle.world_model.specs.Book.{PlaceBook}
+use Rattle.world_model.specs.BookChange.{BookChange}
+use Rattle.world_model.specs.ChangingLaws.{ChangesApart, ChangesInTurn}
+use Rattle.world_model.specs.Sound.{IsSound}
+use Rattle.dimension_ops.specs.declared.rule.Rule.{Rule}
+use Rattle.values_api.specs.Laws.{WritesOnce}
+use Rattle.sheets_json.specs.declared.request.Request.{Request}
+use Rattle.sheets_json.specs.declared.request.Request.TheVariants as request
+use Rattle.sheets_json.specs.declared.request.Step.{Step}
+use Rattle.sheets_json.specs.declared.request.Step.TheVariants as step
+use Rattle.sheets_json.specs.declared.request.UpdatedArea.{UpdatedArea}
+use Rattle.sheets_json.specs.declared.request.UpdatedArea.TheVariants.{Start, Range}
+use Rattle.sheets_json.specs.declared.spreadsheet.Reply.{Reply}
+use Rattle.batch_engine.specs.Requests.{IsDoneAsAsked, IsRequested}
+use Rattle.batch_engine.specs.Rows.{AreRowsWritten, area_or_broken}
+use Rattle.batch_engine.specs.UpdateCells.{IsUpdateCells, area_emptied, area_from}
+use Rattle.batch_engine.proofs.RowsOnce.{on_area_once, rows_once}
+
+-- one thing is told
+abbrev IsOne : (Result (Reply × List BookChange) Rule → Type 0) → Type 0
+IsOne Is = (told told' : Result (Reply × List BookChange) Rule) → Is told → Is told' → told ≡ told'
+
+refused_once : (broken : Rule) → IsOne (λ told. told ≡ Err broken)
+refused_once broken told told' is is' = is ∙ sym is'
+
+module _ (writes : WritesOnce) (apart : ChangesApart) (turns : ChangesInTurn) (book : PlaceBook) (sound : IsSound book) where
+  update_cells_once : (rows : Block) (area : UpdatedArea) → IsOne (IsUpdateCells rows area book)
+  update_cells_once rows (Start cell) =
+      on_area_once (AreRowsWritten [] rows true book)
+      (λ area. rows_once writes apart turns [] rows true area book sound)
+      (area_or_broken book.sheets (area_from cell))
+  update_cells_once rows (Range range) =
+      on_area_once (λ area. AreRowsWritten (area_emptied area) rows false book area)
+      (λ area. rows_once writes apart turns (area_emptied area) rows false area book sound)
+      (area_or_broken book.sheets range)
+
+  asked_once : (asked : Request) → IsOne (IsDoneAsAsked book asked)
+  asked_once (request.UpdateCells rows area) = update_cells_once rows area
+  asked_once (request.AddSheet properties) = refused_once _
+  asked_once (request.DeleteSheet sheet) = refused_once _
+  asked_once (request.UpdateSheetProperties sheet properties) = refused_once _
+  asked_once (request.AppendCells sheet rows) = refused_once _
+  asked_once (request.InsertDimension range inherit) = refused_once _
+  asked_once (request.DeleteDimension range) = refused_once _
+  asked_once (request.AppendDimension sheet dimension length) = refused_once _
+  asked_once (request.MoveDimension source destination) = refused_once _
+  asked_once (request.MergeCells range type) = refused_once _
+  asked_once (request.UnmergeCells range) = refused_once _
+  asked_once (request.AddNamedRange range) = refused_once _
+  asked_once (request.UpdateNamedRange id name range) = refused_once _
+  asked_once (request.DeleteNamedRange id) = refused_once _
+
+  pub requested_once : (asked : Step) → IsOne (IsRequested book asked)
+  requested_once (step.Read asked) = asked_once asked
+  requested_once (step.Shape shape) = refused_once _

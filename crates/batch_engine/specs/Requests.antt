@@ -1,0 +1,25 @@
+-- A batch of requests (Google Sheets API v4 reference, spreadsheets.batchUpdate): each is done on what those before it
+-- leave, and the first that breaks a rule refuses all of them. Each kind of request says its reply, what it changes and
+-- the rules that it breaks in a file of its own.
+use Rattle.std.specs.Prelude.{◌≡◌, List, Result, Err}
+use Rattle.world_model.specs.Book.{PlaceBook}
+use Rattle.world_model.specs.BookChange.{BookChange}
+use Rattle.dimension_ops.specs.declared.rule.Rule.{Rule}
+use Rattle.dimension_ops.specs.declared.rule.Rule.TheVariants as rule
+use Rattle.sheets_json.specs.declared.request.Request.{Request}
+use Rattle.sheets_json.specs.declared.request.Request.TheVariants as request
+use Rattle.sheets_json.specs.declared.request.Step.{Step}
+use Rattle.sheets_json.specs.declared.request.Step.TheVariants as step
+use Rattle.sheets_json.specs.declared.spreadsheet.Reply.{Reply}
+use Rattle.batch_engine.specs.UpdateCells.{IsUpdateCells}
+use Rattle.batch_engine.specs.Values.{rule_of}
+
+-- what a request is replied, or which rule it breaks, and what it changes; no other kind is done yet
+abbrev pub IsDoneAsAsked : PlaceBook → Request → Result (Reply × List BookChange) Rule → Type 0
+IsDoneAsAsked book (request.UpdateCells rows area) told = IsUpdateCells rows area book told
+IsDoneAsAsked book _ told = told ≡ Err rule.Unsupported
+
+-- a request whose shape is broken is refused in its turn
+abbrev pub IsRequested : PlaceBook → Step → Result (Reply × List BookChange) Rule → Type 0
+IsRequested book (step.Read asked) told = IsDoneAsAsked book asked told
+IsRequested book (step.Shape shape) told = told ≡ Err (rule_of shape)
