@@ -1,7 +1,7 @@
 -- A spreadsheet that is changed and takes the place of the one that has its id: by the names of lines this is the
 -- world after the call.
 use Rattle.std.proofs.Common.{◌≡◌, ℕ, suc, refl, sym, ap, subst, ◌∙◌, List, [], ◌∷◌, cond, Bool, true, false, arith}
-use Rattle.std.specs.Prelude.{Option, Some, None, ◌<◌, ◌≤◌}
+use Rattle.std.specs.Prelude.{Option, Some, None, ◌≤◌}
 use Rattle.std.specs.List.{All, AllZip}
 use Rattle.std.specs.Option.{option_map_or}
 use Rattle.std.specs.Str.{bytes_eq}

@@ -1,8 +1,7 @@
 -- A call on given spreadsheets has one answer and one effect.
-use Rattle.std.proofs.Common.{◌≡◌, ℕ, Bool, refl, sym, ap, subst, ◌∙◌, List, suc, [], ◌∷◌, cond, true, false, arith}
-use Rattle.std.specs.Prelude.{◌<◌, ◌+◌, Option, Some, None, IsSomeAnd, IfSome, Result, Ok, Err, MatchResult}
+use Rattle.std.proofs.Common.{◌≡◌, ℕ, Bool, sym, ap, subst, ◌∙◌, List, suc, [], ◌∷◌, cond, true, false, arith}
+use Rattle.std.specs.Prelude.{◌+◌, Option, Some, None, IsSomeAnd, IfSome, Result, Ok, Err, MatchResult}
 use Rattle.std.specs.List.{All}
-use Rattle.std.specs.Option.{IsSome}
 use Rattle.std.specs.Str.{bytes_eq}
 use Rattle.cell_value.specs.declared.cell.Block.{Block}
 use Rattle.cell_value.specs.declared.cell.Render.{Render}

@@ -1,6 +1,6 @@
 -- What is done on the cells of a range, or refused, from what each step says.
 use Rattle.std.proofs.Common.{◌≡◌, ℕ, Bool, true, false, cond, refl, sym, ap, subst, ◌∙◌, List, [], ◌∷◌, length}
-use Rattle.std.specs.Prelude.{Option, Some, None, IsSomeAnd, IfSome, Result, Ok, Err, ◌==◌, ⊤}
+use Rattle.std.specs.Prelude.{Option, Some, None, IsSomeAnd, IfSome, Result, Ok, Err, ◌==◌}
 use Rattle.std.specs.List.{AllZip}
 use Rattle.a1_notation.specs.Canonical.{canonical}
 use Rattle.cell_value.specs.declared.cell.Block.{Block}

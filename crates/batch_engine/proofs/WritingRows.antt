@@ -1,6 +1,6 @@
 -- Rows that are written, or refused, from what the write of their values says.
-use Rattle.std.proofs.Common.{◌≡◌, Bool, refl, List, ◌++◌}
-use Rattle.std.specs.Prelude.{Some, IsSomeAnd, Ok, Err}
+use Rattle.std.proofs.Common.{Bool, refl, List, ◌++◌}
+use Rattle.std.specs.Prelude.{IsSomeAnd, Ok, Err}
 use Rattle.cell_value.specs.declared.cell.Block.{Block}
 use Rattle.grid_range.specs.declared.area.Area.{Area}
 use Rattle.world_model.specs.Book.{PlaceBook}

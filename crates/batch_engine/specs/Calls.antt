@@ -1,6 +1,6 @@
 -- What a call is answered, and what it makes of the spreadsheets (Google Sheets API v4 reference,
 -- spreadsheets.get, spreadsheets.values.get, batchGet, update, batchUpdate, clear and batchClear).
-use Rattle.std.specs.Prelude.{◌≡◌, ℕ, Bool, ◌==◌, ◌&&◌, List, [], ◌∷◌, map, flat_map, Option, None, Some, Result, Ok, Err}
+use Rattle.std.specs.Prelude.{◌≡◌, ℕ, Bool, ◌==◌, ◌&&◌, List, map, flat_map, Option, None, Result, Ok, Err}
 use Rattle.std.specs.Prelude.{IsSomeAnd, ⊤}
 use Rattle.std.specs.List.{sum_by}
 use Rattle.std.specs.Option.{IsSome}
@@ -79,8 +79,8 @@ pub record IsSeen {A : Type 0} (Is : Result A Rule → Type 0) (answer_of : A �
   pub nothing : effect ≡ Nothing
 
 -- something is done, and changes the spreadsheet
-pub record IsMade {A : Type 0} (Is : Result (A × List BookChange) Rule → Type 0) (answer_of : A → Answer) (book : PlaceBook)
-    (told : Result Answer Rule) (effect : Effect) : Type 0 where
+pub record IsMade {A : Type 0} (Is : Result (A × List BookChange) Rule → Type 0) (answer_of : A → Answer)
+    (book : PlaceBook) (told : Result Answer Rule) (effect : Effect) : Type 0 where
   pub one : Result (A × List BookChange) Rule
   pub is : Is one
   pub told_is : told ≡ answered_by answer_of (told_of one)

@@ -1,6 +1,6 @@
 -- What is shown of a spreadsheet itself (Google Sheets API v4 reference, spreadsheets.get, Spreadsheet, Sheet and
 -- SheetProperties). None has merged cells or named ranges yet.
-use Rattle.std.specs.Prelude.{◌≡◌, ℕ, ◌+◌, Bool, false, if◌then◌else◌, List, [], ◌∷◌, Option, None, unwrap_or, Result, Ok, Err}
+use Rattle.std.specs.Prelude.{ℕ, ◌+◌, Bool, false, if◌then◌else◌, List, [], ◌∷◌, Option, None, unwrap_or, Result, Ok, Err}
 use Rattle.world_model.specs.Book.{PlaceBook}
 use Rattle.world_model.specs.Sheet.{PlaceSheet}
 use Rattle.dimension_ops.specs.declared.rule.Rule.{Rule}

@@ -25,16 +25,16 @@ InOrder Is at (member ∷ members) told =
     (one : Result _ Rule) × Is member one × Then at one (InOrder Is (at + 1) members) told
 
 -- behind a member that changes the spreadsheet those after it are judged on what it leaves
-abbrev pub ThenOn : {A : Type 0} → ℕ → Result (A × List BookChange) Rule → (PlaceBook → Told A → List BookChange → Type 0)
-    → PlaceBook → Told A → List BookChange → Type 0
+abbrev pub ThenOn : {A : Type 0} → ℕ → Result (A × List BookChange) Rule
+    → (PlaceBook → Told A → List BookChange → Type 0) → PlaceBook → Told A → List BookChange → Type 0
 ThenOn at (Ok (first, made)) IsRest before told changes =
     (between : PlaceBook) × (rest : Told _) × (others : List BookChange) × AreChanges made before between
     × IsRest between rest others × (told ≡ with_first first rest) × (changes ≡ made ++ others)
 ThenOn at (Err broken) IsRest before told changes = (told ≡ Err (at, broken)) × (changes ≡ [])
 
 -- such members from a place on, in order, and what they make of the spreadsheet
-abbrev pub InTurn : {M A : Type 0} → (PlaceBook → M → Result (A × List BookChange) Rule → Type 0) → ℕ → List M → PlaceBook
-    → Told A → List BookChange → Type 0
+abbrev pub InTurn : {M A : Type 0} → (PlaceBook → M → Result (A × List BookChange) Rule → Type 0) → ℕ → List M
+    → PlaceBook → Told A → List BookChange → Type 0
 InTurn Is at [] before told changes = (told ≡ Ok []) × (changes ≡ [])
 InTurn Is at (member ∷ members) before told changes =
     (one : Result (_ × List BookChange) Rule) × Is before member one
@@ -43,7 +43,8 @@ InTurn Is at (member ∷ members) before told changes =
 -- ---- what the private functions hand to one another
 
 -- one member is done on the spreadsheet, which becomes the one after it unless a rule is broken
-abbrev pub IsDoneTo : {A : Type 0} → (Result (A × List BookChange) Rule → Type 0) → PlaceBook → PlaceBook → Result A Rule → Type 0
+abbrev pub IsDoneTo : {A : Type 0} → (Result (A × List BookChange) Rule → Type 0) → PlaceBook → PlaceBook
+    → Result A Rule → Type 0
 IsDoneTo Is before after (Ok one) =
     (changes : List BookChange) × Is (Ok (one, changes)) × AreChanges changes before after
 IsDoneTo Is before after (Err broken) = Is (Err broken)

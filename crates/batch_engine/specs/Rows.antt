@@ -1,6 +1,6 @@
 -- Cells of a sheet that a request gives values: rows are written to an area, which may be emptied first (Google Sheets
 -- API v4 reference, RowData and GridRange).
-use Rattle.std.specs.Prelude.{◌≡◌, ℕ, Bool, true, false, ◌&&◌, ◌||◌, ◌++◌, not, nat_le, nat_lt, List, Option, Some}
+use Rattle.std.specs.Prelude.{◌≡◌, Bool, false, ◌&&◌, ◌||◌, ◌++◌, not, nat_le, nat_lt, List, Option, Some}
 use Rattle.std.specs.Prelude.{Result, Ok, Err, MatchResult}
 use Rattle.std.specs.Option.{is_none, option_map_or}
 use Rattle.cell_value.specs.declared.cell.Block.{Block}

@@ -13,5 +13,6 @@ returns-in_err-area c =
 
 pub returns : goal.returns
 returns c =
-    emptied_done c.updates_are_changes.ensures c.args.range.now c.args.book.now c.clear_values.new.book (c.in_ok-area.area, c.in_ok-area.field-0-1)
+    emptied_done c.updates_are_changes.ensures
+    c.args.range.now c.args.book.now c.clear_values.new.book (c.in_ok-area.area, c.in_ok-area.field-0-1)
     c.in_ok-text.text c.in_ok-area.ensures.resolved c.in_ok-text.ensures c.in_ok-clear_values.ensures.cleared

@@ -1,4 +1,3 @@
-use Rattle.std.proofs.Common.{Ok, subst}
 use Rattle.batch_engine.specs.Values.{IsWritten}
 use Rattle.sheets_json.specs.declared.answer.Answer.TheVariants as answer
 use Rattle.batch_engine.proofs.Ranged.{made_alone}

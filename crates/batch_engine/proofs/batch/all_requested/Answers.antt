@@ -1,4 +1,4 @@
-use Rattle.std.proofs.Common.{◌+◌, subst, sym, get_or, Ok, Err}
+use Rattle.std.proofs.Common.{◌+◌, subst, sym, get_or, Ok}
 use Rattle.std.proofs.lemmas.List.{get_or_read}
 use Rattle.sheets_json.specs.declared.fault.ShapeFault.TheVariants.{BadShape}
 use Rattle.sheets_json.specs.declared.request.Step.TheVariants.{Shape}
@@ -11,7 +11,8 @@ pub returns-in-Err : goal.returns-in-Err
 returns-in-Err c =
     let members = c.args.requests.now in
     let at = c.loop-at.at in
-    broken_there c.changes_in_turn.ensures IsRequested members c.args.book.now at c.loop-at.replies.items c.loop-at.book c.loop-at.invariant (Shape BadShape)
+    broken_there c.changes_in_turn.ensures IsRequested members c.args.book.now at
+    c.loop-at.replies.items c.loop-at.book c.loop-at.invariant (Shape BadShape)
     c.in-Err.rule c.requested.new.book c.loop-at-test.true
     (subst (IsDoneTo (IsRequested c.loop-at.book (get_or members at (Shape BadShape))) c.loop-at.book c.requested.new.book) c.in-Err.is
     (done_so IsRequested (get_or members at (Shape BadShape)) c.index-requests-at.result c.loop-at.book c.requested.new.book
@@ -32,11 +33,13 @@ loop-at-preserved c =
     c.requested.ensures c.in_ok-reply.ensures) in
     subst (λ done. DoneTo IsRequested members c.args.book.now (at + 1) done c.requested.new.book)
     (sym c.in_ok-push-in-Ok.ensures.items)
-    (one_more c.changes_in_turn.ensures IsRequested members c.args.book.now at c.loop-at.replies.items c.loop-at.book c.loop-at.invariant (Shape BadShape)
+    (one_more c.changes_in_turn.ensures IsRequested members c.args.book.now at
+    c.loop-at.replies.items c.loop-at.book c.loop-at.invariant (Shape BadShape)
     c.in-Ok.reply changes c.requested.new.book c.loop-at-test.true holds made)
 
 pub returns : goal.returns
 returns c =
     subst (λ all. AreDone IsRequested c.args.requests.now c.args.book.now c.loop-at.book (Ok all)) (sym c.of.ensures)
-    (all_done c.changes_in_turn.ensures IsRequested c.args.requests.now c.args.book.now c.loop-at.at c.loop-at.replies.items c.loop-at.book
+    (all_done c.changes_in_turn.ensures IsRequested
+    c.args.requests.now c.args.book.now c.loop-at.at c.loop-at.replies.items c.loop-at.book
     c.loop-at.invariant c.loop-at-test.false)

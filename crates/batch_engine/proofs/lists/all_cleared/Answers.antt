@@ -1,4 +1,4 @@
-use Rattle.std.proofs.Common.{[], ◌+◌, subst, sym, get_or, Ok, Err}
+use Rattle.std.proofs.Common.{[], ◌+◌, subst, sym, get_or, Ok}
 use Rattle.std.proofs.lemmas.List.{get_or_read}
 use Rattle.batch_engine.specs.Members.{AreDone, IsDoneTo}
 use Rattle.batch_engine.specs.Values.{IsCleared}
@@ -9,7 +9,8 @@ pub returns-in-Err : goal.returns-in-Err
 returns-in-Err c =
     let members = c.args.ranges.now in
     let at = c.loop-at.at in
-    broken_there c.changes_in_turn.ensures IsCleared members c.args.book.now at c.loop-at.cleared.items c.loop-at.book c.loop-at.invariant (Ok [])
+    broken_there c.changes_in_turn.ensures IsCleared members c.args.book.now at
+    c.loop-at.cleared.items c.loop-at.book c.loop-at.invariant (Ok [])
     c.in-Err.rule c.cleared_range.new.book c.loop-at-test.true
     (subst (IsDoneTo (IsCleared c.loop-at.book (get_or members at (Ok []))) c.loop-at.book c.cleared_range.new.book) c.in-Err.is
     (done_so IsCleared (get_or members at (Ok [])) c.index-ranges-at.result c.loop-at.book c.cleared_range.new.book
@@ -30,11 +31,13 @@ loop-at-preserved c =
     c.cleared_range.ensures c.in_ok-range.ensures) in
     subst (λ done. DoneTo IsCleared members c.args.book.now (at + 1) done c.cleared_range.new.book)
     (sym c.in_ok-push-in-Ok.ensures.items)
-    (one_more c.changes_in_turn.ensures IsCleared members c.args.book.now at c.loop-at.cleared.items c.loop-at.book c.loop-at.invariant (Ok [])
+    (one_more c.changes_in_turn.ensures IsCleared members c.args.book.now at
+    c.loop-at.cleared.items c.loop-at.book c.loop-at.invariant (Ok [])
     c.in-Ok.range changes c.cleared_range.new.book c.loop-at-test.true holds made)
 
 pub returns : goal.returns
 returns c =
     subst (λ all. AreDone IsCleared c.args.ranges.now c.args.book.now c.loop-at.book (Ok all)) (sym c.of.ensures)
-    (all_done c.changes_in_turn.ensures IsCleared c.args.ranges.now c.args.book.now c.loop-at.at c.loop-at.cleared.items c.loop-at.book
+    (all_done c.changes_in_turn.ensures IsCleared
+    c.args.ranges.now c.args.book.now c.loop-at.at c.loop-at.cleared.items c.loop-at.book
     c.loop-at.invariant c.loop-at-test.false)

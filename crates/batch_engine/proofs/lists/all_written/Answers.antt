@@ -1,4 +1,4 @@
-use Rattle.std.proofs.Common.{[], ◌+◌, subst, sym, get_or, Ok, Err}
+use Rattle.std.proofs.Common.{◌+◌, subst, sym, get_or, Ok, Err}
 use Rattle.std.proofs.lemmas.List.{get_or_read}
 use Rattle.sheets_json.specs.declared.fault.ShapeFault.TheVariants.{BadShape}
 use Rattle.batch_engine.specs.Members.{AreDone, IsDoneTo}
@@ -10,7 +10,8 @@ pub returns-in-Err : goal.returns-in-Err
 returns-in-Err c =
     let members = c.args.blocks.now in
     let at = c.loop-at.at in
-    broken_there c.changes_in_turn.ensures IsUpdated members c.args.book.now at c.loop-at.writes.items c.loop-at.book c.loop-at.invariant (Err BadShape)
+    broken_there c.changes_in_turn.ensures IsUpdated members c.args.book.now at
+    c.loop-at.writes.items c.loop-at.book c.loop-at.invariant (Err BadShape)
     c.in-Err.rule c.updated.new.book c.loop-at-test.true
     (subst (IsDoneTo (IsUpdated c.loop-at.book (get_or members at (Err BadShape))) c.loop-at.book c.updated.new.book) c.in-Err.is
     (done_so IsUpdated (get_or members at (Err BadShape)) c.index-blocks-at.result c.loop-at.book c.updated.new.book
@@ -31,11 +32,13 @@ loop-at-preserved c =
     c.updated.ensures c.in_ok-write.ensures) in
     subst (λ done. DoneTo IsUpdated members c.args.book.now (at + 1) done c.updated.new.book)
     (sym c.in_ok-push-in-Ok.ensures.items)
-    (one_more c.changes_in_turn.ensures IsUpdated members c.args.book.now at c.loop-at.writes.items c.loop-at.book c.loop-at.invariant (Err BadShape)
+    (one_more c.changes_in_turn.ensures IsUpdated members c.args.book.now at
+    c.loop-at.writes.items c.loop-at.book c.loop-at.invariant (Err BadShape)
     c.in-Ok.write changes c.updated.new.book c.loop-at-test.true holds made)
 
 pub returns : goal.returns
 returns c =
     subst (λ all. AreDone IsUpdated c.args.blocks.now c.args.book.now c.loop-at.book (Ok all)) (sym c.of.ensures)
-    (all_done c.changes_in_turn.ensures IsUpdated c.args.blocks.now c.args.book.now c.loop-at.at c.loop-at.writes.items c.loop-at.book
+    (all_done c.changes_in_turn.ensures IsUpdated
+    c.args.blocks.now c.args.book.now c.loop-at.at c.loop-at.writes.items c.loop-at.book
     c.loop-at.invariant c.loop-at-test.false)

@@ -1,4 +1,4 @@
-use Rattle.std.proofs.Common.{◌≡◌, ◌∙◌, ap, get_or}
+use Rattle.std.proofs.Common.{◌∙◌, ap, get_or}
 use Rattle.world_model.specs.Sound.{place_sheet_with}
 use Rattle.batch_engine.proofs.Looking.{is_found}
 use Rattle.batch_engine.proofs.looks.sheet_at.Goals as goal

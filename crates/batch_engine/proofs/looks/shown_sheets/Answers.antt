@@ -1,4 +1,4 @@
-use Rattle.std.proofs.Common.{◌≡◌, ◌++◌, ◌∷◌, ◌<◌, [], ◌∙◌, ap, length, subst, take}
+use Rattle.std.proofs.Common.{◌++◌, ◌∷◌, ◌<◌, [], ◌∙◌, ap, length, subst, take}
 use Rattle.std.proofs.lemmas.List.{length-map}
 use Rattle.world_model.specs.Sheet.{PlaceSheet}
 use Rattle.batch_engine.specs.Looks.{shown_from, shown_sheet}

@@ -1,4 +1,4 @@
-use Rattle.std.proofs.Common.{◌≡◌, ◌∙◌, ap, length}
+use Rattle.std.proofs.Common.{◌∙◌, ap, length}
 use Rattle.std.proofs.lemmas.List.Filters.{dedup_is}
 use Rattle.batch_engine.proofs.Counting.{lines_counted}
 use Rattle.batch_engine.proofs.totals.different_lines.Goals as goal

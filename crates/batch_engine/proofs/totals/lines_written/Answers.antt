@@ -1,4 +1,4 @@
-use Rattle.std.proofs.Common.{◌≡◌, ◌++◌, ◌+◌, ap, sym, ◌∙◌, map, take, [], ◌∷◌, ℕ, List}
+use Rattle.std.proofs.Common.{◌++◌, ap, sym, ◌∙◌, map, take, [], ◌∷◌, ℕ, List}
 use Rattle.std.specs.List.{flat_map}
 use Rattle.std.proofs.lemmas.Grind.{flat_map-append}
 use Rattle.std.proofs.lemmas.List.{append-nil, take_more}
