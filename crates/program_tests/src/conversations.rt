@@ -1,8 +1,8 @@
 use crate::batches::BATCHES;
 use crate::common::check;
 use crate::rows::{
-    CHANGES, CONVERSATIONS, Conversation, Exchange, FORMULAS, LIMITS, LISTS, LOOKS, NO_CALLS,
-    RANGES, TYPED, WRITES, WRITES_TO_LISTS,
+    CHANGES, CONVERSATIONS, Conversation, Exchange, FORMULAS, LIMITS, LISTS, LONG_HEADS, LOOKS,
+    LongHead, NO_CALLS, RANGES, TYPED, USERS, WRITES, WRITES_TO_LISTS,
 };
 use cell_value::{Bytes, Items};
 use sheets_cli::{cut_off_laws, reply_laws, sheets_main};
@@ -160,10 +160,25 @@ fn keeps_formulas_within_their_limits(rt: HostRuntime) {
     }
 }
 
-/// Whether requests are served to their end, and the last one is answered so: the rest of its status
-/// line, a further field, and its body.
+#[test]
+fn tells_users_by_their_tokens(rt: HostRuntime) {
+    for row in &USERS {
+        check(&rt, &row.3, is_answered_to(&rt, row, ""));
+    }
+}
+
+/// The field of the user from whom requests come that tell no other.
+const OWNER: &str = "Authorization: Bearer owner\r\n";
+
+/// Whether requests of the owner are served to their end, and the last one is answered so.
 fn is_answered(rt: &HostRuntime, row: &Exchange) -> bool {
-    let stream = stream_of(rt.alloc(), row.0);
+    is_answered_to(rt, row, OWNER)
+}
+
+/// Whether requests, each with that field, are served to their end, and the last one is answered so: the
+/// rest of its status line, a further field, and its body.
+fn is_answered_to(rt: &HostRuntime, row: &Exchange, user: &str) -> bool {
+    let stream = stream_of(rt.alloc(), row.0, user);
     let response = response_of(rt.alloc(), row.1, row.2, row.3);
     let ran = run(rt, "run", stream.as_bytes(), 100_000, 0, 0);
     ran.status == 0
@@ -174,12 +189,13 @@ fn is_answered(rt: &HostRuntime, row: &Exchange) -> bool {
             .ends_with(response.as_bytes())
 }
 
-/// The text of requests, each its line, its fields and its body.
-fn stream_of(alloc: Global, requests: &[(&str, &str, &str)]) -> String {
+/// The text of requests, each its line, the field that tells its user, its fields and its body.
+fn stream_of(alloc: Global, requests: &[(&str, &str, &str)], user: &str) -> String {
     let mut stream = String::new(alloc);
     for request in requests {
         add(&mut stream, request.0);
         add(&mut stream, " HTTP/1.1\r\n");
+        add(&mut stream, user);
         add(&mut stream, request.1);
         add(&mut stream, "\r\n");
         add(&mut stream, request.2);
@@ -213,36 +229,164 @@ fn add_number(out: &mut String, number: usize) {
     let _ = write!(out, "{number}");
 }
 
-static READ: &[u8] = b"GET /v4/spreadsheets/book1/values/Sheet1!A1:B2 HTTP/1.1\r\n\r\n";
+#[test]
+fn keeps_heads_within_their_bounds(rt: HostRuntime) {
+    for row in &LONG_HEADS {
+        check(&rt, row, is_answered_at_length(&rt, row));
+    }
+}
 
-/// Reads and writes that fail, counted from 1.
-static FAILING: [u64; 3] = [1, 2, 5];
+/// Whether a stream is answered so, and ends so.
+fn is_answered_at_length(rt: &HostRuntime, row: &LongHead) -> bool {
+    let alloc = rt.alloc();
+    let mut stream = String::new(alloc);
+    add(&mut stream, row.0);
+    for _ in 0..row.2 {
+        add(&mut stream, row.1);
+    }
+    add(&mut stream, row.3);
+    let output = if row.5.is_empty() {
+        String::new(alloc)
+    } else {
+        response_of(alloc, row.5, row.6, row.7)
+    };
+    run(rt, "run", stream.as_bytes(), 1_000, 0, 0).is(row.4, output.as_bytes(), row.8)
+}
+
+/// A write and a read.
+static REQUESTS: [&[u8]; 2] = [
+    b"PUT /v4/spreadsheets/book1/values/Sheet1%21A1%3AB2?valueInputOption=RAW&alt=json HTTP/1.1\r\n\
+Host: localhost\r\nAuthorization: Bearer owner\r\nContent-Length: 27\r\n\r\n{\"values\":[[1,\"x\"],[true]]}",
+    b"GET /v4/spreadsheets/book1/values/Sheet1%21A1%3AB2 HTTP/1.1\r\n\
+Host: localhost\r\nAuthorization: Bearer owner\r\n\r\n",
+];
+
+/// Their responses.
+static RESPONSES: [&[u8]; 2] = [
+    b"HTTP/1.1 200 OK\r\nContent-Type: application/json; charset=UTF-8\r\nContent-Length: 107\r\n\r\n\
+{\"spreadsheetId\":\"book1\",\"updatedCells\":3,\"updatedColumns\":2,\
+\"updatedRange\":\"Sheet1!A1:B2\",\"updatedRows\":2}",
+    b"HTTP/1.1 200 OK\r\nContent-Type: application/json; charset=UTF-8\r\nContent-Length: 78\r\n\r\n\
+{\"majorDimension\":\"ROWS\",\"range\":\"Sheet1!A1:B2\",\"values\":[[\"1\",\"x\"],[\"TRUE\"]]}",
+];
+
+/// The bytes of the first parts, one behind the other.
+fn joined(alloc: Global, parts: &[&[u8]], count: usize) -> Vec<u8> {
+    let mut bytes = Vec::new(alloc);
+    for part in parts.iter().take(count) {
+        let _ = bytes.extend_from_slice(part);
+    }
+    bytes
+}
+
+#[test]
+fn answers_whole_requests_before_a_cut(rt: HostRuntime) {
+    let stream = joined(rt.alloc(), &REQUESTS, 2);
+    for cut in 0..=stream.len() {
+        check(&rt, &cut, is_answered_before(&rt, stream.as_slice(), cut));
+    }
+}
+
+/// Whether of that many bytes of the stream the whole requests are answered, and the rest is told.
+fn is_answered_before(rt: &HostRuntime, stream: &[u8], cut: usize) -> bool {
+    let alloc = rt.alloc();
+    let begun = stream.get(..cut).unwrap_or(stream);
+    let first = REQUESTS[0].len();
+    let whole = if cut < first {
+        0
+    } else if cut < stream.len() {
+        1
+    } else {
+        2
+    };
+    let rest = match whole {
+        0 => cut,
+        1 => cut.saturating_sub(first),
+        _ => 0,
+    };
+    let output = joined(alloc, &RESPONSES, whole);
+    let line = line_of(alloc, rest);
+    let status = if rest == 0 { 0 } else { 5 };
+    run(rt, "run", begun, 16, 0, 0).is(status, output.as_slice(), line.as_bytes())
+}
+
+/// The line for a stream that ended inside a request, of which it has so many bytes.
+fn line_of(alloc: Global, rest: usize) -> String {
+    let mut line = String::new(alloc);
+    if rest > 0 {
+        add(&mut line, "truncated ");
+        add_number(&mut line, rest);
+        add(&mut line, "\n");
+    }
+    line
+}
+
+/// The size of the pieces in which what fails is read and written.
+const PIECE: u64 = 16;
+
+/// The numbers of reads and of writes that fail go up to this one.
+const MOST_CALLS: u64 = 60;
 
 #[test]
 fn ends_at_a_failed_read(rt: HostRuntime) {
-    let whole = run(&rt, "run", READ, 16, 0, 0);
-    for number in &FAILING {
-        let ran = run(&rt, "run", READ, 16, *number, 0);
-        check(&rt, number, is_cut_off(&ran, &whole, 1, b"read fault\n"));
+    let needed = reads_needed();
+    for number in 1..=MOST_CALLS {
+        let ran = run_requests(&rt, number, 0);
+        check(
+            &rt,
+            &number,
+            ends_at(&rt, &ran, number <= needed, 1, b"read fault\n"),
+        );
     }
 }
 
 #[test]
 fn ends_at_a_failed_write(rt: HostRuntime) {
-    let whole = run(&rt, "run", READ, 16, 0, 0);
-    for number in &FAILING {
-        let ran = run(&rt, "run", READ, 16, 0, *number);
-        check(&rt, number, is_cut_off(&ran, &whole, 4, b"write fault\n"));
+    let needed = writes_needed();
+    for number in 1..=MOST_CALLS {
+        let ran = run_requests(&rt, 0, number);
+        check(
+            &rt,
+            &number,
+            ends_at(&rt, &ran, number <= needed, 4, b"write fault\n"),
+        );
     }
+}
+
+/// Runs the program on the requests; the read and the write of these numbers fail, counted from 1.
+fn run_requests(rt: &HostRuntime, read: u64, write: u64) -> Ran {
+    let stream = joined(rt.alloc(), &REQUESTS, 2);
+    run(rt, "run", stream.as_slice(), PIECE, read, write)
+}
+
+/// The least number of reads that tell all bytes of the requests, and then that they end.
+fn reads_needed() -> u64 {
+    pieces(REQUESTS[0].len().saturating_add(REQUESTS[1].len())).saturating_add(1)
+}
+
+/// The least number of writes of the two responses, of which the first is told before the second is made.
+fn writes_needed() -> u64 {
+    pieces(RESPONSES[0].len()).saturating_add(pieces(RESPONSES[1].len()))
+}
+
+/// How many pieces so many bytes are.
+fn pieces(bytes: usize) -> u64 {
+    u64::try_from(bytes).unwrap_or(u64::MAX).div_ceil(PIECE)
+}
+
+/// Whether the run was cut off with that status and that line, or, where the failing call isn't needed, is whole.
+fn ends_at(rt: &HostRuntime, ran: &Ran, needed: bool, status: u8, faults: &[u8]) -> bool {
+    let whole = joined(rt.alloc(), &RESPONSES, 2);
+    is_cut_off(ran, whole.as_slice(), status, faults)
+        || (!needed && ran.is(0, whole.as_slice(), b""))
 }
 
 /// Whether a failed call ended the run with that status and that line, and what was written begins
 /// what would have been.
-fn is_cut_off(ran: &Ran, whole: &Ran, status: u8, faults: &[u8]) -> bool {
-    let written = ran.output.written().as_slice();
+fn is_cut_off(ran: &Ran, whole: &[u8], status: u8, faults: &[u8]) -> bool {
     ran.status == status
         && ran.faults.written().as_slice() == faults
-        && whole.output.written().as_slice().starts_with(written)
+        && whole.starts_with(ran.output.written().as_slice())
 }
 
 #[test]

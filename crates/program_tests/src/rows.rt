@@ -10,7 +10,7 @@ pub(crate) type Conversation = (
 );
 
 /// Conversations whose bytes are known from outside.
-pub(crate) static CONVERSATIONS: [Conversation; 7] = [
+pub(crate) static CONVERSATIONS: [Conversation; 20] = [
     ("nothing", "run", b"", 0, b"", b""),
     ("another word", "fly", b"", 2, b"", b"usage\n"),
     (
@@ -47,8 +47,8 @@ Host: localhost\r\nAuthorization: Bearer owner\r\nContent-Length: 27\r\n\r\n{\"v
     (
         "a read with a body, and a read",
         "run",
-        b"GET /v4/spreadsheets/book1/values/Sheet1!A1:B2 HTTP/1.1\r\ncontent-length: 4\r\n\r\n\r\n\r\n\
-GET /v4/spreadsheets/book1/values/Sheet1!A1:B2 HTTP/1.1\r\nContent-Length: 0\r\n\r\n",
+        b"GET /v4/spreadsheets/book1/values/Sheet1!A1:B2 HTTP/1.1\r\nAuthorization: Bearer owner\r\ncontent-length: 4\r\n\r\n\r\n\r\n\
+GET /v4/spreadsheets/book1/values/Sheet1!A1:B2 HTTP/1.1\r\nAuthorization: Bearer owner\r\nContent-Length: 0\r\n\r\n",
         0,
         b"HTTP/1.1 400 Bad Request\r\nContent-Type: application/json; charset=UTF-8\r\nContent-Length: 70\r\n\r\n\
 {\"error\":{\"code\":400,\"message\":\"BadBody\",\"status\":\"INVALID_ARGUMENT\"}}\
@@ -60,11 +60,143 @@ HTTP/1.1 200 OK\r\nContent-Type: application/json; charset=UTF-8\r\nContent-Leng
         "a body that is no text",
         "run",
         b"PUT /v4/spreadsheets/book1/values/Sheet1!A1?valueInputOption=RAW HTTP/1.1\r\n\
-Content-Length: 18\r\n\r\n{\"values\":[[\"\xff\"]]}",
+Authorization: Bearer owner\r\nContent-Length: 18\r\n\r\n{\"values\":[[\"\xff\"]]}",
         0,
         b"HTTP/1.1 400 Bad Request\r\nContent-Type: application/json; charset=UTF-8\r\nContent-Length: 70\r\n\r\n\
 {\"error\":{\"code\":400,\"message\":\"BadBody\",\"status\":\"INVALID_ARGUMENT\"}}",
         b"",
+    ),
+    (
+        "a close, and what stands behind it",
+        "run",
+        b"GET /v4/spreadsheets/book1/values/A1 HTTP/1.1\r\nAuthorization: Bearer owner\r\nConnection: close\r\n\r\n\
+GET /v4/spreadsheets/book1/values/A1 HTTP/1.1\r\nAuthorization: Bearer owner\r\n\r\n",
+        0,
+        b"HTTP/1.1 200 OK\r\nContent-Type: application/json; charset=UTF-8\r\nContent-Length: 45\r\nConnection: close\r\n\r\n\
+{\"majorDimension\":\"ROWS\",\"range\":\"Sheet1!A1\"}",
+        b"",
+    ),
+    (
+        "a close in another case, and bytes that are no request",
+        "run",
+        b"GET /v4/spreadsheets/book1/values/A1 HTTP/1.1\r\nAuthorization: Bearer owner\r\ncONNECTION:  CLOSE \r\n\r\n\
+no request",
+        0,
+        b"HTTP/1.1 200 OK\r\nContent-Type: application/json; charset=UTF-8\r\nContent-Length: 45\r\nConnection: close\r\n\r\n\
+{\"majorDimension\":\"ROWS\",\"range\":\"Sheet1!A1\"}",
+        b"",
+    ),
+    (
+        "a request of HTTP/1.0, and a further one",
+        "run",
+        b"GET /v4/spreadsheets/book1/values/A1 HTTP/1.0\r\nAuthorization: Bearer owner\r\n\r\n\
+GET /v4/spreadsheets/book1/values/A1 HTTP/1.1\r\nAuthorization: Bearer owner\r\n\r\n",
+        0,
+        b"HTTP/1.1 200 OK\r\nContent-Type: application/json; charset=UTF-8\r\nContent-Length: 45\r\nConnection: close\r\n\r\n\
+{\"majorDimension\":\"ROWS\",\"range\":\"Sheet1!A1\"}",
+        b"",
+    ),
+    (
+        "a read, and a refused one that asks for the end",
+        "run",
+        b"GET /v4/spreadsheets/book1/values/A1 HTTP/1.1\r\nAuthorization: Bearer owner\r\n\r\n\
+GET /v4 HTTP/1.1\r\nAuthorization: Bearer owner\r\nConnection: close\r\n\r\n\
+GET /v4/spreadsheets/book1/values/A1 HTTP/1.1\r\nAuthorization: Bearer owner\r\n\r\n",
+        0,
+        b"HTTP/1.1 200 OK\r\nContent-Type: application/json; charset=UTF-8\r\nContent-Length: 45\r\n\r\n\
+{\"majorDimension\":\"ROWS\",\"range\":\"Sheet1!A1\"}\
+HTTP/1.1 404 Not Found\r\nContent-Type: application/json; charset=UTF-8\r\nContent-Length: 63\r\nConnection: close\r\n\r\n\
+{\"error\":{\"code\":404,\"message\":\"NoRoute\",\"status\":\"NOT_FOUND\"}}",
+        b"",
+    ),
+    (
+        "a close that is cut in its body",
+        "run",
+        b"PUT /v4/spreadsheets/book1/values/A1?valueInputOption=RAW HTTP/1.1\r\nAuthorization: Bearer owner\r\nConnection: close\r\nContent-Length: 16\r\n\r\n\
+{\"values\":",
+        5,
+        b"",
+        b"truncated 148\n",
+    ),
+    (
+        "a write without a length",
+        "run",
+        b"PUT /v4/spreadsheets/book1/values/A1?valueInputOption=RAW HTTP/1.1\r\nAuthorization: Bearer owner\r\n\r\n\
+GET /v4/spreadsheets/book1/values/A1 HTTP/1.1\r\nAuthorization: Bearer owner\r\n\r\n",
+        0,
+        b"HTTP/1.1 400 Bad Request\r\nContent-Type: application/json; charset=UTF-8\r\nContent-Length: 71\r\nConnection: close\r\n\r\n\
+{\"error\":{\"code\":400,\"message\":\"NoLength\",\"status\":\"INVALID_ARGUMENT\"}}",
+        b"",
+    ),
+    (
+        "a read with a transfer coding",
+        "run",
+        b"GET /v4/spreadsheets/book1/values/A1 HTTP/1.1\r\nAuthorization: Bearer owner\r\nTransfer-Encoding: chunked\r\n\r\n\
+GET /v4/spreadsheets/book1/values/A1 HTTP/1.1\r\nAuthorization: Bearer owner\r\n\r\n",
+        0,
+        b"HTTP/1.1 400 Bad Request\r\nContent-Type: application/json; charset=UTF-8\r\nContent-Length: 71\r\nConnection: close\r\n\r\n\
+{\"error\":{\"code\":400,\"message\":\"NoLength\",\"status\":\"INVALID_ARGUMENT\"}}",
+        b"",
+    ),
+    (
+        "a read, and two lengths that agree",
+        "run",
+        b"GET /v4/spreadsheets/book1/values/A1 HTTP/1.1\r\nAuthorization: Bearer owner\r\n\r\n\
+PUT /v4/spreadsheets/book1/values/A1?valueInputOption=RAW HTTP/1.1\r\nAuthorization: Bearer owner\r\nContent-Length: 2\r\ncontent-length: 2\r\n\r\n{}",
+        0,
+        b"HTTP/1.1 200 OK\r\nContent-Type: application/json; charset=UTF-8\r\nContent-Length: 45\r\n\r\n\
+{\"majorDimension\":\"ROWS\",\"range\":\"Sheet1!A1\"}\
+HTTP/1.1 400 Bad Request\r\nContent-Type: application/json; charset=UTF-8\r\nContent-Length: 70\r\nConnection: close\r\n\r\n\
+{\"error\":{\"code\":400,\"message\":\"BadHead\",\"status\":\"INVALID_ARGUMENT\"}}",
+        b"",
+    ),
+    (
+        "a body that is too long, of which nothing came",
+        "run",
+        b"PUT /v4/spreadsheets/book1/values/A1?valueInputOption=RAW HTTP/1.1\r\nAuthorization: Bearer owner\r\nContent-Length: 8388609\r\n\r\n",
+        0,
+        b"HTTP/1.1 413 Payload Too Large\r\nContent-Type: application/json; charset=UTF-8\r\nContent-Length: 69\r\nConnection: close\r\n\r\n\
+{\"error\":{\"code\":413,\"message\":\"BodyLong\",\"status\":\"BODY_TOO_LARGE\"}}",
+        b"",
+    ),
+    (
+        "two faults of a head, of which one is told",
+        "run",
+        b"PUT /v4/spreadsheets/book1/values/A1?valueInputOption=RAW HTTP/1.1\r\nAuthorization: Bearer owner\r\nContent-Length: 8388609\r\nTransfer-Encoding: chunked\r\n\r\n",
+        0,
+        b"HTTP/1.1 400 Bad Request\r\nContent-Type: application/json; charset=UTF-8\r\nContent-Length: 71\r\nConnection: close\r\n\r\n\
+{\"error\":{\"code\":400,\"message\":\"NoLength\",\"status\":\"INVALID_ARGUMENT\"}}",
+        b"",
+    ),
+    (
+        "no user, and then one",
+        "run",
+        b"GET /v4/spreadsheets/book1/values/A1 HTTP/1.1\r\nHost: localhost\r\n\r\n\
+GET /v4/spreadsheets/book1/values/A1 HTTP/1.1\r\nAuthorization: Bearer owner\r\n\r\n",
+        0,
+        b"HTTP/1.1 401 Unauthorized\r\nContent-Type: application/json; charset=UTF-8\r\nContent-Length: 68\r\n\r\n\
+{\"error\":{\"code\":401,\"message\":\"NoUser\",\"status\":\"UNAUTHENTICATED\"}}\
+HTTP/1.1 200 OK\r\nContent-Type: application/json; charset=UTF-8\r\nContent-Length: 45\r\n\r\n\
+{\"majorDimension\":\"ROWS\",\"range\":\"Sheet1!A1\"}",
+        b"",
+    ),
+    (
+        "no user, and a close",
+        "run",
+        b"GET /v4/spreadsheets/book1/values/A1 HTTP/1.1\r\nConnection: close\r\n\r\n\
+GET /v4/spreadsheets/book1/values/A1 HTTP/1.1\r\nAuthorization: Bearer owner\r\n\r\n",
+        0,
+        b"HTTP/1.1 401 Unauthorized\r\nContent-Type: application/json; charset=UTF-8\r\nContent-Length: 68\r\nConnection: close\r\n\r\n\
+{\"error\":{\"code\":401,\"message\":\"NoUser\",\"status\":\"UNAUTHENTICATED\"}}",
+        b"",
+    ),
+    (
+        "a head without an end, and no user",
+        "run",
+        b"GET /v4/spreadsheets/book1/values/A1 HTTP/1.1\r\nHost: localhost\r\n",
+        5,
+        b"",
+        b"truncated 64\n",
     ),
 ];
 
@@ -82,6 +214,10 @@ pub(crate) const OK: &str = "200 OK";
 pub(crate) const NOT_FOUND: &str = "404 Not Found";
 
 pub(crate) const BAD_REQUEST: &str = "400 Bad Request";
+
+const UNAUTHORIZED: &str = "401 Unauthorized";
+
+const HEAD_LONG: &str = "431 Request Header Fields Too Large";
 
 const CLOSE: &str = "Connection: close\r\n";
 
@@ -181,7 +317,7 @@ pub(crate) static NO_CALLS: [Exchange; 18] = [
         )],
         BAD_REQUEST,
         CLOSE,
-        "{\"error\":{\"code\":400,\"message\":\"BadHead\",\"status\":\"INVALID_ARGUMENT\"}}",
+        "{\"error\":{\"code\":400,\"message\":\"NoLength\",\"status\":\"INVALID_ARGUMENT\"}}",
     ),
     (
         &[(
@@ -199,9 +335,9 @@ pub(crate) static NO_CALLS: [Exchange; 18] = [
             "Content-Length: 8388609\r\n",
             "",
         )],
-        BAD_REQUEST,
+        "413 Payload Too Large",
         CLOSE,
-        "{\"error\":{\"code\":400,\"message\":\"BadHead\",\"status\":\"INVALID_ARGUMENT\"}}",
+        "{\"error\":{\"code\":413,\"message\":\"BodyLong\",\"status\":\"BODY_TOO_LARGE\"}}",
     ),
     (
         &[("GET ", "Host: localhost\r\n", "")],
@@ -2525,5 +2661,350 @@ pub(crate) static LOOKS: [Exchange; 6] = [
         NOT_FOUND,
         "",
         "{\"error\":{\"code\":404,\"message\":\"NoBook\",\"status\":\"NOT_FOUND\"}}",
+    ),
+];
+
+/// Requests with the fields that they have alone, of users and of nobody, and their answers, known from outside.
+pub(crate) static USERS: [Exchange; 21] = [
+    (
+        &[(
+            "GET /v4/spreadsheets/book1/values/A1",
+            "Host: localhost\r\n",
+            "",
+        )],
+        UNAUTHORIZED,
+        "",
+        "{\"error\":{\"code\":401,\"message\":\"NoUser\",\"status\":\"UNAUTHENTICATED\"}}",
+    ),
+    (
+        &[("GET /v4/nowhere", "", "")],
+        UNAUTHORIZED,
+        "",
+        "{\"error\":{\"code\":401,\"message\":\"NoUser\",\"status\":\"UNAUTHENTICATED\"}}",
+    ),
+    (
+        &[("DELETE /v4/spreadsheets/book9", "Host: localhost\r\n", "")],
+        UNAUTHORIZED,
+        "",
+        "{\"error\":{\"code\":401,\"message\":\"NoUser\",\"status\":\"UNAUTHENTICATED\"}}",
+    ),
+    (
+        &[("GET /v4/spreadsheets/book1/values/A1?no=query", "", "")],
+        UNAUTHORIZED,
+        "",
+        "{\"error\":{\"code\":401,\"message\":\"NoUser\",\"status\":\"UNAUTHENTICATED\"}}",
+    ),
+    (
+        &[(
+            "PUT /v4/spreadsheets/book1/values/A1?valueInputOption=RAW",
+            "Content-Encoding: gzip\r\nContent-Length: 1\r\n",
+            "{",
+        )],
+        UNAUTHORIZED,
+        "",
+        "{\"error\":{\"code\":401,\"message\":\"NoUser\",\"status\":\"UNAUTHENTICATED\"}}",
+    ),
+    (
+        &[("GET /v4/nowhere", "Authorization: Bearer ann\r\n", "")],
+        NOT_FOUND,
+        "",
+        "{\"error\":{\"code\":404,\"message\":\"NoRoute\",\"status\":\"NOT_FOUND\"}}",
+    ),
+    (
+        &[(
+            "GET /v4/spreadsheets/book9/values/A1",
+            "Authorization: Bearer ann\r\n",
+            "",
+        )],
+        NOT_FOUND,
+        "",
+        "{\"error\":{\"code\":404,\"message\":\"NoBook\",\"status\":\"NOT_FOUND\"}}",
+    ),
+    (
+        &[(
+            "GET /v4/spreadsheets/book1/values/A1",
+            "aUTHORIZATION: bEARER ann\r\n",
+            "",
+        )],
+        OK,
+        "",
+        "{\"majorDimension\":\"ROWS\",\"range\":\"Sheet1!A1\"}",
+    ),
+    (
+        &[(
+            "GET /v4/spreadsheets/book1/values/A1",
+            "Authorization:Bearer !#~\r\n",
+            "",
+        )],
+        OK,
+        "",
+        "{\"majorDimension\":\"ROWS\",\"range\":\"Sheet1!A1\"}",
+    ),
+    (
+        &[(
+            "GET /v4/spreadsheets/book1/values/A1",
+            "Authorization: Bearer\r\n",
+            "",
+        )],
+        UNAUTHORIZED,
+        "",
+        "{\"error\":{\"code\":401,\"message\":\"NoUser\",\"status\":\"UNAUTHENTICATED\"}}",
+    ),
+    (
+        &[(
+            "GET /v4/spreadsheets/book1/values/A1",
+            "Authorization: Bearer \r\n",
+            "",
+        )],
+        UNAUTHORIZED,
+        "",
+        "{\"error\":{\"code\":401,\"message\":\"NoUser\",\"status\":\"UNAUTHENTICATED\"}}",
+    ),
+    (
+        &[(
+            "GET /v4/spreadsheets/book1/values/A1",
+            "Authorization: Bearer  ann\r\n",
+            "",
+        )],
+        UNAUTHORIZED,
+        "",
+        "{\"error\":{\"code\":401,\"message\":\"NoUser\",\"status\":\"UNAUTHENTICATED\"}}",
+    ),
+    (
+        &[(
+            "GET /v4/spreadsheets/book1/values/A1",
+            "Authorization: Bearer ann bob\r\n",
+            "",
+        )],
+        UNAUTHORIZED,
+        "",
+        "{\"error\":{\"code\":401,\"message\":\"NoUser\",\"status\":\"UNAUTHENTICATED\"}}",
+    ),
+    (
+        &[(
+            "GET /v4/spreadsheets/book1/values/A1",
+            "Authorization: Basic ann\r\n",
+            "",
+        )],
+        UNAUTHORIZED,
+        "",
+        "{\"error\":{\"code\":401,\"message\":\"NoUser\",\"status\":\"UNAUTHENTICATED\"}}",
+    ),
+    (
+        &[(
+            "GET /v4/spreadsheets/book1/values/A1",
+            "Authorization: Bearer ann\r\nauthorization: Bearer ann\r\n",
+            "",
+        )],
+        UNAUTHORIZED,
+        "",
+        "{\"error\":{\"code\":401,\"message\":\"NoUser\",\"status\":\"UNAUTHENTICATED\"}}",
+    ),
+    (
+        &[(
+            "GET /v4/spreadsheets/book1/values/A1",
+            "X-Authorization: Bearer ann\r\n",
+            "",
+        )],
+        UNAUTHORIZED,
+        "",
+        "{\"error\":{\"code\":401,\"message\":\"NoUser\",\"status\":\"UNAUTHENTICATED\"}}",
+    ),
+    (
+        &[
+            (
+                "PUT /v4/spreadsheets/book1/values/A1?valueInputOption=RAW",
+                "Authorization: Bearer ann\r\nContent-Length: 16\r\n",
+                "{\"values\":[[7]]}",
+            ),
+            (
+                "GET /v4/spreadsheets/book1/values/A1",
+                "Authorization: Bearer bob\r\n",
+                "",
+            ),
+        ],
+        OK,
+        "",
+        "{\"majorDimension\":\"ROWS\",\"range\":\"Sheet1!A1\",\"values\":[[\"7\"]]}",
+    ),
+    (
+        &[
+            (
+                "PUT /v4/spreadsheets/book1/values/A1?valueInputOption=RAW",
+                "Content-Length: 16\r\n",
+                "{\"values\":[[7]]}",
+            ),
+            (
+                "GET /v4/spreadsheets/book1/values/A1",
+                "Authorization: Bearer bob\r\n",
+                "",
+            ),
+        ],
+        OK,
+        "",
+        "{\"majorDimension\":\"ROWS\",\"range\":\"Sheet1!A1\"}",
+    ),
+    (
+        &[
+            (
+                "GET /v4/spreadsheets/book1/values/A1",
+                "Authorization: Bearer ann\r\n",
+                "",
+            ),
+            ("GET /v4/spreadsheets/book1/values/A1", "", ""),
+        ],
+        UNAUTHORIZED,
+        "",
+        "{\"error\":{\"code\":401,\"message\":\"NoUser\",\"status\":\"UNAUTHENTICATED\"}}",
+    ),
+    (
+        &[(
+            "GET /v4/spreadsheets/book1/values/A1",
+            "Connection: close\r\n",
+            "",
+        )],
+        UNAUTHORIZED,
+        CLOSE,
+        "{\"error\":{\"code\":401,\"message\":\"NoUser\",\"status\":\"UNAUTHENTICATED\"}}",
+    ),
+    (
+        &[(
+            "PUT /v4/spreadsheets/book1/values/A1",
+            "Host: localhost\r\n",
+            "",
+        )],
+        BAD_REQUEST,
+        CLOSE,
+        "{\"error\":{\"code\":400,\"message\":\"NoLength\",\"status\":\"INVALID_ARGUMENT\"}}",
+    ),
+];
+
+/// A stream that begins so, goes on with a text so many times and ends so; the status that it ends with, the one response to
+/// it, if there is one (the rest of its status line, a further field and its body), and the line on the faults.
+pub(crate) type LongHead = (
+    &'static str,
+    &'static str,
+    u32,
+    &'static str,
+    u8,
+    &'static str,
+    &'static str,
+    &'static str,
+    &'static [u8],
+);
+
+/// Heads at the bounds of their bytes, their lines and their token.
+pub(crate) static LONG_HEADS: [LongHead; 12] = [
+    (
+        "GET /v4/spreadsheets/book1/values/A1 HTTP/1.1\r\nAuthorization: Bearer owner\r\nHost: localhost\r\n",
+        "X: 1\r\n",
+        62,
+        "\r\n",
+        0,
+        OK,
+        "",
+        "{\"majorDimension\":\"ROWS\",\"range\":\"Sheet1!A1\"}",
+        b"",
+    ),
+    (
+        "GET /v4/spreadsheets/book1/values/A1 HTTP/1.1\r\nAuthorization: Bearer owner\r\nHost: localhost\r\n",
+        "X: 1\r\n",
+        63,
+        "\r\n",
+        0,
+        HEAD_LONG,
+        CLOSE,
+        "{\"error\":{\"code\":431,\"message\":\"HeadLong\",\"status\":\"HEAD_TOO_LARGE\"}}",
+        b"",
+    ),
+    (
+        "GET /v4/spreadsheets/book1/values/A1 HTTP/1.1\r\nAuthorization: Bearer owner\r\n",
+        "X: 1\n",
+        63,
+        "\n",
+        0,
+        OK,
+        "",
+        "{\"majorDimension\":\"ROWS\",\"range\":\"Sheet1!A1\"}",
+        b"",
+    ),
+    (
+        "GET /v4/spreadsheets/book1/values/A1 HTTP/1.1\r\nAuthorization: Bearer owner\r\n",
+        "X: 1\n",
+        64,
+        "\n",
+        0,
+        HEAD_LONG,
+        CLOSE,
+        "{\"error\":{\"code\":431,\"message\":\"HeadLong\",\"status\":\"HEAD_TOO_LARGE\"}}",
+        b"",
+    ),
+    (
+        "GET /",
+        "a",
+        16379,
+        "",
+        0,
+        HEAD_LONG,
+        CLOSE,
+        "{\"error\":{\"code\":431,\"message\":\"HeadLong\",\"status\":\"HEAD_TOO_LARGE\"}}",
+        b"",
+    ),
+    ("GET /", "a", 16378, "", 5, "", "", "", b"truncated 16383\n"),
+    (
+        "",
+        "\r\n",
+        8192,
+        "",
+        0,
+        HEAD_LONG,
+        CLOSE,
+        "{\"error\":{\"code\":431,\"message\":\"HeadLong\",\"status\":\"HEAD_TOO_LARGE\"}}",
+        b"",
+    ),
+    ("", "\r\n", 8191, "\r", 0, "", "", "", b""),
+    (
+        "GET /v4/spreadsheets/book1/values/A1 HTTP/1.1\r\nAuthorization: Bearer owner\r\nX: ",
+        "a",
+        16301,
+        "\r\n\r\n",
+        0,
+        OK,
+        "",
+        "{\"majorDimension\":\"ROWS\",\"range\":\"Sheet1!A1\"}",
+        b"",
+    ),
+    (
+        "GET /v4/spreadsheets/book1/values/A1 HTTP/1.1\r\nAuthorization: Bearer owner\r\nX: ",
+        "a",
+        16302,
+        "\r\n\r\n",
+        0,
+        HEAD_LONG,
+        CLOSE,
+        "{\"error\":{\"code\":431,\"message\":\"HeadLong\",\"status\":\"HEAD_TOO_LARGE\"}}",
+        b"",
+    ),
+    (
+        "GET /v4/spreadsheets/book1/values/A1 HTTP/1.1\r\nAuthorization: Bearer ",
+        "a",
+        4096,
+        "\r\n\r\n",
+        0,
+        OK,
+        "",
+        "{\"majorDimension\":\"ROWS\",\"range\":\"Sheet1!A1\"}",
+        b"",
+    ),
+    (
+        "GET /v4/spreadsheets/book1/values/A1 HTTP/1.1\r\nAuthorization: Bearer ",
+        "a",
+        4097,
+        "\r\n\r\n",
+        0,
+        UNAUTHORIZED,
+        "",
+        "{\"error\":{\"code\":401,\"message\":\"NoUser\",\"status\":\"UNAUTHENTICATED\"}}",
+        b"",
     ),
 ];

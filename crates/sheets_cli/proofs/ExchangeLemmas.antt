@@ -16,6 +16,7 @@ use Rattle.sheets_cli.specs.declared.ended.Ended.{Ended}
 use Rattle.sheets_cli.specs.declared.ended.Ended.TheVariants as how
 use Rattle.world_model.specs.Book.{PlaceBook}
 use Rattle.sheets_cli.specs.Reply.{Replies}
+use Rattle.sheets_cli.specs.Step.{UserTable}
 use Rattle.sheets_cli.specs.Conversation.{AreAnswered, IsResponse, IsClosing, IsLast, StartsWithRequests, Moment}
 use Rattle.sheets_cli.specs.Conversation.{IsWhole, IsNextRequest, HasBegun, a_response, the_closing}
 use Rattle.sheets_cli.specs.Conversation.{idle, in_the_sink, Stops, IsConversation, Counts}
@@ -25,51 +26,54 @@ use Rattle.sheets_cli.proofs.SendLemmas.{nothing_more}
 use Rattle.sheets_cli.proofs.ConversationLemmas.{HasAnswered-none}
 
 -- one request is answered
-one_answered : (cells cells' : List PlaceBook) (request : Wire) (response : List ℕ)
-    → IsResponse Replies cells request cells' response
-    → AreAnswered Replies cells (request ∷ []) cells' response
-one_answered cells cells' request response is = (cells', response, [], is, (refl, refl), sym (append-nil response))
+one_answered : (users : UserTable) (cells cells' : List PlaceBook) (request : Wire) (response : List ℕ)
+    → IsResponse (Replies users) cells request cells' response
+    → AreAnswered (Replies users) cells (request ∷ []) cells' response
+one_answered users cells cells' request response is =
+    (cells', response, [], is, (refl, refl), sym (append-nil response))
 
 -- the conversation stops behind nothing
-stops_here : (room : ℕ) (stream : Option (List ℕ)) (before after : Moment (List PlaceBook)) (end : Ended)
-    → Stops Replies room stream before after end
-    → IsConversation Replies room stream before after end
-stops_here room stream before after how.ReadFault stops = record {
+stops_here : (users : UserTable) (room : ℕ) (stream : Option (List ℕ)) (before after : Moment (List PlaceBook))
+    (end : Ended)
+    → Stops (Replies users) room stream before after end
+    → IsConversation (Replies users) room stream before after end
+stops_here users room stream before after how.ReadFault stops = record {
   room' = room;
   rest = stream;
   between = before;
-  answered = HasAnswered-none Replies room stream before;
+  answered = HasAnswered-none (Replies users) room stream before;
   stops =
       stops;
 }
-stops_here room stream before after how.WriteFault stops = record {
+stops_here users room stream before after how.WriteFault stops = record {
   room' = room;
   rest = stream;
   between = before;
-  answered = HasAnswered-none Replies room stream before;
+  answered = HasAnswered-none (Replies users) room stream before;
   stops =
       stops;
 }
-stops_here room stream before after how.End stops = elim stops [ ]
-stops_here room stream before after how.Asked stops = elim stops [ ]
-stops_here room stream before after (how.Closed fault) stops = elim stops [ ]
-stops_here room stream before after (how.Truncated count) stops = elim stops [ ]
-stops_here room stream before after how.LongTalk stops = elim stops [ ]
-stops_here room stream before after how.NoMemory stops = record {
+stops_here users room stream before after how.End stops = elim stops [ ]
+stops_here users room stream before after how.Asked stops = elim stops [ ]
+stops_here users room stream before after (how.Closed fault) stops = elim stops [ ]
+stops_here users room stream before after (how.Truncated count) stops = elim stops [ ]
+stops_here users room stream before after how.LongTalk stops = elim stops [ ]
+stops_here users room stream before after how.NoMemory stops = record {
   room' = room;
   rest = stream;
   between = before;
-  answered = HasAnswered-none Replies room stream before;
+  answered = HasAnswered-none (Replies users) room stream before;
   stops =
       stops;
 }
 
 -- nothing comes next but the end, behind which `last` stands
-whole_here : (room : ℕ) (stream : Option (List ℕ)) (before after : Moment (List PlaceBook)) (end : End) (last : List ℕ)
+whole_here : (users : UserTable) (room : ℕ) (stream : Option (List ℕ)) (before after : Moment (List PlaceBook))
+    (end : End) (last : List ℕ)
     → IfSome stream (λ bytes. IsNext room bytes (talk_end end)) → IsLast end last → after.state ≡ before.state
     → TakesAll before.written after.written last
-    → IsWhole Replies room stream before after end
-whole_here room stream before after end last next is_last same takes =
+    → IsWhole (Replies users) room stream before after end
+whole_here users room stream before after end last next is_last same takes =
     record {
       requests = [];
       responses = [];
@@ -82,32 +86,38 @@ whole_here room stream before after end last next is_last same takes =
     }
 
 -- nothing comes next but the end, and nothing is written
-ends_here : (room : ℕ) (stream : Option (List ℕ)) (before after : Moment (List PlaceBook)) (end : End)
+ends_here : (users : UserTable) (room : ℕ) (stream : Option (List ℕ)) (before after : Moment (List PlaceBook))
+    (end : End)
     → IfSome stream (λ bytes. IsNext room bytes (talk_end end)) → IsLast end [] → after.state ≡ before.state
     → after.written ≡ before.written
-    → IsWhole Replies room stream before after end
-ends_here room stream before after end next is_last same written =
-    whole_here room stream before after end [] next is_last same (written ∙ nothing_more before.written)
+    → IsWhole (Replies users) room stream before after end
+ends_here users room stream before after end next is_last same written =
+    whole_here users room stream before after end [] next is_last same (written ∙ nothing_more before.written)
 
 -- a fault of the sink behind a response that was begun
-cut_by : (room : ℕ) (stream : Option (List ℕ)) (before after : Moment (List PlaceBook)) (error : SinkFault)
+cut_by : (users : UserTable) (room : ℕ) (stream : Option (List ℕ)) (before after : Moment (List PlaceBook))
+    (error : SinkFault)
     → CountsShortages before.shortages after.shortages (Err error)
-    → HasBegun Replies room stream before after → IsConversation Replies room stream before after (ended_by error)
-cut_by room stream before after fault.Failed counts begun = stops_here room stream before after how.WriteFault begun
-cut_by room stream before after fault.NoMemory counts begun = stops_here room stream before after how.NoMemory
+    → HasBegun (Replies users) room stream before after → IsConversation (Replies users) room stream before after
+    (ended_by error)
+cut_by users room stream before after fault.Failed counts begun = stops_here users room stream before after
+    how.WriteFault begun
+cut_by users room stream before after fault.NoMemory counts begun = stops_here users room stream before after
+    how.NoMemory
     (in_the_sink (counts.cause refl) begun)
 
 -- a refused head was answered
-closed_here : (room : ℕ) (stream : Option (List ℕ)) (before after : Moment (List PlaceBook)) (refused : HeadFault)
+closed_here : (users : UserTable) (room : ℕ) (stream : Option (List ℕ)) (before after : Moment (List PlaceBook))
+    (refused : HeadFault)
     (response : List ℕ) (sent : Result (Unit {0}) SinkFault)
-    → IfSome stream (λ bytes. IsNext room bytes (talk_end (closed refused))) → IsClosing response
+    → IfSome stream (λ bytes. IsNext room bytes (talk_end (closed refused))) → IsClosing refused response
     → after.state ≡ before.state
     → Sends before.written after.written response sent → CountsShortages before.shortages after.shortages sent
-    → IsConversation Replies room stream before after (ended_closed refused sent)
-closed_here room stream before after refused response (Ok done) next is_closing same sends counts =
-    whole_here room stream before after (closed refused) response next is_closing same sends
-closed_here room stream before after refused response (Err error) next is_closing same sends counts =
-    cut_by room stream before after error counts (the_closing refused response next is_closing same sends)
+    → IsConversation (Replies users) room stream before after (ended_closed refused sent)
+closed_here users room stream before after refused response (Ok done) next is_closing same sends counts =
+    whole_here users room stream before after (closed refused) response next is_closing same sends
+closed_here users room stream before after refused response (Err error) next is_closing same sends counts =
+    cut_by users room stream before after error counts (the_closing refused response next is_closing same sends)
 
 -- the next request is taken out of the stream
 next_of : (room room' : ℕ) (stream stream' : Option (List ℕ)) (request : Wire)
@@ -132,105 +142,113 @@ first_of room room' (Some bytes) stream' stream'' request answer left stays =
     (answer.0, (answer.0, answer.1, stays, (answer.3, refl)), left ∙ answer.2)
 
 -- a request was answered
-answered_here : (room room' : ℕ) (stream stream' stream'' : Option (List ℕ)) (before after : Moment (List PlaceBook))
+answered_here : (users : UserTable) (room room' : ℕ) (stream stream' stream'' : Option (List ℕ))
+    (before after : Moment (List PlaceBook))
     (request : Wire) (response : List ℕ) (closes : Bool) (sent : Result (Unit {0}) SinkFault)
     → IfSome stream (λ bytes. IsAnswer room bytes room' stream' (next.Request request)) → stream'' ≡ stream'
     → request.close ≡ closes
-    → IsResponse Replies before.state request after.state response
+    → IsResponse (Replies users) before.state request after.state response
     → Sends before.written after.written response sent → CountsShortages before.shortages after.shortages sent
-    → IsExchange room stream before room' stream'' after (ended_behind closes sent)
-answered_here room room' stream stream' stream'' before after request response true (Ok done) answer left closes
+    → IsExchange users room stream before room' stream'' after (ended_behind closes sent)
+answered_here users room room' stream stream' stream'' before after request response true (Ok done) answer left closes
     is_response sends counts = record {
       requests = request ∷ [];
       responses = response;
       last = [];
       are_all = asked_of room room' stream stream' request answer closes;
-      are_answered = one_answered before.state after.state request response is_response;
+      are_answered = one_answered users before.state after.state request response is_response;
       is_last = refl;
       are_written = rw (append-nil response) sends;
     }
-answered_here room room' stream stream' stream'' before after request response false (Ok done) answer left stays
+answered_here users room room' stream stream' stream'' before after request response false (Ok done) answer left stays
     is_response sends counts = record {
       requests = request ∷ [];
       responses = response;
       are_first = first_of room room' stream stream' stream'' request answer left stays;
-      are_answered = one_answered before.state after.state request response is_response;
+      are_answered = one_answered users before.state after.state request response is_response;
       are_written = sends;
       later = counts.later;
     }
-answered_here room room' stream stream' stream'' before after request response closes (Err error) answer left
+answered_here users room room' stream stream' stream'' before after request response closes (Err error) answer left
     closes_is is_response sends counts =
-    cut_by room stream before after error counts
+    cut_by users room stream before after error counts
     (a_response request response (next_of room room' stream stream' request answer) is_response sends)
 
 -- what is done with what comes next
-exchanged : (room room' : ℕ) (stream stream' stream'' : Option (List ℕ)) (before after : Moment (List PlaceBook)) (next : Next)
+exchanged : (users : UserTable) (room room' : ℕ) (stream stream' stream'' : Option (List ℕ))
+    (before after : Moment (List PlaceBook)) (next : Next)
     (result : Option Ended)
     → IfSome stream (λ bytes. IsAnswer room bytes room' stream' next) → stream'' ≡ stream'
-    → Acts next before after result
-    → IsExchange room stream before room' stream'' after result
-exchanged room room' stream stream' stream'' before after (next.Request request) result answer left answers =
-    subst (λ (r : Option Ended). IsExchange room stream before room' stream'' after r) (sym answers.result_is)
-    (answered_here room room' stream stream' stream'' before after request answers.responds.response request.close
+    → Acts users next before after result
+    → IsExchange users room stream before room' stream'' after result
+exchanged users room room' stream stream' stream'' before after (next.Request request) result answer left answers =
+    subst (λ (r : Option Ended). IsExchange users room stream before room' stream'' after r) (sym answers.result_is)
+    (answered_here users room room' stream stream' stream'' before after request answers.responds.response request.close
     answers.sent
     answer left refl answers.responds.is_response answers.responds.sends answers.responds.counts)
-exchanged room room' stream stream' stream'' before after next.End result answer left acts =
-    rw acts.result_is (ends_here room stream before after ended answer refl acts.state_is acts.written_is)
-exchanged room room' stream stream' stream'' before after (next.Closed refused) result answer left acts =
+exchanged users room room' stream stream' stream'' before after next.End result answer left acts =
+    rw acts.result_is (ends_here users room stream before after ended answer refl acts.state_is acts.written_is)
+exchanged users room room' stream stream' stream'' before after (next.Closed refused) result answer left acts =
     rw (acts.result_is, acts.refuses.result_is)
-    (closed_here room stream before after refused acts.refuses.closes.response acts.refuses.sent answer
+    (closed_here users room stream before after refused acts.refuses.closes.response acts.refuses.sent answer
     acts.refuses.closes.is_closing acts.state_is acts.refuses.closes.sends acts.refuses.closes.counts)
-exchanged room room' stream stream' stream'' before after (next.Truncated count) result answer left acts =
-    rw acts.result_is (ends_here room stream before after (truncated count) answer refl acts.state_is acts.written_is)
-exchanged room room' stream stream' stream'' before after next.LongTalk result answer left acts =
-    rw acts.result_is (ends_here room stream before after long_talk answer refl acts.state_is acts.written_is)
-exchanged room room' stream stream' stream'' before after next.ReadFault result answer left acts =
+exchanged users room room' stream stream' stream'' before after (next.Truncated count) result answer left acts =
     rw acts.result_is
-    (stops_here room stream before after how.ReadFault
+    (ends_here users room stream before after (truncated count) answer refl acts.state_is acts.written_is)
+exchanged users room room' stream stream' stream'' before after next.LongTalk result answer left acts =
+    rw acts.result_is (ends_here users room stream before after long_talk answer refl acts.state_is acts.written_is)
+exchanged users room room' stream stream' stream'' before after next.ReadFault result answer left acts =
+    rw acts.result_is
+    (stops_here users room stream before after how.ReadFault
     (record { state_is = acts.state_is; written_is = acts.written_is }))
-exchanged room room' stream stream' stream'' before after next.NoMemory result answer left acts =
+exchanged users room room' stream stream' stream'' before after next.NoMemory result answer left acts =
     rw acts.result_is
-    (stops_here room stream before after how.NoMemory
+    (stops_here users room stream before after how.NoMemory
     (idle (record { state_is = acts.state_is; written_is = acts.written_is })))
 
 -- the same, where the read kept what was written, and its count
-pub exchanged_beside : (room room' : ℕ) (stream stream' stream'' : Option (List ℕ)) (cells cells' : List PlaceBook)
+pub exchanged_beside : (users : UserTable) (room room' : ℕ) (stream stream' stream'' : Option (List ℕ))
+    (cells cells' : List PlaceBook)
     (written middle written' : Option (List ℕ)) (shortages between shortages' : ℕ) (next : Next) (result : Option Ended)
     → IfSome stream (λ bytes. IsAnswer room bytes room' stream' next) → stream'' ≡ stream' → middle ≡ written
     → between ≡ shortages
-    → Acts next (record { state = cells; written = middle; shortages = between })
+    → Acts users next (record { state = cells; written = middle; shortages = between })
     (record { state = cells'; written = written'; shortages = shortages' }) result
-    → IsExchange room stream (record { state = cells; written = written; shortages = shortages }) room' stream''
+    → IsExchange users room stream (record { state = cells; written = written; shortages = shortages }) room' stream''
     (record { state = cells'; written = written'; shortages = shortages' }) result
-exchanged_beside room room' stream stream' stream'' cells cells' written middle written' shortages between shortages'
+exchanged_beside users room room' stream stream' stream'' cells cells' written middle written' shortages between
+    shortages'
     next result answer left same count acts =
-    exchanged room room' stream stream' stream'' _ _ next result answer left
-    (subst (λ (s : ℕ). Acts next (record { state = cells; written = written; shortages = s })
+    exchanged users room room' stream stream' stream'' _ _ next result answer left
+    (subst (λ (s : ℕ). Acts users next (record { state = cells; written = written; shortages = s })
     (record { state = cells'; written = written'; shortages = shortages' }) result) count
-    (subst (λ (m : Option (List ℕ)). Acts next (record { state = cells; written = m; shortages = between })
+    (subst (λ (m : Option (List ℕ)). Acts users next (record { state = cells; written = m; shortages = between })
     (record { state = cells'; written = written'; shortages = shortages' }) result) same acts))
 
 -- ---- the beginning
 
 -- nothing is held at first
-opened_there : (left : Option (List ℕ)) (most : ℕ) (before after : Moment (List PlaceBook)) (end : Ended)
-    → IsConversation Replies (most - 0) (stream_of (record { pending = []; used = 0 }) left) before after end
-    → IsConversation Replies most left before after end
-opened_there None most before after end is = rw (no_less most) at is
+opened_there : (users : UserTable) (left : Option (List ℕ)) (most : ℕ) (before after : Moment (List PlaceBook))
+    (end : Ended)
+    → IsConversation (Replies users) (most - 0) (stream_of (record { pending = []; used = 0 }) left) before after end
+    → IsConversation (Replies users) most left before after end
+opened_there users None most before after end is = rw (no_less most) at is
   where
     no_less : (most : ℕ) → most - 0 ≡ most
     no_less most = omega arith
-opened_there (Some bytes) most before after end is = rw (no_less most) at is
+opened_there users (Some bytes) most before after end is = rw (no_less most) at is
   where
     no_less : (most : ℕ) → most - 0 ≡ most
     no_less most = omega arith
 
 -- what is served behind an empty buffer is the whole
-pub opened : (left : Option (List ℕ)) (held : Buffered) (most : ℕ) (before after : Moment (List PlaceBook)) (end : Ended)
+pub opened : (users : UserTable) (left : Option (List ℕ)) (held : Buffered) (most : ℕ)
+    (before after : Moment (List PlaceBook)) (end : Ended)
     → held ≡ record { pending = []; used = 0 }
-    → IsConversation Replies (room_of most held) (stream_of held left) before after end
-    → IsConversation Replies most left before after end
-opened left held most before after end held_is is = opened_there left most before after end (rw held_is at is)
+    → IsConversation (Replies users) (room_of most held) (stream_of held left) before after end
+    → IsConversation (Replies users) most left before after end
+opened users left held most before after end held_is is = opened_there users left most before after end
+    (rw held_is at is)
 
 -- where memory runs out at once, nothing is done
 pub idle_at_once : {State : Type 0} (IsReply : State → Wire → State → List ℕ → Type 0) (room : ℕ)

@@ -8,6 +8,7 @@ use Rattle.batch_engine.specs.Effects.{world_after}
 use Rattle.sheets_cli.specs.declared.ended.Ended.{Ended}
 use Rattle.sheets_cli.specs.declared.ended.Ended.TheVariants as how
 use Rattle.sheets_cli.specs.Reply.{IsReply, Replies}
+use Rattle.sheets_cli.specs.Step.{UserTable}
 use Rattle.sheets_cli.specs.Conversation.{AreAnswered, IsResponse, replied, refused_for_memory, Moment, at_moment}
 use Rattle.sheets_cli.specs.Conversation.{HasAnswered, IsWhole, IsCutOff, HasBegun, a_response, the_closing, HasRunOut}
 use Rattle.sheets_cli.specs.Conversation.{idle, unanswered, in_the_sink, Stops, end_of_talk, IsConversation}
@@ -21,10 +22,11 @@ stays : (books books' : List PlaceBook) (world : NameWorld) → books' ≡ books
     → WorldStandsFor books' world
 stays books books' world same stands = subst (λ b. WorldStandsFor b world) (sym same) stands
 
-name_reply : (books books' : List PlaceBook) (world : NameWorld) (request : Wire) (response : List ℕ)
-    → WorldStandsFor books world → Replies books request books' response
-    → Named books' (λ world'. IsReply world request world' response)
-name_reply books books' world request response stands replies = (
+name_reply : (users : UserTable) (books books' : List PlaceBook) (world : NameWorld) (request : Wire)
+    (response : List ℕ)
+    → WorldStandsFor books world → Replies users books request books' response
+    → Named books' (λ world'. IsReply users world request world' response)
+name_reply users books books' world request response stands replies = (
   world_after replies.effect world,
   replies.becomes.names world stands,
   record {
@@ -38,35 +40,41 @@ name_reply books books' world request response stands replies = (
   },
 )
 
-name_response : (books books' : List PlaceBook) (world : NameWorld) (request : Wire) (response : List ℕ)
-    → WorldStandsFor books world → IsResponse Replies books request books' response
-    → Named books' (λ world'. IsResponse IsReply world request world' response)
-name_response books books' world request response stands (replied replies) =
-    let (world', stands', reply) = name_reply books books' world request response stands replies in
+name_response : (users : UserTable) (books books' : List PlaceBook) (world : NameWorld) (request : Wire)
+    (response : List ℕ)
+    → WorldStandsFor books world → IsResponse (Replies users) books request books' response
+    → Named books' (λ world'. IsResponse (IsReply users) world request world' response)
+name_response users books books' world request response stands (replied replies) =
+    let (world', stands', reply) = name_reply users books books' world request response stands replies in
     (world', stands', replied reply)
-name_response books books' world request response stands (refused_for_memory same is) =
+name_response users books books' world request response stands (refused_for_memory same is) =
     (world, stays books books' world same stands, refused_for_memory refl is)
 
-name_answered : (books books' : List PlaceBook) (world : NameWorld) (requests : List Wire) (responses : List ℕ)
-    → WorldStandsFor books world → AreAnswered Replies books requests books' responses
-    → Named books' (λ world'. AreAnswered IsReply world requests world' responses)
-name_answered books books' world [] responses stands are =
+name_answered : (users : UserTable) (books books' : List PlaceBook) (world : NameWorld) (requests : List Wire)
+    (responses : List ℕ)
+    → WorldStandsFor books world → AreAnswered (Replies users) books requests books' responses
+    → Named books' (λ world'. AreAnswered (IsReply users) world requests world' responses)
+name_answered users books books' world [] responses stands are =
     (world, stays books books' world are.0 stands, (refl, are.1))
-name_answered books books' world (request ∷ requests) responses stands are =
-    let (between, stands', first) = name_response books are.0 world request are.1 stands are.3 in
-    let (world', stands'', rest) = name_answered are.0 books' between requests are.2 stands' are.4 in
+name_answered users books books' world (request ∷ requests) responses stands are =
+    let (between, stands', first) = name_response users books are.0 world request are.1 stands are.3 in
+    let (world', stands'', rest) = name_answered users are.0 books' between requests are.2 stands' are.4 in
     (world', stands'', (between, are.1, are.2, first, rest, are.5))
 
 -- a moment of the world
 abbrev pub named : Moment (List PlaceBook) → NameWorld → Moment NameWorld
 named moment world = at_moment world moment.written moment.shortages
 
-module _ (room : ℕ) (stream : Option (List ℕ)) (before after : Moment (List PlaceBook)) (world : NameWorld)
+module _ (users : UserTable) (room : ℕ) (stream : Option (List ℕ)) (before after : Moment (List PlaceBook))
+    (world : NameWorld)
     (stands : WorldStandsFor before.state world) where
-  name_first : (room' : ℕ) (stream' : Option (List ℕ)) → HasAnswered Replies room stream before room' stream' after
-      → Named after.state (λ world'. HasAnswered IsReply room stream (named before world) room' stream' (named after world'))
+  name_first : (room' : ℕ) (stream' : Option (List ℕ)) → HasAnswered (Replies users) room stream before room' stream'
+      after
+      → Named after.state
+      (λ world'. HasAnswered (IsReply users) room stream (named before world) room' stream' (named after world'))
   name_first room' stream' has =
-      let (world', stands', answered) = name_answered before.state after.state world has.requests has.responses stands
+      let (world', stands', answered) = name_answered users before.state after.state world has.requests has.responses
+      stands
       has.are_answered in (
         world',
         stands',
@@ -80,29 +88,30 @@ module _ (room : ℕ) (stream : Option (List ℕ)) (before after : Moment (List 
         },
       )
 
-  name_begun : HasBegun Replies room stream before after
-      → Named after.state (λ world'. HasBegun IsReply room stream (named before world) (named after world'))
+  name_begun : HasBegun (Replies users) room stream before after
+      → Named after.state (λ world'. HasBegun (IsReply users) room stream (named before world) (named after world'))
   name_begun (a_response request response next is takes) =
-      let (world', stands', named_response) = name_response before.state after.state world request response stands is in
+      let (world', stands', named_response) = name_response users before.state after.state world request response
+      stands is in
       (world', stands', a_response request response next named_response takes)
   name_begun (the_closing fault response next is same takes) =
       (world, stays before.state after.state world same stands, the_closing fault response next is refl takes)
 
-  name_run_out : HasRunOut Replies room stream before after
-      → Named after.state (λ world'. HasRunOut IsReply room stream (named before world) (named after world'))
+  name_run_out : HasRunOut (Replies users) room stream before after
+      → Named after.state (λ world'. HasRunOut (IsReply users) room stream (named before world) (named after world'))
   name_run_out (idle nothing) = (
     world,
     stays before.state after.state world nothing.state_is stands,
     idle (record { state_is = refl; written_is = nothing.written_is }),
   )
   name_run_out (unanswered request response next replies same) =
-      let (world', stands', reply) = name_reply before.state after.state world request response stands replies in
+      let (world', stands', reply) = name_reply users before.state after.state world request response stands replies in
       (world', stands', unanswered request response next reply same)
   name_run_out (in_the_sink rose begun) =
       let (world', stands', named_begun) = name_begun begun in (world', stands', in_the_sink rose named_begun)
 
-  name_stops : (end : Ended) → Stops Replies room stream before after end
-      → Named after.state (λ world'. Stops IsReply room stream (named before world) (named after world') end)
+  name_stops : (end : Ended) → Stops (Replies users) room stream before after end
+      → Named after.state (λ world'. Stops (IsReply users) room stream (named before world) (named after world') end)
   name_stops how.ReadFault nothing = (
     world,
     stays before.state after.state world nothing.state_is stands,
@@ -116,10 +125,11 @@ module _ (room : ℕ) (stream : Option (List ℕ)) (before after : Moment (List 
   name_stops (how.Truncated count) stops = absurd stops
   name_stops how.LongTalk stops = absurd stops
 
-  name_whole : (end : End) → IsWhole Replies room stream before after end
-      → Named after.state (λ world'. IsWhole IsReply room stream (named before world) (named after world') end)
+  name_whole : (end : End) → IsWhole (Replies users) room stream before after end
+      → Named after.state (λ world'. IsWhole (IsReply users) room stream (named before world) (named after world') end)
   name_whole end whole =
-      let (world', stands', answered) = name_answered before.state after.state world whole.requests whole.responses
+      let (world', stands', answered) = name_answered users before.state after.state world whole.requests
+      whole.responses
       stands whole.are_answered in (
         world',
         stands',
@@ -134,14 +144,16 @@ module _ (room : ℕ) (stream : Option (List ℕ)) (before after : Moment (List 
         },
       )
 
-name_cut_off : (room : ℕ) (stream : Option (List ℕ)) (before after : Moment (List PlaceBook)) (world : NameWorld)
+name_cut_off : (users : UserTable) (room : ℕ) (stream : Option (List ℕ)) (before after : Moment (List PlaceBook))
+    (world : NameWorld)
     (end : Ended)
-    → WorldStandsFor before.state world → IsCutOff Replies room stream before after end
-    → Named after.state (λ world'. IsCutOff IsReply room stream (named before world) (named after world') end)
-name_cut_off room stream before after world end stands cut =
-    let (between, stands', answered) = name_first room stream before cut.between world stands cut.room' cut.rest
+    → WorldStandsFor before.state world → IsCutOff (Replies users) room stream before after end
+    → Named after.state (λ world'. IsCutOff (IsReply users) room stream (named before world) (named after world') end)
+name_cut_off users room stream before after world end stands cut =
+    let (between, stands', answered) = name_first users room stream before cut.between world stands cut.room' cut.rest
     cut.answered in
-    let (world', stands'', stops) = name_stops cut.room' cut.rest cut.between after between stands' end cut.stops in (
+    let (world', stands'', stops) = name_stops users cut.room' cut.rest cut.between after between stands' end
+    cut.stops in (
       world',
       stands'',
       record {
@@ -153,16 +165,19 @@ name_cut_off room stream before after world end stands cut =
       },
     )
 
-pub name_conversation : (room : ℕ) (stream : Option (List ℕ)) (before after : Moment (List PlaceBook))
+pub name_conversation : (users : UserTable) (room : ℕ) (stream : Option (List ℕ))
+    (before after : Moment (List PlaceBook))
     (world : NameWorld) (end : Ended)
-    → WorldStandsFor before.state world → IsConversation Replies room stream before after end
-    → Named after.state (λ world'. IsConversation IsReply room stream (named before world) (named after world') end)
-name_conversation room stream before after world end stands is = go (end_of_talk end) is
+    → WorldStandsFor before.state world → IsConversation (Replies users) room stream before after end
+    → Named after.state
+    (λ world'. IsConversation (IsReply users) room stream (named before world) (named after world') end)
+name_conversation users room stream before after world end stands is = go (end_of_talk end) is
   where
     go : (whole : Option End)
-        → MatchOption whole (IsCutOff Replies room stream before after end) (λ e. IsWhole Replies room stream before after e)
+        → MatchOption whole (IsCutOff (Replies users) room stream before after end)
+        (λ e. IsWhole (Replies users) room stream before after e)
         → Named after.state (λ world'. MatchOption whole
-        (IsCutOff IsReply room stream (named before world) (named after world') end)
-        (λ e. IsWhole IsReply room stream (named before world) (named after world') e))
-    go None cut = name_cut_off room stream before after world end stands cut
-    go (Some e) whole = name_whole room stream before after world stands e whole
+        (IsCutOff (IsReply users) room stream (named before world) (named after world') end)
+        (λ e. IsWhole (IsReply users) room stream (named before world) (named after world') e))
+    go None cut = name_cut_off users room stream before after world end stands cut
+    go (Some e) whole = name_whole users room stream before after world stands e whole

@@ -1,6 +1,6 @@
 -- A request has one reply on a given world, and leaves it one way.
-use Rattle.std.proofs.Common.{◌≡◌, ◌≢◌, ℕ, Bool, true, false, refl, sym, ap, subst, ◌∙◌, List, [], ◌∷◌, suc, arith, Result, Ok, Err}
-use Rattle.std.specs.Prelude.{◌<◌}
+use Rattle.std.proofs.Common.{◌≡◌, ◌≢◌, ℕ, refl, sym, ap, subst, ◌∙◌, List, [], ◌∷◌, Result, Ok, Err}
+use Rattle.std.proofs.Common.{Option, Some, None, MatchOption}
 use Rattle.std.specs.List.{All, AllZip}
 use Rattle.std.proofs.lemmas.Bool.{false≢true}
 use Rattle.std.proofs.lemmas.List.Elements.{All-cons, All-nil}
@@ -20,9 +20,12 @@ use Rattle.sheets_json.specs.declared.answer.Answer.{Answer}
 use Rattle.sheets_json.specs.declared.call.Call.{Call}
 use Rattle.batch_engine.specs.Effects.{Effect, world_after}
 use Rattle.batch_engine.specs.Laws.{CallsAnsweredOnce}
+use Rattle.batch_engine.specs.declared.calls.Caller.{Caller}
 use Rattle.sheets_cli.specs.Reply.{IsReply}
-use Rattle.sheets_cli.specs.Step.{IsAsked, IsStep, Ends, asked_for, as_fault, response_of}
+use Rattle.sheets_cli.specs.Step.{UserTable, user_asking, caller_of, made_by, AsksFor, IsAskedBy, IsAsked, IsStep, Ends}
+use Rattle.sheets_cli.specs.Step.{asked_for, as_fault, response_of}
 use Rattle.sheets_cli.specs.declared.fault.Fault.{Fault}
+use Rattle.sheets_cli.specs.declared.fault.Fault.TheVariants as fault
 
 -- ---- routes
 
@@ -103,35 +106,55 @@ books_sound (book ∷ books) (name ∷ names) is = All-cons IsSound book books i
 -- ---- steps
 
 module _ (one_call : HasOneCall) (calls : CallsAnsweredOnce) (books : List PlaceBook) (sound : All IsSound books) where
-  asked_once : (request : Wire) (one another : Result Call Fault) → IsAsked books request one → IsAsked books request another
-      → one ≡ another
-  asked_once request one another is is' =
+  asks_once : (request : Wire) (one another : Result Call Fault) → AsksFor books request one
+      → AsksFor books request another → one ≡ another
+  asks_once request one another is is' =
       is.asked_is ∙ ap (asked_for books request)
       (routed_once one_call request.method request.target is.routed is'.routed is.told is'.told is.is_route is'.is_route)
       ∙ sym is'.asked_is
 
-  ends_once : (asked : Result Call Fault) (told told' : Result Answer Fault) (effect effect' : Effect)
+  asked_once : (users : UserTable) (request : Wire) (one another : Result (Caller × Call) Fault)
+      → IsAsked users books request one → IsAsked users books request another → one ≡ another
+  asked_once users request one another is is' = go (user_asking users request) is is'
+    where
+      go : (user : Option (List ℕ))
+          → MatchOption user (one ≡ Err fault.NoUser) (λ user. IsAskedBy (caller_of user request) books request one)
+          → MatchOption user (another ≡ Err fault.NoUser)
+          (λ user. IsAskedBy (caller_of user request) books request another)
+          → one ≡ another
+      go None is is' = is ∙ sym is'
+      go (Some user) is is' =
+          is.asked_is ∙ ap (made_by (caller_of user request)) (asks_once request is.call is'.call is.asks is'.asks)
+          ∙ sym is'.asked_is
+
+  ends_once : (asked : Result (Caller × Call) Fault) (told told' : Result Answer Fault) (effect effect' : Effect)
       → Ends books asked told effect → Ends books asked told' effect' → (told ≡ told') × (effect ≡ effect')
-  ends_once (Ok call) told told' effect effect' is is' =
+  ends_once (Ok (caller, call)) told told' effect effect' is is' =
       let same = calls.once call books sound is.answer is'.answer effect effect' is.answered is'.answered in
       (is.told_is ∙ ap as_fault same.0 ∙ sym is'.told_is, same.1)
   ends_once (Err found) told told' effect effect' is is' = (is.0 ∙ sym is'.0, is.1 ∙ sym is'.1)
 
-  step_once : (request : Wire) (told told' : Result Answer Fault) (effect effect' : Effect)
-      → IsStep books request told effect → IsStep books request told' effect' → (told ≡ told') × (effect ≡ effect')
-  step_once request told told' effect effect' is is' =
+  step_once : (users : UserTable) (request : Wire) (told told' : Result Answer Fault) (effect effect' : Effect)
+      → IsStep users books request told effect → IsStep users books request told' effect'
+      → (told ≡ told') × (effect ≡ effect')
+  step_once users request told told' effect effect' is is' =
       ends_once is'.asked told told' effect effect'
-      (subst (λ asked. Ends books asked told effect) (asked_once request is.asked is'.asked is.is_asked is'.is_asked) is.ends)
+      (subst (λ asked. Ends books asked told effect)
+      (asked_once users request is.asked is'.asked is.is_asked is'.is_asked)
+      is.ends)
       is'.ends
 
-pub one_reply : HasOneCall → CallsAnsweredOnce → StandsForApart → (world world_one world_other : NameWorld)
+pub one_reply : HasOneCall → CallsAnsweredOnce → StandsForApart → (users : UserTable)
+    (world world_one world_other : NameWorld)
     (request : Wire) (one another : List ℕ)
-    → IsReply world request world_one one → IsReply world request world_other another
+    → IsReply users world request world_one one → IsReply users world request world_other another
     → (world_one ≡ world_other) × (one ≡ another)
-one_reply one_call calls apart world world_one world_other request one another is is' =
+one_reply one_call calls apart users world world_one world_other request one another is is' =
     let same_books = books_once apart is.books is'.books world.books is.seen.each is'.seen.each in
-    let same = step_once one_call calls is'.books (books_sound is'.books world.books is'.seen.each) request is.told is'.told
-    is.effect is'.effect (subst (λ books. IsStep books request is.told is.effect) same_books is.is_step) is'.is_step in (
+    let same = step_once one_call calls is'.books (books_sound is'.books world.books is'.seen.each) users request
+    is.told is'.told
+    is.effect is'.effect (subst (λ books. IsStep users books request is.told is.effect) same_books is.is_step)
+    is'.is_step in (
       is.world_is ∙ ap (λ effect. world_after effect world) same.1 ∙ sym is'.world_is,
       is.response_is ∙ ap (response_of request.close) same.0 ∙ sym is'.response_is,
     )

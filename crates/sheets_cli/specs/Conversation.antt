@@ -31,16 +31,16 @@ AreAnswered {State} IsReply state (request ∷ requests) state' responses =
     (between : State) × (first : List ℕ) × (rest : List ℕ) × IsResponse IsReply state request between first
     × AreAnswered IsReply between requests state' rest × (responses ≡ first ++ rest)
 
--- a refused head is answered by the closing response, or by the constant one where memory ran out
-pub data IsClosing (response : List ℕ) : Type 0 where
-  says_why : response ≡ closing_text → IsClosing response
-  closed_for_memory : response ≡ no_memory_text true → IsClosing response
+-- a refused head is answered by its closing response, or by the constant one where memory ran out
+pub data IsClosing (refused : HeadFault) (response : List ℕ) : Type 0 where
+  says_why : response ≡ closing_text refused → IsClosing refused response
+  closed_for_memory : response ≡ no_memory_text true → IsClosing refused response
 
 -- what stands behind the responses to the requests
 abbrev pub IsLast : End → List ℕ → Type 0
 IsLast ended bytes = bytes ≡ []
 IsLast asked bytes = bytes ≡ []
-IsLast (closed fault) bytes = IsClosing bytes
+IsLast (closed fault) bytes = IsClosing fault bytes
 IsLast (truncated count) bytes = bytes ≡ []
 IsLast long_talk bytes = bytes ≡ []
 
@@ -109,7 +109,7 @@ pub data HasBegun {State : Type 0} (IsReply : State → Wire → State → List 
       → HasBegun IsReply room stream before after
   the_closing : (fault : HeadFault) (response : List ℕ)
       → IfSome stream (λ bytes. IsNext room bytes (talk_end (closed fault)))
-      → IsClosing response → after.state ≡ before.state → TakesSome before.written after.written response
+      → IsClosing fault response → after.state ≡ before.state → TakesSome before.written after.written response
       → HasBegun IsReply room stream before after
 
 -- memory ran out: before anything was done; or behind the next request's work, which was done, for its

@@ -14,6 +14,7 @@ use Rattle.sheets_cli.specs.declared.ended.Ended.{Ended}
 use Rattle.sheets_cli.specs.declared.ended.Ended.TheVariants as how
 use Rattle.world_model.specs.Book.{PlaceBook}
 use Rattle.sheets_cli.specs.Reply.{Replies}
+use Rattle.sheets_cli.specs.Step.{UserTable}
 use Rattle.sheets_cli.specs.Conversation.{IsResponse, IsClosing, Moment, HasAnswered, IsConversation}
 
 -- what sending bytes leaves: all of them were written, or after a fault a part of them
@@ -27,17 +28,18 @@ pub record CountsShortages (shortages shortages' : ℕ) (sent : Result (Unit {0}
   pub cause : sent ≡ Err fault.NoMemory → Rose shortages shortages'
 
 -- a response to the request is sent
-pub record Responds (request : Wire) (before after : Moment (List PlaceBook)) (sent : Result (Unit {0}) SinkFault) : Type 0 where
+pub record Responds (users : UserTable) (request : Wire) (before after : Moment (List PlaceBook))
+    (sent : Result (Unit {0}) SinkFault) : Type 0 where
   pub response : List ℕ
-  pub is_response : IsResponse Replies before.state request after.state response
+  pub is_response : IsResponse (Replies users) before.state request after.state response
   pub sends : Sends before.written after.written response sent
   pub counts : CountsShortages before.shortages after.shortages sent
 
--- a closing response is sent
-pub record SendsClosing (before after : Option (List ℕ)) (shortages shortages' : ℕ)
+-- the closing response to a refused head is sent
+pub record SendsClosing (refused : HeadFault) (before after : Option (List ℕ)) (shortages shortages' : ℕ)
     (sent : Result (Unit {0}) SinkFault) : Type 0 where
   pub response : List ℕ
-  pub is_closing : IsClosing response
+  pub is_closing : IsClosing refused response
   pub sends : Sends before after response sent
   pub counts : CountsShortages shortages shortages' sent
 
@@ -58,16 +60,17 @@ ended_closed refused (Ok done) = how.Closed refused
 ended_closed refused (Err fault) = ended_by fault
 
 -- a request was answered, and the conversation goes on or ends so
-pub record Answers (request : Wire) (before after : Moment (List PlaceBook)) (result : Option Ended) : Type 0 where
+pub record Answers (users : UserTable) (request : Wire) (before after : Moment (List PlaceBook)) (result : Option Ended)
+    : Type 0 where
   pub sent : Result (Unit {0}) SinkFault
-  pub responds : Responds request before after sent
+  pub responds : Responds users request before after sent
   pub result_is : result ≡ ended_behind request.close sent
 
 -- a refused head was answered, and the conversation ends so
 pub record Refuses (refused : HeadFault) (before after : Option (List ℕ)) (shortages shortages' : ℕ)
     (result : Ended) : Type 0 where
   pub sent : Result (Unit {0}) SinkFault
-  pub closes : SendsClosing before after shortages shortages' sent
+  pub closes : SendsClosing refused before after shortages shortages' sent
   pub result_is : result ≡ ended_closed refused sent
 
 -- the conversation ends so, and nothing is done
@@ -84,17 +87,18 @@ pub record EndsClosed (refused : HeadFault) (before after : Moment (List PlaceBo
   pub result_is : result ≡ Some end
 
 -- what is done with what comes next in the stream
-abbrev pub Acts : Next → Moment (List PlaceBook) → Moment (List PlaceBook) → Option Ended → Type 0
-Acts (next.Request request) before after result = Answers request before after result
-Acts next.End before after result = EndsIdle how.End before after result
-Acts (next.Closed refused) before after result = EndsClosed refused before after result
-Acts (next.Truncated count) before after result = EndsIdle (how.Truncated count) before after result
-Acts next.LongTalk before after result = EndsIdle how.LongTalk before after result
-Acts next.ReadFault before after result = EndsIdle how.ReadFault before after result
-Acts next.NoMemory before after result = EndsIdle how.NoMemory before after result
+abbrev pub Acts : UserTable → Next → Moment (List PlaceBook) → Moment (List PlaceBook) → Option Ended → Type 0
+Acts users (next.Request request) before after result = Answers users request before after result
+Acts users next.End before after result = EndsIdle how.End before after result
+Acts users (next.Closed refused) before after result = EndsClosed refused before after result
+Acts users (next.Truncated count) before after result = EndsIdle (how.Truncated count) before after result
+Acts users next.LongTalk before after result = EndsIdle how.LongTalk before after result
+Acts users next.ReadFault before after result = EndsIdle how.ReadFault before after result
+Acts users next.NoMemory before after result = EndsIdle how.NoMemory before after result
 
 -- an exchange of a request and its response, behind which a conversation goes on, or its end
-abbrev pub IsExchange : ℕ → Option (List ℕ) → Moment (List PlaceBook) → ℕ → Option (List ℕ) → Moment (List PlaceBook) → Option Ended → Type 0
-IsExchange room stream before room' stream' after result =
-    MatchOption result (HasAnswered Replies room stream before room' stream' after)
-    (λ end. IsConversation Replies room stream before after end)
+abbrev pub IsExchange : UserTable → ℕ → Option (List ℕ) → Moment (List PlaceBook) → ℕ → Option (List ℕ)
+    → Moment (List PlaceBook) → Option Ended → Type 0
+IsExchange users room stream before room' stream' after result =
+    MatchOption result (HasAnswered (Replies users) room stream before room' stream' after)
+    (λ end. IsConversation (Replies users) room stream before after end)

@@ -5,12 +5,13 @@ use Rattle.sheets_http.specs.declared.request.Wire.{Wire}
 use Rattle.sheets_http.specs.Framing.{End, Talk}
 use Rattle.sheets_cli.specs.Conversation.{StartsWithRequests}
 use Rattle.sheets_cli.specs.Reply.{IsReply}
+use Rattle.sheets_cli.specs.Step.{UserTable}
 
 -- a request has one reply on a given world, and leaves it one way
 abbrev pub HasOneReply : Type 0
 HasOneReply =
-    (world world_one world_other : NameWorld) (request : Wire) (one other : List ℕ)
-    → IsReply world request world_one one → IsReply world request world_other other
+    (users : UserTable) (world world_one world_other : NameWorld) (request : Wire) (one other : List ℕ)
+    → IsReply users world request world_one one → IsReply users world request world_other other
     → (world_one ≡ world_other) × (one ≡ other)
 
 -- requests with which a stream begins are the first ones of its talk, whose others and whose end are those

@@ -12,6 +12,7 @@ use Rattle.sheets_cli.specs.declared.program.TheConstants.{MOST}
 use Rattle.world_model.specs.World.{NameWorld}
 use Rattle.dimension_ops.specs.World.{opening_world}
 use Rattle.sheets_cli.specs.Reply.{IsReply}
+use Rattle.sheets_cli.specs.Step.{anyone}
 use Rattle.sheets_cli.specs.Conversation.{at_moment, IsConversation, EndsAs}
 
 -- the words are the command `run`
@@ -63,12 +64,12 @@ status_at (closed fault) = 0
 status_at (truncated count) = 5
 status_at long_talk = 8
 
--- the command `run` served the input to an end, which gives its status and its line, on the one spreadsheet that
--- there is at first; where the input tells what it holds, the end is that of its talk
+-- the command `run` served the input of anyone to an end, which gives its status and its line, on the one spreadsheet
+-- that there is at first; where the input tells what it holds, the end is that of its talk
 pub record Runs (left written written_after : Option (List ℕ)) (shortages shortages_after : ℕ) (end : Ended)
     (status : ℕ) : Type 0 where
   pub status_is : status ≡ status_of end
   pub ends : IfSome left (λ bytes. EndsAs MOST bytes end)
   pub world : NameWorld
-  pub served : IsConversation IsReply MOST left (at_moment opening_world written shortages)
+  pub served : IsConversation (IsReply anyone) MOST left (at_moment opening_world written shortages)
       (at_moment world written_after shortages_after) end

@@ -1,9 +1,11 @@
 ghost use Rattle.std.specs.Prelude.{◌≡◌};
 ghost use Rattle.sheets_http.specs.Responses.{IsServedStatus};
 ghost use Rattle.sheets_json.specs.Refusals.{IsRefusal};
+ghost use Rattle.sheets_cli.specs.Reply.{status_of_head, message_of_head};
 ghost use Rattle.sheets_cli.specs.Step.{status_of_rule, status_of_fault};
 
 use dimension_ops::Rule;
+use sheets_http::HeadFault;
 use sheets_json::Place;
 use std::error::Error;
 use std::fmt;
@@ -11,6 +13,8 @@ use std::fmt;
 /// Why a request isn't answered; what it prints is the message of its refusal.
 #[derive(Clone, Copy, Debug, PartialEq, Eq)]
 pub enum Fault {
+    /// It comes from no user: it has no token, or one of nobody.
+    NoUser,
     /// No call that is served has the method and the path.
     NoRoute,
     /// The call doesn't take the query.
@@ -33,10 +37,36 @@ impl Fault {
         ensures refusal { IsRefusal result }
     {
         match self {
+            Fault::NoUser => 401,
             Fault::NoRoute | Fault::NoBook => 404,
             Fault::BadQuery | Fault::BadBody | Fault::EmptyBatch => 400,
             Fault::Broken(_, rule) => status_of_rule(rule),
         }
+    }
+}
+
+/// The status of the refusal of a head (RFC 9110, sections 15.5.1 and 15.5.14; RFC 6585, section 5).
+pub(crate) fn head_status(refused: HeadFault) -> u16
+    ensures status { result ≡ status_of_head refused }
+    ensures served { IsServedStatus result }
+    ensures refusal { IsRefusal result }
+{
+    match refused {
+        HeadFault::HeadLong => 431,
+        HeadFault::BadHead | HeadFault::NoLength => 400,
+        HeadFault::BodyLong => 413,
+    }
+}
+
+/// The message of the refusal of a head.
+pub(crate) fn head_message(refused: HeadFault) -> &'static str
+    ensures { result.now ≡ message_of_head refused }
+{
+    match refused {
+        HeadFault::HeadLong => "HeadLong",
+        HeadFault::BadHead => "BadHead",
+        HeadFault::NoLength => "NoLength",
+        HeadFault::BodyLong => "BodyLong",
     }
 }
 
@@ -60,6 +90,7 @@ impl fmt::Display for Fault {
 
     fn fmt<W: fmt::Write>(&self, f: &mut fmt::Formatter<W>) -> fmt::Result {
         match self {
+            Fault::NoUser => f.write_str("NoUser"),
             Fault::NoRoute => f.write_str("NoRoute"),
             Fault::BadQuery => f.write_str("BadQuery"),
             Fault::NoBook => f.write_str("NoBook"),

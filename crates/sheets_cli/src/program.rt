@@ -6,6 +6,7 @@ ghost use Rattle.world_model.specs.World.{NameWorld, WorldStandsFor};
 ghost use Rattle.dimension_ops.specs.World.{opening_world};
 ghost use Rattle.sheets_cli.specs.Reply.{IsReply};
 ghost use Rattle.sheets_cli.specs.Conversation.{at_moment, Counts, HasEnd, IsConversation, EndsAs};
+ghost use Rattle.sheets_cli.specs.Step.{anyone};
 ghost use Rattle.sheets_cli.specs.Program.{IsRun, status_of, status_at, line_of, Runs, Says};
 
 use crate::conversation::converse;
@@ -13,7 +14,7 @@ use crate::ended::Ended;
 use crate::report::{report, say};
 use cell_value::NoMemory;
 use dimension_ops::{World, opening_stands};
-use sheets_http::{Link, Sink, Source, conversation_laws};
+use sheets_http::{Link, Sink, Source, Users, conversation_laws};
 use std::alloc::Global;
 
 /// The most bytes of one conversation, 2^40.
@@ -26,7 +27,7 @@ pub const USAGE: u8 = 2;
 /// answers its status.
 ///
 /// The only command is `run`: it serves one conversation over input and output, on the one spreadsheet
-/// that there is at first.
+/// that there is at first. A request comes from the user whom its token names.
 pub fn sheets_main<R: AllocGlobal, I: Source, O: Sink>(
     rt: &R,
     words: &[String],
@@ -127,7 +128,7 @@ fn run<R: AllocGlobal, I: Source, O: Sink>(
 
 /// Serves one conversation over input and output, on the one spreadsheet that there is at first.
 fn converse_anew<I: Source, O: Sink>(alloc: Global, input: &mut I, output: &mut O) -> Ended
-    ensures served { (after : NameWorld) × IsConversation IsReply MOST (I.left input.old)
+    ensures served { (after : NameWorld) × IsConversation (IsReply anyone) MOST (I.left input.old)
         (at_moment opening_world (O.written output.old) (O.sink_shortages output.old))
         (at_moment after (O.written output.new) (O.sink_shortages output.new)) result }
     ensures ends { IfSome (I.left input.old) (λ bytes. EndsAs MOST bytes result) }
@@ -154,7 +155,7 @@ fn converse_over<I: Source, O: Sink>(
     output: &mut O,
 ) -> Ended
     ensures served { (before : NameWorld) → WorldStandsFor world.old before → (after : NameWorld)
-        × IsConversation IsReply MOST (I.left input.old)
+        × IsConversation (IsReply anyone) MOST (I.left input.old)
         (at_moment before (O.written output.old) (O.sink_shortages output.old))
         (at_moment after (O.written output.new) (O.sink_shortages output.new)) result }
     ensures read { result ≡ Ended.ReadFault → Rose (I.faults input.old) (I.faults input.new) }
@@ -165,7 +166,8 @@ fn converse_over<I: Source, O: Sink>(
     ensures output { Counts (O.sink_faults output.old) (O.sink_faults output.new) (O.sink_steady output.old)
         (O.sink_steady output.new) }
 {
-    converse(alloc, world, &mut Link { input, output }, MOST)
+    let users = Users::anyone();
+    converse(alloc, world, &users, &mut Link { input, output }, MOST)
 }
 
 /// The status of a conversation that ended so.

@@ -2,24 +2,29 @@ ghost use Rattle.std.specs.Prelude.{◌≡◌, IfOk, OnErr, unwrap_or};
 ghost use Rattle.sheets_cli.specs.Reply.{Replies, no_memory_text, closing_text};
 ghost use Rattle.sheets_cli.specs.Step.{response_of};
 
-use crate::fault::Fault;
+use crate::fault::{Fault, head_message, head_status};
 use crate::step::{Stepped, step};
 use cell_value::{Bytes, NoMemory};
 use dimension_ops::World;
-use sheets_http::{Wire, no_memory_response, response_text};
+use sheets_http::{HeadFault, Users, Wire, no_memory_response, response_text};
 use sheets_json::{Answer, answer_text, refusal_text};
 use std::alloc::Global;
 
-/// The response to a request, which makes of the spreadsheets what it says.
+/// The response to a request of one of the users, which makes of the spreadsheets what it says.
 ///
 /// # Errors
 ///
 /// [`NoMemory`] where memory runs out; the spreadsheets are as they were.
-pub(crate) fn reply_to(alloc: Global, world: &mut World, request: &Wire) -> Result<Bytes, NoMemory>
-    ensures ok { IfOk result (λ response. Replies world.old request.now world.new response) }
+pub(crate) fn reply_to(
+    alloc: Global,
+    world: &mut World,
+    users: &Users,
+    request: &Wire,
+) -> Result<Bytes, NoMemory>
+    ensures ok { IfOk result (λ response. Replies users.now world.old request.now world.new response) }
     ensures err { OnErr result (world.new ≡ world.old) }
 {
-    let Stepped { told, next } = step(alloc, world, request)?;
+    let Stepped { told, next } = step(alloc, world, users, request)?;
     let response = response_of(alloc, request.close, &told)?;
     go_on(world, next);
     Ok(response)
@@ -69,9 +74,9 @@ pub(crate) fn no_memory_reply(close: bool) -> &'static [u8]
 /// # Errors
 ///
 /// [`NoMemory`] where memory runs out.
-pub(crate) fn closing_reply(alloc: Global) -> Result<Bytes, NoMemory>
-    ensures { IfOk result (λ response. response ≡ closing_text) }
+pub(crate) fn closing_reply(alloc: Global, refused: HeadFault) -> Result<Bytes, NoMemory>
+    ensures { IfOk result (λ response. response ≡ closing_text refused) }
 {
-    let body = refusal_text(alloc, 400, "BadHead")?;
-    response_text(alloc, 400, true, body.as_slice())
+    let body = refusal_text(alloc, head_status(refused), head_message(refused))?;
+    response_text(alloc, head_status(refused), true, body.as_slice())
 }

@@ -1,12 +1,14 @@
 ghost use Rattle.std.specs.Prelude.{◌≡◌, IfOk};
+ghost use Rattle.std.specs.Option.{option_copied};
 ghost use Rattle.batch_engine.specs.Calls.{HasItsBook};
-ghost use Rattle.sheets_cli.specs.Step.{is_served, asked_on, IsAsked, Makes, Performs, told_by};
+ghost use Rattle.sheets_cli.specs.Step.{user_asking, caller_of, is_served, asked_on, AsksFor, IsAskedBy, IsAsked};
+ghost use Rattle.sheets_cli.specs.Step.{Makes, Performs, told_by};
 
 use crate::fault::Fault;
 use batch_engine::{Applied, Caller, Outcome, apply};
-use cell_value::{NoMemory, Text};
+use cell_value::{Duplicate, NoMemory, Text};
 use dimension_ops::World;
-use sheets_http::{Route, RouteFault, Verb, Wire, route};
+use sheets_http::{Route, RouteFault, Users, Verb, Wire, route};
 use sheets_json::{Answer, Call, CallFault, read_call};
 use std::alloc::Global;
 
@@ -17,16 +19,21 @@ pub(crate) struct Stepped {
     pub(crate) next: Option<World>,
 }
 
-/// Answers a request on the spreadsheets, which stay as they are.
+/// Answers a request of one of the users on the spreadsheets, which stay as they are.
 ///
 /// # Errors
 ///
 /// [`NoMemory`] where memory runs out.
-pub(crate) fn step(alloc: Global, world: &World, request: &Wire) -> Result<Stepped, NoMemory>
-    ensures { IfOk result (λ step. Makes world.now request.now step.told step.next) }
+pub(crate) fn step(
+    alloc: Global,
+    world: &World,
+    users: &Users,
+    request: &Wire,
+) -> Result<Stepped, NoMemory>
+    ensures { IfOk result (λ step. Makes users.now world.now request.now step.told step.next) }
 {
-    match asked(alloc, world, request)? {
-        Ok(call) => called(alloc, world, &call),
+    match asked(alloc, world, users, request)? {
+        Ok((caller, call)) => called(alloc, world, &caller, &call),
         Err(fault) => Ok(Stepped {
             told: Err(fault),
             next: None,
@@ -34,9 +41,51 @@ pub(crate) fn step(alloc: Global, world: &World, request: &Wire) -> Result<Stepp
     }
 }
 
-/// The call that a request asks for, or its first fault.
-fn asked(alloc: Global, world: &World, request: &Wire) -> Result<Result<Call, Fault>, NoMemory>
-    ensures asked { IfOk result (IsAsked world.now request.now) }
+/// The call that a request asks for, and who makes it, or its first fault.
+fn asked(
+    alloc: Global,
+    world: &World,
+    users: &Users,
+    request: &Wire,
+) -> Result<Result<(Caller, Call), Fault>, NoMemory>
+    ensures asked { IfOk result (IsAsked users.now world.now request.now) }
+    ensures there { IfOk result (λ asked. IfOk asked (λ made. HasItsBook made.1 world.now)) }
+{
+    match user_asking(users, request) {
+        Some(user) => asked_by(alloc, world, user, request),
+        None => Ok(Err(Fault::NoUser)),
+    }
+}
+
+/// The user that a request comes from: that of its token, where it has one.
+fn user_asking<'a>(users: &'a Users, request: &'a Wire) -> Option<&'a str>
+    ensures { option_copied result ≡ user_asking users.now request.now }
+{
+    match &request.user_token {
+        Some(token) => users.user_of(token.as_str()),
+        None => None,
+    }
+}
+
+/// The call that a request of that user asks for, and who makes it, or its first fault.
+fn asked_by(
+    alloc: Global,
+    world: &World,
+    user: &str,
+    request: &Wire,
+) -> Result<Result<(Caller, Call), Fault>, NoMemory>
+    ensures asked { IfOk result (IsAskedBy (caller_of user.now request.now) world.now request.now) }
+    ensures there { IfOk result (λ asked. IfOk asked (λ made. HasItsBook made.1 world.now)) }
+{
+    match asked_for(alloc, world, request)? {
+        Ok(call) => Ok(Ok((caller_of(alloc, user, request)?, call))),
+        Err(fault) => Ok(Err(fault)),
+    }
+}
+
+/// The call that a request asks for, whoever makes it, or its first fault.
+fn asked_for(alloc: Global, world: &World, request: &Wire) -> Result<Result<Call, Fault>, NoMemory>
+    ensures asked { IfOk result (AsksFor world.now request.now) }
     ensures there { IfOk result (λ asked. IfOk asked (λ call. HasItsBook call world.now)) }
 {
     match route(alloc, request.method.as_str(), request.target.as_str()) {
@@ -75,6 +124,16 @@ fn asked_on(
     }
 }
 
+/// Who makes the call of that user's request.
+fn caller_of(alloc: Global, user: &str, request: &Wire) -> Result<Caller, NoMemory>
+    ensures { IfOk result (λ caller. caller ≡ caller_of user.now request.now) }
+{
+    Ok(Caller {
+        user: Text::of(String::from_str(alloc, user)?),
+        project: request.project.duplicate()?,
+    })
+}
+
 /// Whether the call is served.
 fn is_served(verb: Verb) -> bool
     ensures { result ≡ is_served verb }
@@ -92,16 +151,12 @@ fn is_served(verb: Verb) -> bool
     )
 }
 
-/// Makes a call of the owner on the spreadsheets, which stay as they are.
-fn called(alloc: Global, world: &World, call: &Call) -> Result<Stepped, NoMemory>
+/// Makes a call on the spreadsheets, which stay as they are.
+fn called(alloc: Global, world: &World, caller: &Caller, call: &Call) -> Result<Stepped, NoMemory>
     requires { HasItsBook call.now world.now }
     ensures { IfOk result (λ step. Performs world.now call.now step.told step.next) }
 {
-    let caller = Caller {
-        user: Text::of(String::from_str(alloc, "owner")?),
-        project: Text::of(String::new(alloc)),
-    };
-    let Applied { next, outcome } = apply(alloc, world, &caller, call)?;
+    let Applied { next, outcome } = apply(alloc, world, caller, call)?;
     Ok(Stepped {
         told: told_by(outcome),
         next,

@@ -17,7 +17,8 @@ returns-clause-exchange g c =
     let left = kept g.L.Sink.sink_beside (λ s. s.bytes) g.L.Source.left
     (λ link. ap (λ (s : Side). s.bytes) (g.met.L.Duplex.writes_beside link))
     c.act.new.sink c.next_request-next.new.link c.act.ensures.beside in
-    exchanged_beside (room_of c.args.most c.args.buffer.now) (room_of c.args.most c.next_request-next.new.buffer)
+    exchanged_beside c.args.users.now (room_of c.args.most c.args.buffer.now)
+    (room_of c.args.most c.next_request-next.new.buffer)
     (stream_of c.args.buffer.now (g.L.Source.left c.args.link.now))
     (stream_of c.next_request-next.new.buffer (g.L.Source.left c.next_request-next.new.link))
     (stream_of c.next_request-next.new.buffer (g.L.Source.left c.act.new.sink)) c.args.world.now

@@ -8,7 +8,7 @@ use Rattle.sheets_cli.proofs.conversation.serve.Goals as goal
 
 pub loop-ended-preserved : goal.loop-ended-preserved
 loop-ended-preserved g c = record {
-  answered = HasAnswered-then Replies (room_of c.args.most c.args.buffer.now)
+  answered = HasAnswered-then (Replies c.args.users.now) (room_of c.args.most c.args.buffer.now)
       (room_of c.args.most c.loop-ended.buffer) (room_of c.args.most c.exchange.new.buffer)
       (stream_of c.args.buffer.now (g.L.Source.left c.args.link.now))
       (stream_of c.loop-ended.buffer (g.L.Source.left c.loop-ended.link))
@@ -27,7 +27,8 @@ loop-ended-preserved g c = record {
 
 pub returns-in-Some-clause-served : goal.returns-in-Some-clause-served
 returns-in-Some-clause-served g c =
-    IsConversation-behind Replies (room_of c.args.most c.args.buffer.now) (room_of c.args.most c.loop-ended.buffer)
+    IsConversation-behind (Replies c.args.users.now) (room_of c.args.most c.args.buffer.now)
+    (room_of c.args.most c.loop-ended.buffer)
     (stream_of c.args.buffer.now (g.L.Source.left c.args.link.now))
     (stream_of c.loop-ended.buffer (g.L.Source.left c.loop-ended.link))
     (at_moment c.args.world.now (g.L.Sink.written c.args.link.now) (g.L.Sink.sink_shortages c.args.link.now))

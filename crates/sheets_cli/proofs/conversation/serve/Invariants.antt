@@ -7,7 +7,7 @@ use Rattle.sheets_cli.proofs.conversation.serve.Given as goal
 -- the first requests were answered, and no count of faults fell
 abbrev pub invariant-loop-ended : goal.invariant-loop-ended
 invariant-loop-ended g l = record {
-  answered : HasAnswered Replies (room_of l.most l.initial.buffer)
+  answered : HasAnswered (Replies l.users) (room_of l.most l.initial.buffer)
       (stream_of l.initial.buffer (g.L.Source.left l.initial.link))
       (at_moment l.initial.world (g.L.Sink.written l.initial.link) (g.L.Sink.sink_shortages l.initial.link))
       (room_of l.most l.buffer) (stream_of l.buffer (g.L.Source.left l.link))
