@@ -9,3 +9,7 @@ pub mod Inserting
 pub mod Judging
 pub mod SheetRoom
 pub mod Marking
+pub mod Places
+pub mod Formulas
+pub mod Changed
+pub mod PastLines

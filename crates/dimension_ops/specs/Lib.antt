@@ -6,3 +6,5 @@ pub mod World
 pub mod Rules
 pub mod Broken
 pub mod SheetRequests
+pub mod References
+pub mod Lines

@@ -4,26 +4,33 @@ ghost use Rattle.std.specs.Option.{IsSome, option_copied};
 ghost use Rattle.cell_store.specs.Table.{HasPlace, filled_places, most_filled};
 ghost use Rattle.world_model.specs.Counts.{filled_of, formulas_of, grid_places};
 ghost use Rattle.world_model.specs.SheetChange.{on_place_sheet, place_marked_hidden, place_sheet_added, place_titled};
-ghost use Rattle.world_model.specs.Sound.{IsContentWithin, IsSound, most_places, most_sheets, place_sheet_with};
+ghost use Rattle.world_model.specs.Sound.{IsContentWithin, IsLineCount, IsSound, most_places, most_sheets, place_sheet_with};
 ghost use Rattle.world_model.specs.Writing.{book_put, table_written};
 ghost use Rattle.std.specs.Arc.{arc_value};
 ghost use Rattle.dimension_ops.specs.Found.{ArePlacesOf, content_at};
 ghost use Rattle.dimension_ops.specs.ByName.{WritesByName};
 ghost use Rattle.dimension_ops.specs.Titles.{sheet_titled, first_visible};
 ghost use Rattle.dimension_ops.specs.World.{opening_book};
+ghost use Rattle.grid_range.specs.Change.{Fits, count_after};
+ghost use Rattle.world_model.specs.PlaceChange.{BookChanged};
+ghost use Rattle.dimension_ops.specs.Lines.{lines_of_sheet, places_changed};
 
+use crate::lines::sheets_changed;
 use crate::sheet::Sheet;
 use crate::sheets::places_of;
 use cell_value::{Duplicate, Items, NoMemory, Text};
 use dev_metadata::Metadata;
-use grid_range::Area;
+use grid_range::{Area, SheetChange};
 use named_ranges::Names;
 use protection::Protections;
 use ref_rewrite::Content;
 use std::alloc::{AllocError, Global};
 use std::marker::Model;
+use std::mem;
 use std::sync::Arc;
-use world_model::{filled_within_places, formulas_counted, writes_follow, writes_stay_sound};
+use world_model::{
+    changes_stay_sound, filled_within_places, formulas_counted, writes_follow, writes_stay_sound,
+};
 
 /// A spreadsheet: its sheets in their order, named ranges, protected ranges and metadata (Sheets API v4
 /// reference, Spreadsheet). A copy shares the sheets that it doesn't write to.
@@ -162,7 +169,7 @@ impl Book {
     }
 
     /// How many places the sheets have together.
-    pub(crate) fn grid_places(&self) -> u64
+    pub fn grid_places(&self) -> u64
         ensures places { result ≡ grid_places self.now.sheets }
         ensures within { result ≤ most_places }
     {
@@ -315,6 +322,50 @@ impl Book {
             Ok(shared) => Ok(shared),
             Err(failed) => Err((failed.value, NoMemory)),
         }
+    }
+
+    /// Makes the change of the lines of a sheet, of all that follows it. While sheets are changed a spare
+    /// spreadsheet stands here, since what always holds of one doesn't hold until all have followed.
+    ///
+    /// # Errors
+    ///
+    /// [`NoMemory`] where memory runs out; the spreadsheet is to be given up then.
+    pub(crate) fn change_lines(&mut self, by: &SheetChange) -> Result<(), NoMemory>
+        requires fits { Fits by.now.change.now by.now.count }
+        requires long { IsSomeAnd (place_sheet_with by.now.sheet self.old.sheets)
+            (λ found. lines_of_sheet by.now.axis found ≡ by.now.count) }
+        requires room { IsLineCount by.now.axis (count_after by.now.change.now by.now.count) }
+        requires few { places_changed by.now.sheet by.now.axis by.now.change.now self.old.sheets ≤ most_places }
+        ensures { OnOk result (BookChanged by.now.sheet by.now.axis by.now.count by.now.change.now self.old self.new) }
+    {
+        let spare = Book::opening(self.alloc)?;
+        let book = mem::replace(self, spare);
+        *self = book.lines_changed(by)?;
+        Ok(())
+    }
+
+    /// The spreadsheet after the change.
+    fn lines_changed(self, by: &SheetChange) -> Result<Book, NoMemory>
+        requires fits { Fits by.now.change.now by.now.count }
+        requires long { IsSomeAnd (place_sheet_with by.now.sheet self.sheets)
+            (λ found. lines_of_sheet by.now.axis found ≡ by.now.count) }
+        requires room { IsLineCount by.now.axis (count_after by.now.change.now by.now.count) }
+        requires few { places_changed by.now.sheet by.now.axis by.now.change.now self.sheets ≤ most_places }
+        ensures { IfOk result (BookChanged by.now.sheet by.now.axis by.now.count by.now.change.now self) }
+    {
+        changes_stay_sound();
+        let sheets = sheets_changed(self.alloc, self.sheets, by)?;
+        Ok(Book {
+            alloc: self.alloc,
+            id: self.id,
+            title: self.title,
+            owner: self.owner,
+            sheets,
+            ids: self.ids,
+            names: self.names,
+            protections: self.protections,
+            metadata: self.metadata,
+        })
     }
 
     /// Stores the content at the place of the sheet with the id, or empties it; all else stays. Lines are

@@ -2,7 +2,9 @@
 #![tactic(auto)]
 
 mod book;
+mod following;
 mod laws;
+mod lines;
 mod rule;
 mod sheet;
 mod sheets;
@@ -10,6 +12,7 @@ mod world;
 
 pub use book::Book;
 pub use laws::opening_stands;
+pub use lines::{append_lines, change_sheet};
 pub use rule::{Limit, Rule, RuleOr};
 pub use sheet::Sheet;
 pub use sheets::add_sheet;

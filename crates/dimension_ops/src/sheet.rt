@@ -5,11 +5,16 @@ ghost use Rattle.cell_store.specs.Table.{item_at, filled_places, empty_table, mo
 ghost use Rattle.world_model.specs.Counts.{formulas_at, formulas_in};
 ghost use Rattle.world_model.specs.SheetChange.{place_marked_hidden, place_titled};
 ghost use Rattle.world_model.specs.Writing.{table_written};
+ghost use Rattle.grid_range.specs.Change.{Fits};
+ghost use Rattle.cell_store.specs.Moved.{IsRoomAfter, lines_on};
+ghost use Rattle.dimension_ops.specs.References.{AreReferring, AreWithinOn};
+ghost use Rattle.dimension_ops.specs.Lines.{SheetFollows, SheetMoves};
 
+use crate::following::{count_formulas, follow_places, references};
 use basic_filter::Filter;
-use cell_store::{CellStore, TreeGrid};
+use cell_store::{CellStore, TreeGrid, tables_by_items};
 use cell_value::{Duplicate, Items, NoMemory, Text};
-use grid_range::Area;
+use grid_range::{Area, Axis, Change, SheetChange};
 use merge_ranges::Merges;
 use ref_rewrite::Content;
 use std::alloc::{AllocError, Global};
@@ -17,7 +22,7 @@ use std::marker::Model;
 use world_model::formulas_counted;
 
 /// What the cells of a sheet stand in.
-type Cells = TreeGrid<Content>;
+pub(crate) type Cells = TreeGrid<Content>;
 
 /// A sheet of a spreadsheet (Sheets API v4 reference, Sheet).
 #[derive(Drop)]
@@ -182,6 +187,76 @@ impl Sheet {
         self.formulas = self.formulas + added - formulas_at(&old);
         Ok(())
     }
+
+    /// The places of the formulas with a reference to the sheet with the id, by rows. A sheet without
+    /// formulas isn't walked.
+    ///
+    /// # Errors
+    ///
+    /// [`NoMemory`] where memory runs out.
+    pub(crate) fn references(&self, alloc: Global, sheet: u32) -> Result<Vec<(u32, u32)>, NoMemory>
+        ensures { IfOk result (λ places. AreReferring sheet self.now.table places.items) }
+    {
+        formulas_counted();
+        tables_by_items::<Content>();
+        if self.formulas == 0 {
+            return Ok(Vec::new(alloc));
+        }
+        references(&self.cells, sheet)
+    }
+
+    /// Has those formulas follow the change in their places.
+    ///
+    /// # Errors
+    ///
+    /// [`NoMemory`] where memory runs out; the sheet is to be given up then.
+    pub(crate) fn follow(&mut self, places: &[(u32, u32)], by: &SheetChange) -> Result<(), NoMemory>
+        requires fits { Fits by.now.change.now by.now.count }
+        requires places { AreReferring by.now.sheet self.old.table places.now }
+        requires within { AreWithinOn by.now.sheet by.now.axis by.now.count self.old.table }
+        ensures { OnOk result (SheetFollows by.now.sheet by.now.axis by.now.count by.now.change.now self.old self.new) }
+    {
+        follow_places(&mut self.cells, places, by)?;
+        Ok(())
+    }
+
+    /// The sheet after the change of its lines on the axis. Items go with their lines; its formulas have yet
+    /// to follow.
+    ///
+    /// # Errors
+    ///
+    /// [`NoMemory`] where memory runs out.
+    pub(crate) fn moved(self, axis: Axis, change: &Change) -> Result<Sheet, NoMemory>
+        requires fits { Fits change.now (lines_on axis self.table.rows self.table.cols) }
+        requires room { IsRoomAfter axis change.now self.table }
+        ensures { IfOk result (SheetMoves axis change.now self) }
+    {
+        formulas_counted();
+        tables_by_items::<Content>();
+        let mut cells = self.cells;
+        cells.change(axis, change)?;
+        let formulas = counted_again(&cells, self.formulas)?;
+        Ok(Sheet {
+            id: self.id,
+            title: self.title,
+            hidden: self.hidden,
+            cells,
+            formulas,
+            merges: self.merges,
+            filter: self.filter,
+        })
+    }
+}
+
+/// How many formulas the cells hold, of which they held that many before; without any they aren't walked.
+fn counted_again(cells: &Cells, before: u64) -> Result<u64, NoMemory>
+    requires { before ≡ 0 → formulas_in cells.now ≡ 0 }
+    ensures { IfOk result (λ count. count ≡ formulas_in cells.now) }
+{
+    if before == 0 {
+        return Ok(0);
+    }
+    count_formulas(cells)
 }
 
 /// One where what a place holds is a formula, or else none.

@@ -25,13 +25,13 @@ use world_model::sheets_added;
 const MOST_SHEETS: u32 = 200;
 
 /// How many rows a sheet can have.
-const MOST_ROWS: u32 = 1_000_000;
+pub(crate) const MOST_ROWS: u32 = 1_000_000;
 
 /// How many columns a sheet can have.
-const MOST_COLS: u32 = 18_278;
+pub(crate) const MOST_COLS: u32 = 18_278;
 
 /// How many places the sheets of a spreadsheet can have together.
-const MOST_PLACES: u64 = 10_000_000;
+pub(crate) const MOST_PLACES: u64 = 10_000_000;
 
 /// The longest title, in bytes.
 const LONGEST_TITLE: usize = 100;

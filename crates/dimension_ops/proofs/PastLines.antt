@@ -1,0 +1,107 @@
+-- More lines than numbers of lines tell are past the limit of lines.
+use Rattle.std.proofs.Common.{◌≡◌, ℕ, suc, ◌+◌, ◌<◌, ◌≤◌, refl, sym, ap, ◌∙◌, List, [], ◌∷◌, cond, Bool, true, false, arith, Ok, Err}
+use Rattle.std.specs.Prelude.{Option, None, Some, IfSome, IsSomeAnd, is_some, ◌==◌, nat_lt}
+use Rattle.std.specs.List.{All}
+use Rattle.std.specs.Option.{option_map_or}
+use Rattle.std.proofs.lemmas.Bool.{false≢true, false_from_ne_true, eqb-true, le-ltb, lt-ltb}
+use Rattle.grid_range.specs.declared.axis.Axis.{Axis}
+use Rattle.grid_range.specs.declared.axis.Axis.TheVariants.{Rows, Columns}
+use Rattle.grid_range.specs.Change.{count_after}
+use Rattle.grid_range.specs.declared.change.Change.{Change}
+use Rattle.grid_range.specs.declared.change.Change.TheVariants.{Insert}
+use Rattle.cell_store.specs.Moved.{size_after}
+use Rattle.world_model.specs.Book.{PlaceBook}
+use Rattle.world_model.specs.Sheet.{PlaceSheet}
+use Rattle.world_model.specs.Sound.{IsSheetSound, most_places, place_sheet_with}
+use Rattle.dimension_ops.specs.Broken.{first_broken, first_passed, unbroken}
+use Rattle.dimension_ops.specs.Lines.{IsLinesAnswer, limit_on, lines_broken, lines_of_sheet, passes_size, places_changed}
+use Rattle.dimension_ops.specs.declared.rule.Limit.{Limit}
+use Rattle.dimension_ops.specs.declared.rule.Limit.TheVariants as limit
+use Rattle.dimension_ops.specs.declared.rule.Rule.{Rule}
+use Rattle.dimension_ops.specs.declared.rule.Rule.TheVariants as rule
+
+-- ---- the first rule that is broken
+
+only_past : (last : Bool) (past : Option Limit) (passed : Limit) → last ≡ false → past ≡ Some passed
+    → first_broken (record unbroken { last_line = last; past_limit = past }) ≡ Some (rule.PastLimit passed)
+only_past last past passed fails is =
+    ap (λ b. first_broken (record unbroken { last_line = b; past_limit = past })) fails
+    ∙ ap (λ p. first_broken (record unbroken { last_line = false; past_limit = p })) is
+
+rows_first : (rows cols cells : Bool) → rows ≡ true
+    → cond rows (Some limit.Rows) (cond cols (Some limit.Columns) (cond cells (Some limit.Cells) None)) ≡ Some limit.Rows
+rows_first rows cols cells is =
+    ap (λ b. cond b (Some limit.Rows) (cond cols (Some limit.Columns) (cond cells (Some limit.Cells) None))) is
+
+cols_first : (rows cols cells : Bool) → rows ≡ false → cols ≡ true
+    → cond rows (Some limit.Rows) (cond cols (Some limit.Columns) (cond cells (Some limit.Cells) None))
+    ≡ Some limit.Columns
+cols_first rows cols cells fails is =
+    ap (λ b. cond b (Some limit.Rows) (cond cols (Some limit.Columns) (cond cells (Some limit.Cells) None))) fails
+    ∙ ap (λ b. cond b (Some limit.Columns) (cond cells (Some limit.Cells) None)) is
+
+some_lines : (lines : ℕ) → 0 < lines → (lines == 0) ≡ false
+some_lines lines some = false_from_ne_true (lines == 0) (λ is. absurd (omega (arith, some, eqb-true lines 0 is)))
+
+-- ---- the sheet that is found is one of them
+
+found_holds : (P : PlaceSheet → Type 0) (id : ℕ) (sheets : List PlaceSheet) → All P sheets
+    → IfSome (place_sheet_with id sheets) P
+found_holds P id [] all = tt
+found_holds P id (sheet ∷ sheets) all =
+    either (sheet.id == id) (place_sheet_with id sheets) (all 0 sheet (omega arith))
+    (found_holds P id sheets (λ k d there. all (suc k) d (omega arith)))
+  where
+    either : (b : Bool) (rest : Option PlaceSheet) → P sheet → IfSome rest P → IfSome (cond b (Some sheet) rest) P
+    either true rest here behind = here
+    either false rest here behind = behind
+
+-- ---- more lines than a number of lines tells
+
+module _ (id count places : ℕ) (sheet : PlaceSheet) (sheets : List PlaceSheet) (sound : IsSheetSound sheets sheet) where
+  past_on : (axis : Axis) → 4294967296 ≤ lines_of_sheet axis sheet + count
+      → first_passed (passes_size (size_after axis (Insert (lines_of_sheet axis sheet) count) sheet.table.rows
+      sheet.table.cols) places) ≡ Some (limit_on axis)
+  past_on Rows many =
+      rows_first (nat_lt 1000000 (sheet.table.rows + count)) (nat_lt 18278 sheet.table.cols) (nat_lt most_places places)
+      (lt-ltb 1000000 (sheet.table.rows + count) (omega arith))
+  past_on Columns many =
+      cols_first (nat_lt 1000000 sheet.table.rows) (nat_lt 18278 (sheet.table.cols + count)) (nat_lt most_places places)
+      (le-ltb 1000000 sheet.table.rows sound.rows.1) (lt-ltb 18278 (sheet.table.cols + count) (omega arith))
+
+pub past_refused : (before : PlaceBook) (id count at : ℕ) (axis : Axis) (broken : Rule)
+    → All (IsSheetSound before.sheets) before.sheets → is_some (place_sheet_with id before.sheets) ≡ true
+    → IfSome (place_sheet_with id before.sheets) (λ sheet. at ≡ lines_of_sheet axis sheet)
+    → 4294967296 ≤ at + count → broken ≡ rule.PastLimit (limit_on axis)
+    → IsSomeAnd (place_sheet_with id before.sheets)
+    (λ sheet. IsLinesAnswer id axis (Insert (lines_of_sheet axis sheet) count) before before (Err broken))
+past_refused before id count at axis broken sound there lines many is =
+    at_found (place_sheet_with id before.sheets) refl there lines
+    (found_holds (IsSheetSound before.sheets) id before.sheets sound)
+  where
+    at_found : (found : Option PlaceSheet) → place_sheet_with id before.sheets ≡ found → is_some found ≡ true
+        → IfSome found (λ sheet. at ≡ lines_of_sheet axis sheet) → IfSome found (IsSheetSound before.sheets)
+        → IsSomeAnd found
+        (λ sheet. IsLinesAnswer id axis (Insert (lines_of_sheet axis sheet) count) before before (Err broken))
+    at_found None here some lines sound = absurd (false≢true some)
+    at_found (Some sheet) here some lines sound =
+        let change : Change = Insert (lines_of_sheet axis sheet) count in
+        let many' : 4294967296 ≤ lines_of_sheet axis sheet + count = omega (arith, many, lines) in
+        let first : first_broken (lines_broken id axis change before.sheets) ≡ Some (rule.PastLimit (limit_on axis)) =
+        ap (λ found. first_broken (option_map_or (λ other. record unbroken {
+          last_line = count_after change (lines_of_sheet axis other) == 0;
+          past_limit = first_passed (passes_size (size_after axis change other.table.rows other.table.cols)
+              (places_changed id axis change before.sheets));
+        }) found unbroken)) here
+        ∙ only_past (count_after change (lines_of_sheet axis sheet) == 0)
+        (first_passed (passes_size (size_after axis change sheet.table.rows sheet.table.cols)
+        (places_changed id axis change before.sheets))) (limit_on axis)
+        (some_lines (lines_of_sheet axis sheet + count) (omega (arith, many')))
+        (past_on id count (places_changed id axis change before.sheets) sheet before.sheets sound axis many') in
+        record {
+          judged = ap Err is ∙ ap (λ r. option_map_or Err r (Ok tt)) (sym first);
+          changed = tt;
+          places = tt;
+          sizes = tt;
+          unchanged = refl;
+        }

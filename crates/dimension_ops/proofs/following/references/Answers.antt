@@ -1,0 +1,13 @@
+use Rattle.std.proofs.Common.{rules, sym, subst}
+use Rattle.std.specs.List.{filter}
+use Rattle.std.proofs.lemmas.Fn.{filter_same}
+use Rattle.dimension_ops.specs.References.{AreReferring, refers_at}
+use Rattle.dimension_ops.proofs.Formulas.{referring}
+use Rattle.dimension_ops.proofs.following.references.Goals as goal
+
+pub returns : goal.returns
+returns c =
+    subst (AreReferring c.args.sheet c.args.cells.now)
+    (sym (filter_same _ (refers_at c.args.sheet c.args.cells.now) _ (λ x b f' k. (search rules, search rules)) _ _
+    c.retain.ensures.filtered))
+    (referring c.args.sheet c.args.cells.now c.in_ok-places.places.items c.in_ok-places.ensures)

@@ -1,0 +1,19 @@
+use Rattle.std.proofs.Common.{◌∙◌}
+use Rattle.dimension_ops.proofs.Formulas.{moved_within}
+use Rattle.dimension_ops.proofs.lines.own_changed.Goals as goal
+
+pub follow-requires-clause-within : goal.follow-requires-clause-within
+follow-requires-clause-within c =
+    moved_within c.args.by.now.sheet c.args.by.now.axis c.args.by.now.count c.args.by.now.change.now c.args.sheet.table
+    c.in_ok-moved.moved.table c.in_ok-moved.ensures.goes c.requires.ready.within
+
+pub returns : goal.returns
+returns c = record {
+  id = c.in_ok-follow.ensures.id ∙ c.in_ok-moved.ensures.id;
+  title = c.in_ok-follow.ensures.title ∙ c.in_ok-moved.ensures.title;
+  hidden = c.in_ok-follow.ensures.hidden ∙ c.in_ok-moved.ensures.hidden;
+  moved = c.in_ok-moved.moved.table;
+  goes = λ _. c.in_ok-moved.ensures.goes;
+  stays = λ other. absurd (other c.requires.own);
+  followed = c.in_ok-follow.ensures.followed;
+}

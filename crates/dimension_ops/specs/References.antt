@@ -1,0 +1,67 @@
+-- The formulas of a sheet with a reference to a sheet: only they follow a change of its lines.
+use Rattle.std.specs.Prelude.{◌≡◌, ◌↔◌, ℕ, Bool, true, false, List, Option, Contains, IfSome, ◌==◌, ⊤}
+use Rattle.std.specs.List.{All, list_any}
+use Rattle.std.specs.Option.{option_map_or}
+use Rattle.std.specs.List.Sorted.{IsStrictlySortedBy}
+use Rattle.grid_range.specs.Area.{by_rows}
+use Rattle.grid_range.specs.declared.axis.Axis.{Axis}
+use Rattle.grid_range.specs.declared.change.Change.{Change}
+use Rattle.cell_store.specs.Moved.{IsRoomAfter, lines_on}
+use Rattle.cell_store.specs.Table.{Table, item_at, with_item}
+use Rattle.ref_rewrite.specs.Following.{IsPieceWithinOn}
+use Rattle.ref_rewrite.specs.declared.cell_content.Content.{Content}
+use Rattle.ref_rewrite.specs.declared.cell_content.Content.TheVariants as content
+use Rattle.ref_rewrite.specs.declared.pieces.Piece.{Piece}
+use Rattle.ref_rewrite.specs.declared.pieces.Piece.TheVariants as piece
+use Rattle.world_model.specs.Counts.{is_formula}
+use Rattle.world_model.specs.PlaceChange.{content_followed}
+use Rattle.world_model.specs.Sheet.{PlaceSheet}
+
+abbrev pub is_reference_to : ℕ → Piece → Bool
+is_reference_to sheet (piece.Ref reference) = reference.area.sheet == sheet
+is_reference_to sheet (piece.Text text) = false
+is_reference_to sheet (piece.Word word) = false
+is_reference_to sheet piece.Lost = false
+
+-- the content is a formula with such a reference
+abbrev pub refers_to : ℕ → Content → Bool
+refers_to sheet (content.Formula formula) = list_any (is_reference_to sheet) formula.pieces
+refers_to sheet (content.Number number) = false
+refers_to sheet (content.Text text) = false
+refers_to sheet (content.Truth truth) = false
+
+-- so is what stands at the place
+abbrev pub refers_at : ℕ → Table Content → ℕ × ℕ → Bool
+refers_at sheet table place = option_map_or (refers_to sheet) (item_at table place.0 place.1) false
+
+-- a formula stands at the place
+abbrev pub is_formula_at : Table Content → ℕ × ℕ → Bool
+is_formula_at table place = option_map_or is_formula (item_at table place.0 place.1) false
+
+-- these are the places of the formulas with a reference to the sheet, each once, by rows
+pub record AreReferring (sheet : ℕ) (table : Table Content) (places : List (ℕ × ℕ)) : Type 0 where
+  pub in_order : IsStrictlySortedBy by_rows places
+  pub exactly : (row col : ℕ) → Contains places (row, col) ↔ (refers_at sheet table (row, col) ≡ true)
+
+-- each reference of a formula to the sheet is to lines that are among `count`
+abbrev pub IsContentWithinOn : ℕ → Axis → ℕ → Content → Type 0
+IsContentWithinOn sheet axis count (content.Formula formula) = All (IsPieceWithinOn sheet axis count) formula.pieces
+IsContentWithinOn sheet axis count (content.Number number) = ⊤
+IsContentWithinOn sheet axis count (content.Text text) = ⊤
+IsContentWithinOn sheet axis count (content.Truth truth) = ⊤
+
+-- so is each reference of what the table holds
+abbrev pub AreWithinOn : ℕ → Axis → ℕ → Table Content → Type 0
+AreWithinOn sheet axis count table = (row col : ℕ) → IfSome (item_at table row col) (IsContentWithinOn sheet axis count)
+
+-- a change of the lines of a sheet that has `count` on the axis can be made on this one of its sheets
+pub record CanChange (sheet : ℕ) (axis : Axis) (count : ℕ) (change : Change) (found : PlaceSheet) : Type 0 where
+  pub own : found.id ≡ sheet
+      → (lines_on axis found.table.rows found.table.cols ≡ count) × IsRoomAfter axis change found.table
+  pub within : AreWithinOn sheet axis count found.table
+
+-- what stands at the place follows there
+abbrev pub followed_at : ℕ → Axis → ℕ → Change → Table Content → ℕ × ℕ → Table Content
+followed_at sheet axis count change table place =
+    option_map_or (λ item. with_item table place.0 place.1 (content_followed sheet axis count change item))
+    (item_at table place.0 place.1) table
