@@ -1,20 +1,20 @@
 -- Sheets after a change of the lines of one of them: their sizes, and when the change can be made on each.
-use Rattle.std.proofs.Common.{◌≡◌, ◌≢◌, ℕ, zero, suc, ◌+◌, ◌*◌, ◌<◌, ◌≤◌, refl, sym, ap, subst, ◌∙◌, List, [], ◌∷◌, ◌++◌, cond, Bool, true, false, length, get_or, arith, inl, inr}
+use Rattle.std.proofs.Common.{◌≡◌, ◌≢◌, ℕ, zero, suc, ◌+◌, ◌*◌, ◌<◌, refl, sym, ap, subst, ◌∙◌, List, [], ◌∷◌, ◌++◌, cond, Bool, true, false, length, get_or, arith, inl, inr}
 use Rattle.std.specs.Prelude.{Option, None, Some, IfSome, IsSomeAnd, map, ◌==◌}
 use Rattle.std.specs.List.{All, AllPairs, AllZip, sum_by}
 use Rattle.std.specs.Option.{option_map}
 use Rattle.std.proofs.lemmas.Bool.{cases_Bool, cond-true, cond-false, eqb-true, eq-eqb, false≢true, false_from_ne_true}
 use Rattle.std.proofs.lemmas.List.Sums.{sum_by-cons}
 use Rattle.std.proofs.lemmas.Option.{none-some, same_Some}
-use Rattle.grid_range.specs.Area.{AreaWithin, IsWithinOn, band_on}
+use Rattle.grid_range.specs.Area.{AreaWithin, band_on}
 use Rattle.grid_range.specs.Band.{Within}
 use Rattle.grid_range.specs.Change.{count_after}
 use Rattle.grid_range.specs.declared.area.Area.{Area}
 use Rattle.grid_range.specs.declared.axis.Axis.{Axis}
 use Rattle.grid_range.specs.declared.axis.Axis.TheVariants.{Rows, Columns}
 use Rattle.grid_range.specs.declared.change.Change.{Change}
-use Rattle.cell_store.specs.Moved.{IsRoomAfter, lines_on, size_after}
-use Rattle.cell_store.specs.Table.{Table, item_at, most_lines}
+use Rattle.cell_store.specs.Moved.{IsRoomAfter, size_after}
+use Rattle.cell_store.specs.Table.{Table, item_at}
 use Rattle.ref_rewrite.specs.Following.{IsPieceWithinOn}
 use Rattle.ref_rewrite.specs.declared.cell_content.Content.{Content}
 use Rattle.ref_rewrite.specs.declared.cell_content.Content.TheVariants as content
@@ -25,9 +25,9 @@ use Rattle.world_model.specs.Counts.{grid_places}
 use Rattle.world_model.specs.Laws.{size_of}
 use Rattle.world_model.specs.PlaceChange.{BookChanged, SheetChanged}
 use Rattle.world_model.specs.Sheet.{PlaceSheet}
-use Rattle.world_model.specs.Sound.{IsSheetSound, IsSound, IsContentWithin, IsLineCount, IsPieceWithin, most_on, place_sheet_with}
+use Rattle.world_model.specs.Sound.{IsSheetSound, IsContentWithin, IsLineCount, IsPieceWithin, place_sheet_with}
 use Rattle.dimension_ops.specs.Lines.{HasSizesChanged, SheetFollows, lines_of_sheet, places_changed, size_changed}
-use Rattle.dimension_ops.specs.References.{AreWithinOn, CanChange, IsContentWithinOn}
+use Rattle.dimension_ops.specs.References.{CanChange, IsContentWithinOn}
 
 abbrev places_of : ℕ × ℕ → ℕ
 places_of size = size.0 * size.1

@@ -1,10 +1,10 @@
 -- The formulas of a table: those that follow a change, and how many there are.
-use Rattle.std.proofs.Common.{◌≡◌, ℕ, ◌+◌, ◌<◌, ◌≤◌, refl, sym, ap, subst, ◌∙◌, List, [], ◌∷◌, cond, Bool, true, false, ◌||◌, arith, inl, inr}
-use Rattle.std.specs.Prelude.{Option, None, Some, IfSome, is_some, map, ◌==◌, Contains, ◌↔◌}
+use Rattle.std.proofs.Common.{◌≡◌, ℕ, ◌+◌, refl, sym, ap, subst, ◌∙◌, List, [], ◌∷◌, cond, Bool, true, false, ◌||◌, arith, inl, inr}
+use Rattle.std.specs.Prelude.{Option, None, Some, IfSome, is_some, map}
 use Rattle.std.specs.List.{AllByRecursion, count_by, filter, fold, list_any}
 use Rattle.std.specs.List.Sorted.{IsStrictlySortedBy}
 use Rattle.std.specs.Option.{option_map, option_map_or}
-use Rattle.std.specs.Ordering.{eq_by_cmp, is_eq}
+use Rattle.std.specs.Ordering.{is_eq}
 use Rattle.std.specs.declared.cmp.Ordering.TheVariants.{Less}
 use Rattle.std.specs.Cmp.{eq_by_cmp_equiv}
 use Rattle.std.specs.FinMap as finite
@@ -12,7 +12,7 @@ use Rattle.std.proofs.lemmas.Bool.{cases_Bool, false≢true}
 use Rattle.std.proofs.lemmas.List.Kept.{IsStrictlySortedBy-filter}
 use Rattle.std.proofs.lemmas.List.Sums.{sum_by-cons}
 use Rattle.std.proofs.lemmas.Map.Keys.{sorted_head, sorted_tail}
-use Rattle.std.proofs.lemmas.Map.Views.{Contains-from_any, list_any-from_Contains}
+use Rattle.std.proofs.lemmas.Map.Views.{list_any-from_Contains}
 use Rattle.cell_value.specs.Elements.{Contains-filter, Contains-filter_from}
 use Rattle.grid_range.specs.Area.{by_rows}
 use Rattle.grid_range.specs.declared.axis.Axis.{Axis}
@@ -31,7 +31,7 @@ use Rattle.world_model.specs.Counts.{is_formula, formulas_at, formulas_in}
 use Rattle.world_model.specs.Laws.{FormulasCounted}
 use Rattle.world_model.specs.PlaceChange.{FollowsInPlace, content_followed}
 use Rattle.dimension_ops.specs.References.{AreReferring, AreWithinOn, IsContentWithinOn, followed_at, is_formula_at, is_reference_to, refers_at, refers_to}
-use Rattle.dimension_ops.proofs.Places.{all_followed, among, by_rows_total, same, same_is, size_stays}
+use Rattle.dimension_ops.proofs.Places.{all_followed, among, by_rows_total, same, size_stays}
 
 -- ---- what has no reference to the sheet stays
 

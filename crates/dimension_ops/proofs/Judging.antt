@@ -1,10 +1,9 @@
 -- What is known where no rule is broken, or a rule is the first that is.
-use Rattle.std.proofs.Common.{◌≡◌, ℕ, ◌≤◌, refl, sym, ap, ◌∙◌, List, Bool, true, false, cond, not}
-use Rattle.std.specs.Prelude.{None, Option, Result, Some, Ok, Err, nat_lt}
+use Rattle.std.proofs.Common.{◌≡◌, refl, sym, ap, Bool, true, false, cond}
+use Rattle.std.specs.Prelude.{None, Option, Result, Some, Ok, Err}
 use Rattle.std.specs.Option.{option_map_or}
-use Rattle.std.proofs.lemmas.Bool.{false≢true}
-use Rattle.std.proofs.lemmas.Option.{none-some, same_Some}
-use Rattle.dimension_ops.specs.Broken.{Broken, Passes, broken_behind, first_broken, first_passed, judged_by}
+use Rattle.std.proofs.lemmas.Option.{none-some}
+use Rattle.dimension_ops.specs.Broken.{Broken, Passes, broken_behind, first_broken, first_passed}
 use Rattle.dimension_ops.specs.declared.rule.Limit.{Limit}
 use Rattle.dimension_ops.specs.declared.rule.Limit.TheVariants as limit
 use Rattle.dimension_ops.specs.declared.rule.Rule.{Rule}

@@ -13,3 +13,4 @@ pub mod Places
 pub mod Formulas
 pub mod Changed
 pub mod PastLines
+pub mod LostReferences

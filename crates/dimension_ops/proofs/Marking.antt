@@ -1,5 +1,5 @@
 -- The sheet that has an id is changed in a list of shared sheets, and keeps its id.
-use Rattle.std.proofs.Common.{◌≡◌, ◌≢◌, ℕ, ◌<◌, refl, sym, ap, subst, ◌∙◌, List, [], ◌∷◌, length, get_or, set, cond, Bool, true, false, inl, inr, arith}
+use Rattle.std.proofs.Common.{◌≡◌, ◌≢◌, ℕ, ◌<◌, refl, sym, ap, ◌∙◌, List, [], ◌∷◌, length, get_or, set, cond, Bool, true, false, inl, inr}
 use Rattle.std.specs.Prelude.{None, Option, Some, is_some, map, ◌==◌}
 use Rattle.std.specs.Arc.{arc_value}
 use Rattle.std.specs.List.{position_from}
@@ -10,9 +10,8 @@ use Rattle.std.proofs.lemmas.Bool.{cases_order, eqb-true, false_from_ne_true, fa
 use Rattle.std.proofs.lemmas.List.{map-set}
 use Rattle.world_model.specs.Book.{PlaceBook}
 use Rattle.world_model.specs.Sheet.{PlaceSheet}
-use Rattle.world_model.specs.SheetChange.{on_place_sheet}
 use Rattle.world_model.specs.Sound.{place_sheet_with}
-use Rattle.dimension_ops.proofs.Finding.{IsFoundAt, found_at, none_from, there_seen}
+use Rattle.dimension_ops.proofs.Finding.{IsFoundAt, found_at, none_from}
 use Rattle.dimension_ops.proofs.Putting.{IdsDiffer, changed_at_place, seen_stands}
 
 -- the spreadsheet of these sheets

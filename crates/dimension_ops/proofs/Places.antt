@@ -1,7 +1,7 @@
 -- The filled places of a table, one behind another: what follows there, and how many formulas stand there.
-use Rattle.std.proofs.Common.{◌≡◌, ℕ, ◌+◌, ◌<◌, refl, sym, ap, ◌∙◌, length, get_or, take, List, [], ◌∷◌, ◌++◌, cond, Bool, true, false, ◌||◌, ◌&&◌, arith}
-use Rattle.std.specs.Prelude.{Option, None, Some, is_some, ◌==◌}
-use Rattle.std.specs.List.{AllByRecursion, count_by, fold, list_any}
+use Rattle.std.proofs.Common.{◌≡◌, ℕ, ◌+◌, ◌<◌, refl, sym, ap, ◌∙◌, length, get_or, take, List, [], ◌∷◌, cond, Bool, true, false, ◌||◌, arith}
+use Rattle.std.specs.Prelude.{Option, None, Some}
+use Rattle.std.specs.List.{AllByRecursion, fold, list_any}
 use Rattle.std.specs.List.Sorted.{IsStrictlySortedBy}
 use Rattle.std.specs.Option.{option_map, option_map_or}
 use Rattle.std.specs.Ordering.{nat_cmp, eq_by_cmp, is_eq, ordering_then}

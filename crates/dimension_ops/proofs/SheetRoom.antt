@@ -1,14 +1,13 @@
 -- Where no rule is broken there is room for the sheet that is added.
-use Rattle.std.proofs.Common.{◌≡◌, ℕ, zero, suc, ◌+◌, ◌*◌, ◌<◌, ◌≤◌, refl, sym, ap, subst, ◌∙◌, List, [], ◌∷◌, ◌++◌, length, get_or, Bool, true, false, cond, not, arith, codes, ◌&&◌, ◌||◌, length-append}
-use Rattle.std.specs.Prelude.{None, Option, Some, is_some, nat_lt, nat_le, unwrap_or, ◌==◌}
+use Rattle.std.proofs.Common.{◌≡◌, ℕ, zero, suc, ◌+◌, ◌*◌, ◌<◌, ◌≤◌, refl, sym, ap, subst, ◌∙◌, List, [], ◌∷◌, length, Bool, true, false, not, arith, codes, ◌&&◌, length-append}
+use Rattle.std.specs.Prelude.{None, Option, Some, is_some, nat_lt, nat_le, ◌==◌}
 use Rattle.std.specs.Char.{is_control}
 use Rattle.std.specs.Fmt.{decimal}
 use Rattle.std.specs.List.{All, find, list_any}
 use Rattle.std.specs.Str.{chars, str_eq_ignore_ascii_case}
 use Rattle.std.proofs.lemmas.Bool.{and_parts, eqb-false, false≢true, ltb-false, or_parts}
 use Rattle.std.proofs.lemmas.Bool.Decides.{Decides-ltb}
-use Rattle.std.proofs.lemmas.Option.{none-some}
-use Rattle.cell_value.specs.Ids.{IsLeastUnused, IsNewId, is_taken}
+use Rattle.cell_value.specs.Ids.{IsNewId, is_taken}
 use Rattle.cell_value.specs.declared.cell.SheetProperties.{SheetProperties}
 use Rattle.world_model.specs.Book.{PlaceBook}
 use Rattle.world_model.specs.BookChange.{NewSheet}

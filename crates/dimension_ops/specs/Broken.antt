@@ -1,6 +1,6 @@
 -- Which rule a request breaks: a kind of request says of each rule whether the request breaks it, and the order in
 -- which rules are tried stands here alone.
-use Rattle.std.specs.Prelude.{◌≡◌, ℕ, Bool, false, List, [], ◌∷◌, Option, None, Some, Result, Ok, Err, if◌then◌else◌}
+use Rattle.std.specs.Prelude.{ℕ, Bool, false, List, [], ◌∷◌, Option, None, Some, Result, Ok, Err, if◌then◌else◌}
 use Rattle.std.specs.Option.{option_map_or}
 use Rattle.dimension_ops.specs.declared.rule.Limit.{Limit}
 use Rattle.dimension_ops.specs.declared.rule.Limit.TheVariants as limit

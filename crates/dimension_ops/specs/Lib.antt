@@ -8,3 +8,4 @@ pub mod Broken
 pub mod SheetRequests
 pub mod References
 pub mod Lines
+pub mod Losing

@@ -1,7 +1,7 @@
 -- Which rules are broken by requests that add or delete a sheet, or set its properties, and the sheet that is added
 -- (Google Sheets API v4 reference, AddSheetRequest, DeleteSheetRequest, UpdateSheetPropertiesRequest). The bounds on
 -- titles, and what isn't given, are this project's profile.
-use Rattle.std.specs.Prelude.{◌≡◌, ◌<◌, ◌+◌, ◌*◌, ◌++◌, ℕ, Bool, true, false, not, ◌&&◌, ◌||◌, ◌==◌, List, [], ◌∷◌, length, map, Option, None, Some, is_none, is_some, unwrap_or, nat_le, nat_lt, codes, Result, Ok, Err, ⊤, if◌then◌else◌}
+use Rattle.std.specs.Prelude.{◌≡◌, ◌<◌, ◌+◌, ◌*◌, ◌++◌, ℕ, Bool, true, false, not, ◌&&◌, ◌||◌, ◌==◌, List, [], ◌∷◌, length, Option, None, Some, is_some, unwrap_or, nat_le, nat_lt, codes, Result, Ok, Err, ⊤}
 use Rattle.std.specs.Char.{is_control}
 use Rattle.std.specs.Fmt.{decimal}
 use Rattle.std.specs.List.{list_all, list_any}
@@ -14,7 +14,7 @@ use Rattle.world_model.specs.Book.{PlaceBook}
 use Rattle.world_model.specs.BookChange.{AreChanges, BookChange, NewSheet}
 use Rattle.world_model.specs.Counts.{grid_places}
 use Rattle.world_model.specs.Sheet.{PlaceSheet}
-use Rattle.world_model.specs.SheetChange.{other_sheets, place_marked_hidden}
+use Rattle.world_model.specs.SheetChange.{other_sheets}
 use Rattle.world_model.specs.Sound.{most_on, most_places, most_sheets, place_sheet_with}
 use Rattle.dimension_ops.specs.Broken.{Broken, Passes, first_broken, first_passed, unbroken}
 use Rattle.dimension_ops.specs.Titles.{sheet_titled}

@@ -1,9 +1,9 @@
-ghost use Rattle.std.specs.Prelude.{◌≡◌, ◌==◌, ◌<◌, ◌≤◌, ◌∷◌, [], map, length, IfErr, IfOk, IfSome, IsSomeAnd, OnOk, OnErr};
-ghost use Rattle.std.specs.List.{insert, position_from};
+ghost use Rattle.std.specs.Prelude.{◌≡◌, ◌==◌, ◌<◌, ◌≤◌, ◌∷◌, [], map, length, IfErr, IfOk, IfSome, IsSomeAnd, OnOk, OnErr, false};
+ghost use Rattle.std.specs.List.{insert, list_all, position_from};
 ghost use Rattle.std.specs.Option.{IsSome, option_copied};
 ghost use Rattle.cell_store.specs.Table.{HasPlace, filled_places, most_filled};
 ghost use Rattle.world_model.specs.Counts.{filled_of, formulas_of, grid_places};
-ghost use Rattle.world_model.specs.SheetChange.{on_place_sheet, place_marked_hidden, place_sheet_added, place_titled};
+ghost use Rattle.world_model.specs.SheetChange.{PlaceSheetDeleted, on_place_sheet, other_sheets, place_marked_hidden, place_sheet_added, place_titled};
 ghost use Rattle.world_model.specs.Sound.{IsContentWithin, IsLineCount, IsSound, most_places, most_sheets, place_sheet_with};
 ghost use Rattle.world_model.specs.Writing.{book_put, table_written};
 ghost use Rattle.std.specs.Arc.{arc_value};
@@ -16,6 +16,7 @@ ghost use Rattle.world_model.specs.PlaceChange.{BookChanged};
 ghost use Rattle.dimension_ops.specs.Lines.{lines_of_sheet, places_changed};
 
 use crate::lines::sheets_changed;
+use crate::losing::sheets_left;
 use crate::sheet::Sheet;
 use crate::sheets::places_of;
 use cell_value::{Duplicate, Items, NoMemory, Text};
@@ -29,7 +30,8 @@ use std::marker::Model;
 use std::mem;
 use std::sync::Arc;
 use world_model::{
-    changes_stay_sound, filled_within_places, formulas_counted, writes_follow, writes_stay_sound,
+    changes_stay_sound, filled_within_places, formulas_counted, sheets_deleted, writes_follow,
+    writes_stay_sound,
 };
 
 /// A spreadsheet: its sheets in their order, named ranges, protected ranges and metadata (Sheets API v4
@@ -201,6 +203,53 @@ impl Book {
         self.sheets.insert(at as usize, shared)?;
         self.ids = ids;
         Ok(())
+    }
+
+    /// Whether all sheets but the one with the id are hidden.
+    pub(crate) fn others_hidden(&self, sheet: u32) -> bool
+        ensures { result ≡ list_all (λ other. other.hidden) (other_sheets sheet self.now.sheets) }
+    {
+        self.sheets
+            .iter()
+            .all(|other| other.id() == sheet || other.hidden())
+    }
+
+    /// Takes the sheet with the id out, with each reference to it. A sheet without one isn't copied. While
+    /// references are lost a spare spreadsheet stands here, since what always holds of one doesn't hold until all are.
+    ///
+    /// # Errors
+    ///
+    /// [`NoMemory`] where memory runs out; the spreadsheet is to be given up then.
+    pub(crate) fn remove(&mut self, sheet: u32) -> Result<(), NoMemory>
+        requires visible { list_all (λ other. other.hidden) (other_sheets sheet self.old.sheets) ≡ false }
+        ensures { OnOk result (PlaceSheetDeleted sheet self.old self.new) }
+    {
+        let spare = Book::opening(self.alloc)?;
+        let book = mem::replace(self, spare);
+        *self = book.removed(sheet)?;
+        Ok(())
+    }
+
+    /// The spreadsheet without the sheet.
+    fn removed(self, sheet: u32) -> Result<Book, NoMemory>
+        requires visible { list_all (λ other. other.hidden) (other_sheets sheet self.sheets) ≡ false }
+        ensures { IfOk result (PlaceSheetDeleted sheet self) }
+    {
+        sheets_deleted();
+        let sheets = sheets_left(self.alloc, self.sheets, sheet)?;
+        let mut ids = self.ids.into_vec();
+        ids.retain(|id| *id != sheet);
+        Ok(Book {
+            alloc: self.alloc,
+            id: self.id,
+            title: self.title,
+            owner: self.owner,
+            sheets,
+            ids: Items::of(ids),
+            names: self.names,
+            protections: self.protections,
+            metadata: self.metadata,
+        })
     }
 
     /// Gives the sheet with the id another title. It is copied first where another copy of the spreadsheet

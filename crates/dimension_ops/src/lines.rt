@@ -18,7 +18,7 @@ ghost use Rattle.dimension_ops.specs.declared.rule.Rule.TheVariants.{PastLimit};
 use crate::book::Book;
 use crate::rule::{Limit, Rule, RuleOr};
 use crate::sheet::Sheet;
-use crate::sheets::{places_of, MOST_COLS, MOST_PLACES, MOST_ROWS};
+use crate::sheets::{MOST_COLS, MOST_PLACES, MOST_ROWS, places_of};
 use cell_value::NoMemory;
 use grid_range::{Axis, Change, SheetChange};
 use std::alloc::Global;

@@ -3,7 +3,7 @@ ghost use Rattle.std.specs.Option.{option_copied};
 ghost use Rattle.cell_store.specs.Places.{AreFilledPlaces};
 ghost use Rattle.cell_store.specs.Table.{item_at, filled_places, empty_table, most_filled, most_lines, HasPlace, HasItemsInside};
 ghost use Rattle.world_model.specs.Counts.{formulas_at, formulas_in};
-ghost use Rattle.world_model.specs.SheetChange.{place_marked_hidden, place_titled};
+ghost use Rattle.world_model.specs.SheetChange.{LosesReferences, place_marked_hidden, place_titled};
 ghost use Rattle.world_model.specs.Writing.{table_written};
 ghost use Rattle.grid_range.specs.Change.{Fits};
 ghost use Rattle.cell_store.specs.Moved.{IsRoomAfter, lines_on};
@@ -11,6 +11,7 @@ ghost use Rattle.dimension_ops.specs.References.{AreReferring, AreWithinOn};
 ghost use Rattle.dimension_ops.specs.Lines.{SheetFollows, SheetMoves};
 
 use crate::following::{count_formulas, follow_places, references};
+use crate::losing::lose_places;
 use basic_filter::Filter;
 use cell_store::{CellStore, TreeGrid, tables_by_items};
 use cell_value::{Duplicate, Items, NoMemory, Text};
@@ -245,6 +246,14 @@ impl Sheet {
             merges: self.merges,
             filter: self.filter,
         })
+    }
+
+    /// Has the references of those formulas to the sheet with the id be lost.
+    pub(crate) fn lose(&mut self, places: &[(u32, u32)], sheet: u32)
+        requires places { AreReferring sheet self.old.table places.now }
+        ensures { LosesReferences sheet self.old self.new }
+    {
+        lose_places(&mut self.cells, places, sheet);
     }
 }
 

@@ -4,22 +4,24 @@ ghost use Rattle.std.specs.Char.{is_control};
 ghost use Rattle.std.specs.List.{list_any};
 ghost use Rattle.std.specs.Str.{chars};
 ghost use Rattle.cell_store.specs.Table.{most_lines};
-ghost use Rattle.std.specs.Prelude.{◌≡◌, ◌==◌, ◌||◌, ◌≤◌, ◌+◌, ◌*◌, ◌∷◌, [], None, length, IfOk, OnErr};
+ghost use Rattle.std.specs.Prelude.{◌≡◌, ◌==◌, ◌||◌, ◌≤◌, ◌+◌, ◌*◌, ◌∷◌, [], None, length, IfOk, OnErr, OnOk};
 ghost use Rattle.cell_value.specs.Ids.{IsNewId, is_taken};
-ghost use Rattle.world_model.specs.BookChange.{NewSheet};
+ghost use Rattle.world_model.specs.BookChange.{AreChanges, NewSheet};
 ghost use Rattle.world_model.specs.Counts.{grid_places};
 ghost use Rattle.world_model.specs.SheetChange.{new_place_sheet};
 ghost use Rattle.world_model.specs.Sound.{most_places};
+ghost use Rattle.world_model.specs.BookChange.BookChange.{SheetDeleted};
+ghost use Rattle.dimension_ops.specs.Rules.{IsUnlessNoMemory};
 ghost use Rattle.dimension_ops.specs.Broken.{first_broken, first_passed, judged_by};
 ghost use Rattle.dimension_ops.specs.SheetRequests.{IsJudged, IsSheetAdded, IsNewSheet, IsLeastId, IsFirstTitle};
 ghost use Rattle.dimension_ops.specs.SheetRequests.{has_id, has_title, is_bad_title, may_be_title, passes_with};
-ghost use Rattle.dimension_ops.specs.SheetRequests.{new_rows, new_cols, new_place, sheet_added_broken, size_added_broken};
+ghost use Rattle.dimension_ops.specs.SheetRequests.{new_rows, new_cols, new_place, sheet_added_broken, sheet_dropped_broken, size_added_broken};
 
 use crate::book::Book;
 use crate::rule::{Limit, Rule, RuleOr};
 use crate::sheet::Sheet;
 use cell_value::{Duplicate, NoMemory, SheetProperties, Text};
-use world_model::sheets_added;
+use world_model::{sheets_added, sheets_deleted};
 
 /// How many sheets a spreadsheet can have.
 const MOST_SHEETS: u32 = 200;
@@ -74,6 +76,40 @@ fn put_new(book: &mut Book, properties: &SheetProperties) -> Result<u32, NoMemor
     let place = place_of_new(book, properties);
     book.insert(place, sheet)?;
     Ok(id)
+}
+
+/// Deletes the sheet with the id. Each reference to it is lost for good, in formulas of all sheets.
+///
+/// # Errors
+///
+/// [`Rule::NoSheet`] where no sheet has the id, and [`Rule::LastSheet`] where no visible sheet would be left. The
+/// spreadsheet is as it was then. [`RuleOr::NoMemory`] where memory runs out; the spreadsheet is to be given up
+/// then.
+pub fn drop_sheet(book: &mut Book, sheet: u32) -> Result<(), RuleOr>
+    ensures judged { IsJudged (sheet_dropped_broken sheet book.old.sheets) result }
+    ensures dropped { OnOk result (AreChanges (SheetDeleted sheet ∷ []) book.old book.new) }
+    ensures unchanged { IsUnlessNoMemory (λ answer. OnErr answer (book.new ≡ book.old)) result }
+{
+    if let Err(rule) = judge_dropped(book, sheet) {
+        return Err(RuleOr::Rule(rule));
+    }
+    sheets_deleted();
+    book.remove(sheet)?;
+    book.stays_sound();
+    Ok(())
+}
+
+/// The first rule that is broken by deleting a sheet.
+fn judge_dropped(book: &Book, sheet: u32) -> Result<(), Rule>
+    ensures { result ≡ judged_by (sheet_dropped_broken sheet book.now.sheets) tt }
+{
+    if !has_id(book, sheet) {
+        return Err(Rule::NoSheet);
+    }
+    if book.others_hidden(sheet) {
+        return Err(Rule::LastSheet);
+    }
+    Ok(())
 }
 
 /// The first rule that is broken by adding a sheet.

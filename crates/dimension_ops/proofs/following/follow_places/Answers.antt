@@ -1,4 +1,4 @@
-use Rattle.std.proofs.Common.{◌≡◌, ℕ, sym, ap, subst, ◌∙◌, cond, length, get_or, arith}
+use Rattle.std.proofs.Common.{ℕ, sym, ap, subst, ◌∙◌, cond, get_or, arith}
 use Rattle.std.specs.Prelude.{IfSome}
 use Rattle.std.specs.Option.{option_map}
 use Rattle.cell_store.specs.Table.{item_at}

@@ -1,5 +1,4 @@
 use Rattle.std.proofs.Common.{rules, sym, subst}
-use Rattle.std.specs.List.{filter}
 use Rattle.std.proofs.lemmas.Fn.{filter_same}
 use Rattle.dimension_ops.specs.References.{AreReferring, refers_at}
 use Rattle.dimension_ops.proofs.Formulas.{referring}

@@ -1,4 +1,4 @@
-use Rattle.std.proofs.Common.{◌≡◌, ℕ, ap, sym, ◌∙◌, ◌*◌, ◌+◌, arith}
+use Rattle.std.proofs.Common.{◌≡◌, ℕ, ap, sym, ◌∙◌, ◌*◌, arith}
 use Rattle.cell_store.specs.Moved.{size_after}
 use Rattle.dimension_ops.proofs.Changed.{places_replaced}
 use Rattle.dimension_ops.proofs.lines.places_after.Goals as goal

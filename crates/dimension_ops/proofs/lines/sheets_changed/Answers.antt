@@ -1,4 +1,4 @@
-use Rattle.std.proofs.Common.{◌≡◌, ◌<◌, ◌∙◌, sym, ap, subst, List, ◌∷◌, [], ◌++◌, length, get_or, map}
+use Rattle.std.proofs.Common.{◌<◌, ◌∙◌, sym, ap, subst, ◌∷◌, [], ◌++◌, length, map}
 use Rattle.std.specs.Arc.{arc_value}
 use Rattle.std.specs.List.{AllZip}
 use Rattle.std.proofs.lemmas.Iterator.Adapters.{YieldsList-from_vec}

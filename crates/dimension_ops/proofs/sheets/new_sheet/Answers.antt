@@ -1,7 +1,4 @@
-use Rattle.std.proofs.Common.{◌≡◌, ℕ, Bool, sym, ap, ◌∙◌, List, refl}
-use Rattle.cell_store.specs.Table.{empty_table}
-use Rattle.ref_rewrite.specs.declared.cell_content.Content.{Content}
-use Rattle.world_model.specs.Sheet.{PlaceSheet}
+use Rattle.std.proofs.Common.{ap, ◌∙◌}
 use Rattle.world_model.specs.SheetChange.{place_marked_hidden}
 use Rattle.dimension_ops.proofs.sheets.new_sheet.Goals as goal
 

@@ -1,11 +1,10 @@
-use Rattle.std.proofs.Common.{◌≡◌, ◌≤◌, ℕ, sym, ap, subst, ◌∙◌, List, [], ◌∷◌, length}
-use Rattle.world_model.specs.Book.{PlaceBook}
-use Rattle.world_model.specs.BookChange.{AreChanges, BookChange, NewSheet}
+use Rattle.std.proofs.Common.{◌≤◌, sym, ap, subst, ◌∙◌, [], ◌∷◌, length}
+use Rattle.world_model.specs.BookChange.{AreChanges, BookChange}
 use Rattle.world_model.specs.Sheet.{PlaceSheet}
 use Rattle.world_model.specs.SheetChange.{new_place_sheet, place_sheet_added}
 use Rattle.world_model.specs.Sound.{IsSound}
 use Rattle.std.proofs.lemmas.Bool.{ltb-false}
-use Rattle.dimension_ops.specs.SheetRequests.{IsNewSheet, new_place, sheet_added_broken}
+use Rattle.dimension_ops.specs.SheetRequests.{new_place, sheet_added_broken}
 use Rattle.dimension_ops.proofs.Judging.{breaks_none}
 use Rattle.dimension_ops.proofs.SheetRoom.{few_lines, room_for}
 use Rattle.dimension_ops.proofs.sheets.put_new.Goals as goal

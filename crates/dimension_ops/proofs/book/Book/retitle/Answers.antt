@@ -1,4 +1,4 @@
-use Rattle.std.proofs.Common.{◌≡◌, ℕ, refl, sym, ap, subst, ◌∙◌, List, length, set, arith, Some, None, Option, Ok, Err}
+use Rattle.std.proofs.Common.{◌≡◌, refl, sym, ap, subst, ◌∙◌, length, set, arith, Ok, Err}
 use Rattle.std.specs.Prelude.{OnErr, map}
 use Rattle.std.specs.Arc.{arc_value}
 use Rattle.std.specs.Option.{IsSome}

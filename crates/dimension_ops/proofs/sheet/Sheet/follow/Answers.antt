@@ -1,4 +1,4 @@
-use Rattle.std.proofs.Common.{sym, ap, subst, ◌∙◌}
+use Rattle.std.proofs.Common.{sym, ap, subst}
 use Rattle.world_model.specs.PlaceChange.{FollowsInPlace}
 use Rattle.world_model.specs.Sheet.{PlaceSheet}
 use Rattle.dimension_ops.specs.References.{AreReferring}

@@ -1,0 +1,21 @@
+use Rattle.std.proofs.Common.{◌≡◌, refl, sym, subst, ◌∙◌, List, [], ◌∷◌, length, true, arith}
+use Rattle.std.specs.Prelude.{◌==◌}
+use Rattle.std.proofs.lemmas.Bool.{eqb-true}
+use Rattle.std.specs.Arc.{arc_value}
+use Rattle.world_model.specs.Sheet.{PlaceSheet}
+use Rattle.dimension_ops.specs.References.{AreReferring}
+use Rattle.dimension_ops.proofs.LostReferences.{none_lost}
+use Rattle.dimension_ops.proofs.losing.sheet_left.Goals as goal
+
+no_items : {A : Type 0} (items : List A) → (length items == 0) ≡ true → items ≡ []
+no_items [] is = refl
+no_items (first ∷ items) is = absurd (omega (arith, eqb-true (length (first ∷ items)) 0 is))
+
+pub returns-then-is_empty : goal.returns-then-is_empty
+returns-then-is_empty c =
+    let none : c.in_ok-places.places.items ≡ [] =
+    sym c.as_slice.ensures.value ∙ no_items c.as_slice.result.now (sym c.is_empty.ensures ∙ c.if-is_empty.true) in
+    none_lost c.args.deleted (arc_value c.args.sheet)
+    (subst (AreReferring c.args.deleted (arc_value c.args.sheet).table) none
+    (subst (λ (sheet : PlaceSheet). AreReferring c.args.deleted sheet.table c.in_ok-places.places.items)
+    c.deref.ensures c.in_ok-places.ensures))

@@ -1,0 +1,29 @@
+use Rattle.std.proofs.Common.{sym, ap, subst, ◌∙◌}
+use Rattle.std.specs.Option.{option_map}
+use Rattle.cell_store.specs.Table.{item_at}
+use Rattle.world_model.specs.Sheet.{PlaceSheet}
+use Rattle.world_model.specs.SheetChange.{content_without}
+use Rattle.dimension_ops.specs.References.{AreReferring}
+use Rattle.dimension_ops.proofs.LostReferences.{cols_stay, items_lost, rows_stay}
+use Rattle.dimension_ops.proofs.sheet.Sheet.lose.Goals as goal
+
+pub returns : goal.returns
+returns c =
+    let are = subst (λ (sheet : PlaceSheet). AreReferring c.args.sheet sheet.table c.args.places.now) (sym c.self.view_is)
+    c.requires.places in
+    record {
+      id = ap (λ (sheet : PlaceSheet). sheet.id) c.self.view_is;
+      title = ap (λ (sheet : PlaceSheet). sheet.title) c.self.view_is;
+      hidden = ap (λ (sheet : PlaceSheet). sheet.hidden) c.self.view_is;
+      rows = ap (λ table. table.rows) c.lose_places.ensures.lost
+          ∙ rows_stay c.args.sheet c.self.inside.cells c.args.places.now are
+          ∙ ap (λ (sheet : PlaceSheet). sheet.table.rows) c.self.view_is;
+      cols = ap (λ table. table.cols) c.lose_places.ensures.lost
+          ∙ cols_stay c.args.sheet c.self.inside.cells c.args.places.now are
+          ∙ ap (λ (sheet : PlaceSheet). sheet.table.cols) c.self.view_is;
+      items = λ row col.
+          ap (λ table. item_at table row col) c.lose_places.ensures.lost
+          ∙ items_lost c.args.sheet c.self.inside.cells c.args.places.now are row col
+          ∙ ap (λ (sheet : PlaceSheet). option_map (content_without c.args.sheet) (item_at sheet.table row col))
+          c.self.view_is;
+    }

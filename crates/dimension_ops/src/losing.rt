@@ -1,0 +1,82 @@
+//! The references of formulas to a sheet that is deleted.
+
+ghost use Rattle.std.specs.Prelude.{◌≡◌, IfOk, map};
+ghost use Rattle.std.specs.Arc.{arc_value};
+ghost use Rattle.std.specs.List.{AllZip, fold};
+ghost use Rattle.world_model.specs.Counts.{formulas_in};
+ghost use Rattle.world_model.specs.SheetChange.{LosesReferences, content_without, other_sheets};
+ghost use Rattle.dimension_ops.specs.Losing.{lost_at};
+
+use crate::sheet::{Cells, Sheet};
+use cell_store::Grid;
+use cell_value::NoMemory;
+use ref_rewrite::{Content, lose_sheet};
+use std::alloc::Global;
+use std::sync::Arc;
+use world_model::formulas_counted;
+
+/// The other sheets, without their references to the one with the id. One that has none stays as it is, and
+/// isn't copied.
+///
+/// # Errors
+///
+/// [`NoMemory`] where memory runs out.
+pub(crate) fn sheets_left(
+    alloc: Global,
+    sheets: Vec<Arc<Sheet>>,
+    deleted: u32,
+) -> Result<Vec<Arc<Sheet>>, NoMemory>
+    ensures { IfOk result (λ left. AllZip (LosesReferences deleted)
+        (other_sheets deleted (map arc_value sheets.items)) (map arc_value left.items)) }
+{
+    let mut left = Vec::new(alloc);
+    for sheet in sheets {
+        if sheet.id() != deleted {
+            left.push(sheet_left(alloc, sheet, deleted)?)?;
+        }
+    }
+    Ok(left)
+}
+
+/// Another sheet without its references to the one with the id.
+fn sheet_left(alloc: Global, sheet: Arc<Sheet>, deleted: u32) -> Result<Arc<Sheet>, NoMemory>
+    ensures { IfOk result (λ left. LosesReferences deleted (arc_value sheet) (arc_value left)) }
+{
+    let places = sheet.references(alloc, deleted)?;
+    if places.as_slice().is_empty() {
+        return Ok(sheet);
+    }
+    let mut own = Arc::unwrap_or_clone(sheet)?;
+    own.lose(&places, deleted);
+    Ok(Arc::new(alloc, own)?)
+}
+
+/// Has the references to the sheet be lost that stand at the places.
+pub(crate) fn lose_places(cells: &mut Cells, places: &[(u32, u32)], sheet: u32)
+    ensures lost { cells.new ≡ fold (lost_at sheet) cells.old places.now }
+    ensures formulas_stay { formulas_in cells.new ≡ formulas_in cells.old }
+{
+    for place in places {
+        lose_at(cells, place.0, place.1, sheet);
+    }
+}
+
+/// Has the references to the sheet be lost that stand at the place.
+fn lose_at(cells: &mut Cells, row: u32, column: u32, sheet: u32)
+    ensures lost { cells.new ≡ lost_at sheet cells.old (row, column) }
+    ensures formulas_stay { formulas_in cells.new ≡ formulas_in cells.old }
+{
+    formulas_counted();
+    if let Some(content) = cells.get_mut(row, column) {
+        lose_in(content, sheet);
+    }
+}
+
+/// Has the references of a formula to the sheet be lost.
+fn lose_in(content: &mut Content, sheet: u32)
+    ensures { content.new ≡ content_without sheet content.old }
+{
+    if let Content::Formula(formula) = content {
+        lose_sheet(formula, sheet);
+    }
+}
