@@ -1,8 +1,7 @@
 -- Values that are entered into cells, one after another.
 use Rattle.std.proofs.Common.{◌≡◌, ℕ, refl, sym, subst, ap, ◌∙◌, cond, Bool, true, false, inl, inr, List}
-use Rattle.std.specs.Prelude.{Option, Some, None, ◌==◌, ◌&&◌, ◌⊎◌, IsSomeAnd, IfSome}
+use Rattle.std.specs.Prelude.{Option, Some, None, ◌==◌, ◌&&◌, ◌⊎◌}
 use Rattle.std.proofs.Math.Path.{fun_ext}
-use Rattle.std.proofs.lemmas.Bool.{and_parts, eqb-true}
 use Rattle.cell_value.specs.declared.entered.Input.{Input}
 use Rattle.cell_value.specs.declared.entered.Input.TheVariants as input
 use Rattle.formula_reader.specs.Laws.{IsReadOnce}
@@ -10,10 +9,9 @@ use Rattle.formula_reader.specs.Sheets.{Sheets}
 use Rattle.formula_reader.specs.declared.fault.FormulaFault.{FormulaFault}
 use Rattle.ref_rewrite.specs.declared.cell_content.Content.{Content}
 use Rattle.ref_rewrite.specs.declared.cell_content.Content.TheVariants as content
-use Rattle.ref_rewrite.specs.declared.pieces.Formula.{Formula}
 use Rattle.world_model.specs.Book.{PlaceBook}
 use Rattle.world_model.specs.Laws.{UpdatesAreWrites}
-use Rattle.world_model.specs.Updating.{BookUpdated, no_updates, with_update}
+use Rattle.world_model.specs.Updating.{BookUpdated, with_update}
 use Rattle.world_model.specs.Writing.{book_put}
 use Rattle.values_api.specs.Blocks.{Entry, IsEntry, IsEntryOf, AreEntries, IsFormulaEntry, IsFirstPassed, contents_of}
 use Rattle.values_api.specs.Given.{first_of}

@@ -5,7 +5,7 @@ use Rattle.std.proofs.lemmas.Bool.{and_parts, eqb-true, eq-eqb, leb-true, leb-fa
 use Rattle.formula_reader.specs.declared.fault.FormulaFault.{FormulaFault}
 use Rattle.formula_reader.specs.declared.fault.FormulaFault.TheVariants as fault
 use Rattle.values_api.specs.Blocks.{Entry, IsFirst, IsFirstPassed, passes, rank}
-use Rattle.values_api.specs.Given.{earlier, first_of}
+use Rattle.values_api.specs.Given.{first_of}
 use Rattle.values_api.proofs.Listed.{both_true, with_one}
 
 none_some : {A : Type 0} (x : A) → None ≡ Some x → ⊥

@@ -1,6 +1,6 @@
 -- Each sheet of a sound spreadsheet can be told by its title, and what a formula refers to is there.
-use Rattle.std.proofs.Common.{◌≡◌, ℕ, suc, ◌<◌, ◌≤◌, min, List, [], ◌∷◌, get_or, refl, sym, subst, ap, ◌∙◌, cond, Bool, true, false, arith}
-use Rattle.std.specs.Prelude.{Option, Some, None, ◌==◌, ◌&&◌, nat_lt, IsSomeAnd}
+use Rattle.std.proofs.Common.{◌≡◌, ℕ, ◌<◌, min, List, [], ◌∷◌, get_or, refl, sym, ap, ◌∙◌, cond, Bool, true, false, arith}
+use Rattle.std.specs.Prelude.{Option, Some, None, ◌&&◌, nat_lt, IsSomeAnd}
 use Rattle.std.specs.List.{All, find}
 use Rattle.std.specs.Option.{IsSome, option_map}
 use Rattle.std.specs.Str.{bytes_eq, str_to_ascii_lowercase}
@@ -13,7 +13,6 @@ use Rattle.grid_range.specs.declared.band.Band.{Band}
 use Rattle.grid_range.specs.declared.band.Band.TheVariants.{Whole, From, Span}
 use Rattle.ref_rewrite.specs.declared.pieces.Piece.{Piece}
 use Rattle.ref_rewrite.specs.declared.pieces.Piece.TheVariants as piece
-use Rattle.ref_rewrite.specs.declared.reference.Ref.{Ref as Reference}
 use Rattle.formula_reader.specs.Pieces.{clipped}
 use Rattle.formula_reader.specs.Printed.{IsPrintable, ArePrintable}
 use Rattle.formula_reader.specs.ReadBack.{AreKnown, IsKnown, IsPresent}
@@ -21,7 +20,7 @@ use Rattle.formula_reader.specs.ReferenceText.{HasForm}
 use Rattle.formula_reader.specs.Sheets.{HasTitle, sheet_named}
 use Rattle.world_model.specs.Book.{PlaceBook}
 use Rattle.world_model.specs.Sheet.{PlaceSheet}
-use Rattle.world_model.specs.Sound.{HasNotation, IsAreaWithin, IsPieceWithin, IsSound, place_sheet_with}
+use Rattle.world_model.specs.Sound.{HasNotation, IsPieceWithin, IsSound, place_sheet_with}
 use Rattle.values_api.proofs.Finding.{holds_of_found, sound_sheet}
 use Rattle.values_api.specs.Sheets.{formula_sheets}
 

@@ -22,3 +22,6 @@ pub mod WriteOnce
 pub mod Between
 pub mod Growing
 pub mod Stored
+pub mod Sizes
+pub mod Adding
+pub mod Planning

@@ -1,6 +1,6 @@
 -- Two lists of numbers in rising order that have the same members are one.
-use Rattle.std.proofs.Common.{◌≡◌, ℕ, zero, suc, refl, sym, ap, subst, ◌∙◌, List, [], ◌∷◌, length, arith, inl, inr}
-use Rattle.std.specs.Prelude.{◌⊎◌, ◌<◌, ◌↔◌}
+use Rattle.std.proofs.Common.{◌≡◌, ℕ, suc, refl, sym, ap, ◌∙◌, List, [], ◌∷◌, arith, inl, inr}
+use Rattle.std.specs.Prelude.{◌⊎◌, ◌<◌}
 use Rattle.std.specs.List.{All, AllPairs, Contains}
 use Rattle.std.proofs.lemmas.List.Elements.{All-cons, All-nil, All-contains, Contains-append_cases, Contains-append_right, Contains-get_or}
 

@@ -13,7 +13,7 @@ use Rattle.world_model.specs.Sheet.{PlaceSheet}
 use Rattle.world_model.specs.Sound.{IsSound}
 use Rattle.world_model.specs.Updating.{Updates, book_updated}
 use Rattle.dimension_ops.specs.declared.rule.Rule.{Rule}
-use Rattle.values_api.specs.Blocks.{Entry, IsWrite, IsWritten, AreLines, IsFirstPassed, broken_by_write, contents_of, fits, written}
+use Rattle.values_api.specs.Blocks.{IsWrite, IsWritten, AreLines, IsFirstPassed, broken_by_write, contents_of, fits, written}
 use Rattle.values_api.specs.Laws.{UpdatesOnce, WritesOnce}
 use Rattle.values_api.specs.Sheets.{formula_sheets}
 use Rattle.values_api.specs.Updates.{AreUpdated}

@@ -7,3 +7,5 @@ pub mod Blocks
 pub mod Given
 pub mod Laws
 pub mod Tables
+pub mod Appends
+pub mod Appending

@@ -183,7 +183,7 @@ impl<'a> Given<'a> {
 }
 
 /// How many values the longest line has.
-fn longest(lines: &[Items<Input>]) -> usize
+pub(crate) fn longest(lines: &[Items<Input>]) -> usize
     ensures { result ≡ longest lines.now }
 {
     lines

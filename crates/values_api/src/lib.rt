@@ -2,6 +2,7 @@
 //! formulas see of the sheets (Google Sheets API v4 reference, spreadsheets.values).
 #![tactic(auto)]
 
+mod appending;
 mod clearing;
 mod cut;
 mod entry;
@@ -14,6 +15,7 @@ mod shown;
 mod table;
 mod writing;
 
+pub use appending::append_values;
 pub use clearing::clear_values;
 pub use laws::{updates_once, writes_once};
 pub use printed::range_text;

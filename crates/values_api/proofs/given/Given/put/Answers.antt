@@ -1,4 +1,4 @@
-use Rattle.std.proofs.Common.{◌+◌, ◌-◌, sym, subst, take, get_or, ◌∙◌}
+use Rattle.std.proofs.Common.{◌+◌, ◌-◌, sym, subst, take, get_or}
 use Rattle.world_model.specs.Sound.{place_sheet_with}
 use Rattle.values_api.specs.Blocks.{contents_of, input_at, IsEntry}
 use Rattle.values_api.specs.Given.{entry_of, value_by, first_row, first_col}
