@@ -3,7 +3,7 @@
 use crate::rows::{BAD_REQUEST, Exchange, NOT_FOUND, OK};
 
 /// What is written to the cells of sheets, and requests that break a rule.
-pub(crate) static BATCHES: [Exchange; 61] = [
+pub(crate) static BATCHES: [Exchange; 69] = [
     (
         &[(
             "POST /v4/spreadsheets/book1:batchUpdate",
@@ -716,5 +716,85 @@ pub(crate) static BATCHES: [Exchange; 61] = [
         OK,
         "",
         "{\"majorDimension\":\"ROWS\",\"range\":\"Sheet1!A1:C3\",\"values\":[[\"1\",\"2\",\"3\"],[\"4\",\"5\",\"6\"],[\"7\",\"8\",\"9\"]]}",
+    ),
+    (
+        &[(
+            "POST /v4/spreadsheets/book1:batchUpdate",
+            "Content-Length: 200\r\n",
+            "{\"requests\":[{\"updateCells\":{\"rows\":[{\"values\":[{\"userEnteredValue\":{\"formulaValue\":\"=((((((((((((((((((((((((((((((((1))))))))))))))))))))))))))))))))\"}}]}],\"fields\":\"userEnteredValue\",\"start\":{}}}]}",
+        )],
+        OK,
+        "",
+        "{\"replies\":[{}],\"spreadsheetId\":\"book1\"}",
+    ),
+    (
+        &[(
+            "POST /v4/spreadsheets/book1:batchUpdate",
+            "Content-Length: 198\r\n",
+            "{\"requests\":[{\"updateCells\":{\"rows\":[{\"values\":[{\"userEnteredValue\":{\"numberValue\":1}}]},{\"values\":[{\"userEnteredValue\":{\"numberValue\":2}}]}],\"fields\":\"userEnteredValue\",\"start\":{\"rowIndex\":999}}}]}",
+        )],
+        BAD_REQUEST,
+        "",
+        "{\"error\":{\"code\":400,\"message\":\"requests[0]: ValuesPastRange\",\"status\":\"INVALID_ARGUMENT\"}}",
+    ),
+    (
+        &[(
+            "POST /v4/spreadsheets/book1:batchUpdate",
+            "Content-Length: 104\r\n",
+            "{\"requests\":[{\"updateCells\":{\"rows\":[{},{}],\"fields\":\"*\",\"range\":{\"startRowIndex\":0,\"endRowIndex\":1}}}]}",
+        )],
+        BAD_REQUEST,
+        "",
+        "{\"error\":{\"code\":400,\"message\":\"requests[0]: ValuesPastRange\",\"status\":\"INVALID_ARGUMENT\"}}",
+    ),
+    (
+        &[(
+            "POST /v4/spreadsheets/book1:batchUpdate",
+            "Content-Length: 104\r\n",
+            "{\"requests\":[{\"updateCells\":{\"rows\":[{},{}],\"fields\":\"*\",\"range\":{\"startRowIndex\":0,\"endRowIndex\":2}}}]}",
+        )],
+        OK,
+        "",
+        "{\"replies\":[{}],\"spreadsheetId\":\"book1\"}",
+    ),
+    (
+        &[(
+            "POST /v4/spreadsheets/book1:batchUpdate",
+            "Content-Length: 19\r\n",
+            "{\"requests\":[null]}",
+        )],
+        BAD_REQUEST,
+        "",
+        "{\"error\":{\"code\":400,\"message\":\"requests[0]: BadShape\",\"status\":\"INVALID_ARGUMENT\"}}",
+    ),
+    (
+        &[(
+            "POST /v4/spreadsheets/book1:batchUpdate",
+            "Content-Length: 70\r\n",
+            "{\"requests\":[{\"updateCells\":{\"rows\":[null],\"fields\":\"*\",\"start\":{}}}]}",
+        )],
+        BAD_REQUEST,
+        "",
+        "{\"error\":{\"code\":400,\"message\":\"requests[0]: BadShape\",\"status\":\"INVALID_ARGUMENT\"}}",
+    ),
+    (
+        &[(
+            "POST /v4/spreadsheets/book1:batchUpdate",
+            "Content-Length: 65\r\n",
+            "{\"requests\":[{\"updateCells\":{\"rows\":[],\"fields\":\"\",\"start\":{}}}]}",
+        )],
+        BAD_REQUEST,
+        "",
+        "{\"error\":{\"code\":400,\"message\":\"requests[0]: Unsupported\",\"status\":\"INVALID_ARGUMENT\"}}",
+    ),
+    (
+        &[(
+            "POST /v4/spreadsheets/book1:batchUpdate",
+            "Content-Length: 163\r\n",
+            "{\"requests\":[{\"updateCells\":{\"rows\":[{\"values\":[{\"userEnteredValue\":{\"numberValue\":1}}]}],\"fields\":\"*\",\"start\":null,\"range\":{\"startRowIndex\":0,\"endRowIndex\":1}}}]}",
+        )],
+        OK,
+        "",
+        "{\"replies\":[{}],\"spreadsheetId\":\"book1\"}",
     ),
 ];

@@ -1,8 +1,8 @@
 use crate::batches::BATCHES;
 use crate::common::check;
 use crate::rows::{
-    CHANGES, CONVERSATIONS, Conversation, Exchange, FORMULAS, LIMITS, LISTS, LONG_HEADS, LOOKS,
-    LongHead, NO_CALLS, RANGES, TYPED, USERS, WRITES, WRITES_TO_LISTS,
+    BAD_REQUEST, CHANGES, CONVERSATIONS, Conversation, Exchange, FORMULAS, LIMITS, LISTS,
+    LONG_HEADS, LOOKS, LongHead, NO_CALLS, OK, RANGES, TYPED, USERS, WRITES, WRITES_TO_LISTS,
 };
 use cell_value::{Bytes, Items};
 use sheets_cli::{cut_off_laws, reply_laws, sheets_main};
@@ -169,6 +169,58 @@ fn tells_users_by_their_tokens(rt: HostRuntime) {
 
 /// The field of the user from whom requests come that tell no other.
 const OWNER: &str = "Authorization: Bearer owner\r\n";
+
+/// How many bytes a text has that a batch enters, and how the batch is answered.
+static TEXTS: [(usize, &str, &str); 2] = [
+    (50_000, OK, "{\"replies\":[{}],\"spreadsheetId\":\"book1\"}"),
+    (
+        50_001,
+        BAD_REQUEST,
+        "{\"error\":{\"code\":400,\"message\":\"requests[0]: TextLong\",\"status\":\"INVALID_ARGUMENT\"}}",
+    ),
+];
+
+#[test]
+fn bounds_the_texts_of_batches(rt: HostRuntime) {
+    for row in &TEXTS {
+        check(&rt, &row.0, is_entered(&rt, row));
+    }
+}
+
+/// Whether a batch that enters a text of so many bytes is answered so.
+fn is_entered(rt: &HostRuntime, row: &(usize, &str, &str)) -> bool {
+    let stream = entering(rt.alloc(), row.0);
+    let response = response_of(rt.alloc(), row.1, "", row.2);
+    let ran = run(rt, "run", stream.as_bytes(), 100_000, 0, 0);
+    ran.status == 0 && ran.output.written().as_slice() == response.as_bytes()
+}
+
+/// What stands before the text that a batch enters.
+const BEFORE: &str =
+    "{\"requests\":[{\"updateCells\":{\"fields\":\"*\",\"start\":{},\"rows\":[{\"values\":[{\"userEnteredValue\":{\"stringValue\":\"";
+
+/// What stands behind it.
+const BEHIND: &str = "\"}}]}]}}]}";
+
+/// The text of a batch that enters a text of so many bytes.
+fn entering(alloc: Global, bytes: usize) -> String {
+    let around = BEFORE.len() + BEHIND.len();
+    let mut stream = String::new(alloc);
+    add(
+        &mut stream,
+        "POST /v4/spreadsheets/book1:batchUpdate HTTP/1.1\r\nContent-Length: ",
+    );
+    add_number(&mut stream, around.saturating_add(bytes));
+    add(&mut stream, "\r\n");
+    add(&mut stream, OWNER);
+    add(&mut stream, "\r\n");
+    add(&mut stream, BEFORE);
+    for _ in 0..bytes {
+        add(&mut stream, "a");
+    }
+    add(&mut stream, BEHIND);
+    stream
+}
 
 /// Whether requests of the owner are served to their end, and the last one is answered so.
 fn is_answered(rt: &HostRuntime, row: &Exchange) -> bool {

@@ -6,3 +6,4 @@ pub mod Words
 pub mod Naming
 pub mod Going
 pub mod OneReply
+pub mod Asking
