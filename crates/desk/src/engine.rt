@@ -1,0 +1,53 @@
+ghost use Rattle.std.specs.Prelude.{◌≡◌, ℕ, List, [], IfOk};
+
+use crate::Ask;
+use cell_value::{Bytes, NoMemory};
+use std::alloc::Global;
+
+/// What an engine answers an ask, and the world after it, where it accepts the ask.
+#[derive(Drop)]
+pub struct Answered<W> {
+    /// The status of the response.
+    pub status: u16,
+    /// Its body.
+    pub body: Bytes,
+    /// The world after the call, where it is accepted.
+    pub next: Option<W>,
+}
+
+/// What answers calls on a world, one after another, and knows of no keeper and of no other caller.
+pub trait Engine {
+    ghost use Rattle.desk.specs.declared.entry.Entry.{Entry};
+    ghost use Rattle.desk.specs.declared.entry.Ask.{Ask};
+    ghost use Rattle.desk.specs.Steps.{Outcome, Answers};
+
+    /// What the calls of a history made.
+    type World: Drop;
+
+    /// What an ask is answered behind a history, and whether it is accepted.
+    ghost plain: { List Entry → Ask → Outcome };
+
+    /// A world stands for what the accepted calls of a history made, in order.
+    ghost stands: { Self.World → List Entry → Type 0 };
+
+    /// The world of the beginning.
+    ///
+    /// # Errors
+    ///
+    /// [`NoMemory`] where memory runs out.
+    fn opening(alloc: Global) -> Result<Self::World, NoMemory>
+        ensures { IfOk result (λ world. stands world []) };
+
+    /// Answers an ask on a world, which stays as it is. A world is told exactly where the ask is accepted.
+    ///
+    /// # Errors
+    ///
+    /// [`NoMemory`] where memory runs out.
+    fn answer(
+        alloc: Global,
+        world: &Self::World,
+        ask: &Ask,
+    ) -> Result<Answered<Self::World>, NoMemory>
+        ensures { (entries : List Entry) → stands world.now entries
+            → IfOk result (Answers plain stands entries ask.now) };
+}
