@@ -15,13 +15,17 @@ StaysSteady steady steady_after count count_after =
 abbrev pub with_piece : ℕ → List ℕ → List ℕ → List ℕ
 with_piece at piece bytes = take at bytes ++ piece
 
+-- the same, or the first bytes and a beginning of the piece
+abbrev pub IsTornPut : Option (List ℕ) → Option (List ℕ) → ℕ → List ℕ → Type 0
+IsTornPut kept kept_after at piece =
+    (kept_after ≡ kept) ⊎ ((count : ℕ) × (kept_after ≡ option_map (with_piece at (take count piece)) kept))
+
 -- What a put leaves of the kept bytes: the first ones and the piece behind them; the same, where memory ran out; the
 -- same, or the first ones and a beginning of the piece, where the keeper failed.
 abbrev pub Puts : {A : Type 0} → Option (List ℕ) → Option (List ℕ) → ℕ → List ℕ → Result A PutFault → Type 0
 Puts kept kept_after at piece (Ok done) = kept_after ≡ option_map (with_piece at piece) kept
 Puts kept kept_after at piece (Err fault.NoMemory) = kept_after ≡ kept
-Puts kept kept_after at piece (Err fault.Failed) =
-    (kept_after ≡ kept) ⊎ ((count : ℕ) × (kept_after ≡ option_map (with_piece at (take count piece)) kept))
+Puts kept kept_after at piece (Err fault.Failed) = IsTornPut kept kept_after at piece
 
 -- ---- in memory
 

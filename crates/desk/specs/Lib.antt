@@ -1,4 +1,7 @@
 pub mod Journal
 pub mod Steps
+pub mod Points
 pub mod Keeping
+pub mod Noting
+pub mod Desks
 pub mod Faults

@@ -30,6 +30,9 @@ pub trait Engine {
     /// A world stands for what the accepted calls of a history made, in order.
     ghost stands: { Self.World → List Entry → Type 0 };
 
+    /// How many cells a world has that stands for a history.
+    ghost cells: { List Entry → ℕ };
+
     /// The world of the beginning.
     ///
     /// # Errors
@@ -50,4 +53,8 @@ pub trait Engine {
     ) -> Result<Answered<Self::World>, NoMemory>
         ensures { (entries : List Entry) → stands world.now entries
             → IfOk result (Answers plain stands entries ask.now) };
+
+    /// How many cells the world has.
+    fn count_cells(world: &Self::World) -> u64
+        ensures { (entries : List Entry) → stands world.now entries → result ≡ cells entries };
 }

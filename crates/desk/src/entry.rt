@@ -42,3 +42,13 @@ pub struct Reply {
     /// How often the keeper had failed before the call, and after it.
     pub faults: (u64, u64),
 }
+
+/// An item of the list that a desk tells.
+#[derive(Debug, Drop)]
+pub enum Noted {
+    /// A call that was accepted.
+    Entry(Entry),
+    /// A call that was answered 503: the entry that it would have made, and how often the keeper had failed before it and
+    /// after it.
+    Mark(Entry, u64, u64),
+}

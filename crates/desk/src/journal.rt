@@ -1,5 +1,5 @@
-ghost use Rattle.std.specs.Prelude.{◌≡◌, ◌<◌, ◌^◌, ◌++◌, length, IfOk, OnOk, OnErr};
-ghost use Rattle.desk.specs.Journal.{four, field_text, entry_text, FieldsFit};
+ghost use Rattle.std.specs.Prelude.{◌≡◌, ◌<◌, ◌^◌, ◌++◌, length, IfOk, OnOk};
+ghost use Rattle.desk.specs.Journal.{field_text, entry_text, FieldsFit};
 
 use crate::Entry;
 use cell_value::{Bytes, NoMemory};
@@ -16,12 +16,24 @@ pub fn entry_bytes(alloc: Global, entry: &Entry) -> Result<Bytes, NoMemory>
     ensures { IfOk result (λ bytes. bytes ≡ entry_text entry.now) }
 {
     let mut bytes = Bytes::of(Vec::new(alloc));
-    bytes.extend_from_slice(&entry.caller.to_be_bytes())?;
-    put_field(&mut bytes, entry.user.as_str().as_bytes())?;
-    put_field(&mut bytes, entry.project.as_str().as_bytes())?;
-    put_field(&mut bytes, entry.target.as_str().as_bytes())?;
-    put_field(&mut bytes, entry.body.as_slice())?;
+    put_entry(&mut bytes, entry)?;
     Ok(bytes)
+}
+
+/// Puts the bytes of an entry behind the last byte.
+///
+/// # Errors
+///
+/// [`NoMemory`] where memory runs out; nothing is said of the bytes then.
+pub(crate) fn put_entry(bytes: &mut Bytes, entry: &Entry) -> Result<(), NoMemory>
+    requires { FieldsFit entry.now }
+    ensures { OnOk result (bytes.new ≡ bytes.old ++ entry_text entry.now) }
+{
+    bytes.extend_from_slice(&entry.caller.to_be_bytes())?;
+    put_field(bytes, entry.user.as_str().as_bytes())?;
+    put_field(bytes, entry.project.as_str().as_bytes())?;
+    put_field(bytes, entry.target.as_str().as_bytes())?;
+    put_field(bytes, entry.body.as_slice())
 }
 
 // Puts a field behind the last byte: its length in four bytes, and its bytes.

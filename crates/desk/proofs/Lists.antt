@@ -1,0 +1,123 @@
+-- Told lists, their entries and journals, one item longer.
+use Rattle.std.proofs.Common.{◌≡◌, inl, inr, ℕ, ◌+◌, ◌≤◌, Bool, true, false, List, [], ◌∷◌, ◌++◌, length, take, refl, sym, ap, subst, ◌∙◌, append_assoc, arith, length-append}
+use Rattle.std.specs.Prelude.{Option, Some, None, IfSome, codes}
+use Rattle.std.specs.Option.{option_map}
+use Rattle.std.proofs.lemmas.List.{append-nil, take-append-le, take_all}
+use Rattle.desk.specs.declared.entry.Entry.{Entry}
+use Rattle.desk.specs.declared.entry.Ask.{Ask}
+use Rattle.desk.specs.declared.entry.Noted.{Noted}
+use Rattle.desk.specs.declared.entry.Noted.TheVariants as noted
+use Rattle.desk.specs.Journal.{field_text, entry_text, entries_text, journal_text}
+use Rattle.desk.specs.Keeping.{with_piece, IsTornPut}
+use Rattle.desk.specs.Noting.{piece_of}
+use Rattle.desk.specs.Steps.{entry_of}
+use Rattle.desk.specs.Points.{entries_of, last_counted, Keeps}
+
+pub entries_entry : (list : List Noted) (e : Entry) → entries_of (list ++ noted.Entry e ∷ []) ≡ entries_of list ++ e ∷ []
+entries_entry [] e = refl
+entries_entry (noted.Entry first ∷ list) e = ap (λ (l : List Entry). first ∷ l) (entries_entry list e)
+entries_entry (noted.Mark first before after ∷ list) e = entries_entry list e
+
+pub entries_mark : (list : List Noted) (e : Entry) (b a : ℕ) → entries_of (list ++ noted.Mark e b a ∷ []) ≡ entries_of list
+entries_mark [] e b a = refl
+entries_mark (noted.Entry first ∷ list) e b a = ap (λ (l : List Entry). first ∷ l) (entries_mark list e b a)
+entries_mark (noted.Mark first before after ∷ list) e b a = entries_mark list e b a
+
+pub counted_entry : (count : ℕ) (list : List Noted) (e : Entry)
+    → last_counted count (list ++ noted.Entry e ∷ []) ≡ last_counted count list
+counted_entry count [] e = refl
+counted_entry count (noted.Entry first ∷ list) e = counted_entry count list e
+counted_entry count (noted.Mark first before after ∷ list) e = counted_entry after list e
+
+pub counted_mark : (count : ℕ) (list : List Noted) (e : Entry) (b a : ℕ)
+    → last_counted count (list ++ noted.Mark e b a ∷ []) ≡ a
+counted_mark count [] e b a = refl
+counted_mark count (noted.Entry first ∷ list) e b a = counted_mark count list e b a
+counted_mark count (noted.Mark first before after ∷ list) e b a = counted_mark after list e b a
+
+text_entry : (es : List Entry) (e : Entry) → entries_text (es ++ e ∷ []) ≡ entries_text es ++ entry_text e
+text_entry [] e = append-nil (entry_text e)
+text_entry (first ∷ es) e =
+    ap (λ (l : List ℕ). entry_text first ++ l) (text_entry es e)
+    ∙ sym (append_assoc (entry_text first) (entries_text es) (entry_text e))
+
+pub journal_entry : (es : List Entry) (e : Entry) → journal_text (es ++ e ∷ []) ≡ journal_text es ++ entry_text e
+journal_entry es e = ap (λ (l : List ℕ). codes "SHEETJ01" ++ l) (text_entry es e)
+
+pub journal_length : (es : List Entry) (e : Entry)
+    → length (journal_text (es ++ e ∷ [])) ≡ length (journal_text es) + length (entry_text e)
+journal_length es e = ap (λ (l : List ℕ). length l) (journal_entry es e) ∙ length-append (journal_text es) (entry_text e)
+
+-- how many bytes an entry has
+pub entry_length : (e : Entry)
+    → length (entry_text e) ≡ 20 + length e.user + length e.project + length e.target + length e.body
+entry_length e =
+    let a = length-append e.user (field_text e.project ++ (field_text e.target ++ field_text e.body)) in
+    let b = length-append e.project (field_text e.target ++ field_text e.body) in
+    let c = length-append e.target (field_text e.body) in
+    omega (arith, a, b, c)
+
+-- the caller's number doesn't change the length of an entry
+pub size_same : (number other : ℕ) (ask : Ask)
+    → length (entry_text (entry_of number ask)) ≡ length (entry_text (entry_of other ask))
+size_same number other ask = refl
+
+-- an entry has bytes
+pub few_entries : (es : List Entry) → length es ≤ length (entries_text es)
+few_entries [] = omega arith
+few_entries (e ∷ es) =
+    let more = few_entries es in
+    let long = length-append (entry_text e) (entries_text es) in
+    omega (arith, more, long)
+
+-- whether the next piece is the first, and where it goes
+abbrev pub is_first : List Entry → Bool
+is_first [] = true
+is_first (e ∷ es) = false
+
+abbrev pub place_of : List Entry → ℕ
+place_of [] = 0
+place_of (e ∷ es) = length (journal_text (e ∷ es))
+
+pub place_within : (kept : Option (List ℕ)) (es : List Entry) → Keeps kept es
+    → IfSome kept (λ bytes. place_of es ≤ length bytes)
+place_within None es keeps = tt
+place_within (Some bytes) [] keeps = omega arith
+place_within (Some bytes) (e ∷ es) keeps =
+    let (rest, parts) = keeps (λ none. absurd (some_none e es none)) in
+    let long = ap (λ (l : List ℕ). length l) parts ∙ length-append (journal_text (e ∷ es)) rest in
+    omega (arith, long)
+  where
+    some_none : (e : Entry) (es : List Entry) → e ∷ es ≡ [] → ⊥
+    some_none e es none = let k = ap (λ (l : List Entry). length l) none in omega (arith, k)
+
+taken_front : (front rest : List ℕ) → take (length front) (front ++ rest) ≡ front
+taken_front front rest = take-append-le (length front) front rest (omega arith) ∙ take_all (length front) front (omega arith)
+
+pub put_keeps : (kept kept' : Option (List ℕ)) (es : List Entry) (e : Entry) → Keeps kept es
+    → kept' ≡ option_map (with_piece (place_of es) (piece_of (is_first es) e)) kept
+    → IfSome kept' (λ bytes. bytes ≡ journal_text (es ++ e ∷ []))
+put_keeps None kept' es e keeps put = subst (λ (k : Option (List ℕ)). IfSome k (λ bytes. bytes ≡ journal_text (es ++ e ∷ []))) (sym put) tt
+put_keeps (Some bytes) kept' [] e keeps put =
+    subst (λ (k : Option (List ℕ)). IfSome k (λ bytes. bytes ≡ journal_text (e ∷ []))) (sym put)
+    (ap (λ (l : List ℕ). codes "SHEETJ01" ++ l) (sym (append-nil (entry_text e))))
+put_keeps (Some bytes) kept' (first ∷ es) e keeps put =
+    subst (λ (k : Option (List ℕ)). IfSome k (λ bytes. bytes ≡ journal_text ((first ∷ es) ++ e ∷ []))) (sym put)
+    (let (rest, parts) = keeps (λ none. let k = ap (λ (l : List Entry). length l) none in omega (arith, k)) in
+    ap (λ (l : List ℕ). take (length (journal_text (first ∷ es))) l ++ entry_text e) parts
+    ∙ ap (λ (l : List ℕ). l ++ entry_text e) (taken_front (journal_text (first ∷ es)) rest)
+    ∙ sym (journal_entry (first ∷ es) e))
+
+pub torn_keeps : (kept kept' : Option (List ℕ)) (es : List Entry) (piece : List ℕ) → Keeps kept es
+    → IsTornPut kept kept' (place_of es) piece → Keeps kept' es
+torn_keeps kept kept' es piece keeps (inl same) = subst (λ (k : Option (List ℕ)). Keeps k es) (sym same) keeps
+torn_keeps None kept' es piece keeps (inr (count, torn)) = subst (λ (k : Option (List ℕ)). Keeps k es) (sym torn) tt
+torn_keeps (Some bytes) kept' [] piece keeps (inr (count, torn)) =
+    subst (λ (k : Option (List ℕ)). Keeps k []) (sym torn) (λ some. absurd (some refl))
+torn_keeps (Some bytes) kept' (first ∷ es) piece keeps (inr (count, torn)) =
+    subst (λ (k : Option (List ℕ)). Keeps k (first ∷ es)) (sym torn)
+    (λ some. let (rest, parts) = keeps some in (
+      take count piece,
+      ap (λ (l : List ℕ). take (length (journal_text (first ∷ es))) l ++ take count piece) parts
+          ∙ ap (λ (l : List ℕ). l ++ take count piece) (taken_front (journal_text (first ∷ es)) rest),
+    ))

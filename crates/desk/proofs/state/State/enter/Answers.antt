@@ -1,0 +1,170 @@
+use Rattle.std.proofs.Common.{◌≡◌, ℕ, ◌+◌, ◌≤◌, true, false, [], ◌∷◌, ◌++◌, length, List, Bool, refl, sym, ap, subst, ◌∙◌, arith}
+use Rattle.std.specs.Prelude.{Some, IfSome}
+use Rattle.desk.specs.declared.entry.Entry.{Entry}
+use Rattle.desk.specs.Journal.{journal_text}
+use Rattle.desk.specs.declared.entry.Noted.{Noted}
+use Rattle.desk.specs.declared.entry.Noted.TheVariants as noted
+use Rattle.desk.specs.Noting.{piece_of, IsKept, IsMarked}
+use Rattle.desk.specs.Steps.{Outcome, entry_of, is_full, history_full}
+use Rattle.desk.specs.Points.{Telling, IsSound, entries_of, last_counted}
+use Rattle.desk.proofs.Lists.{place_of, place_within, is_first}
+use Rattle.desk.proofs.States.{sound_entry, sound_mark, full_journal, room_journal, total_journal, fields_fit, counts_fit, first_of, place_first, place_later, noted_kept, noted_marked}
+use Rattle.desk.proofs.Replies.{step_full, step_room, stepped, marked, no_growth_mark}
+use Rattle.desk.proofs.state.State.enter.Given as given
+use Rattle.desk.proofs.state.State.enter.Goals as goal
+use Rattle.desk.proofs.state.State.enter.Goals.{then-first, else-first}
+
+pub prepare-requires : goal.prepare-requires
+prepare-requires g c =
+    let s = c.self.inside in let inv = c.self.invariant in
+    fields_fit s.limit s.bytes c.entry_size.result c.saturating_add-total.result (entries_of s.list.items) c.args.ask.now
+    inv.bytes_is c.entry_size.ensures c.saturating_add-total.ensures inv.limit_is c.args.caller c.if-self-total.false
+
+pub returns-then-self-total-clause-happens : goal.returns-then-self-total-clause-happens
+returns-then-self-total-clause-happens g c =
+    let s = c.self.inside in let inv = c.self.invariant in let t = c.args.self.now in let ask = c.args.ask.now in
+    let full = full_journal s.limit s.bytes c.entry_size.result c.saturating_add-total.result (entries_of s.list.items)
+    ask inv.bytes_is c.entry_size.ensures c.saturating_add-total.ensures inv.limit_is c.if-self-total.true in
+    let full_now = subst (λ (u : Telling). is_full u.pair.0 (entries_of u.list) (entry_of 0 ask) ≡ true) c.self.view_is
+    full in
+    stepped g.E.Engine.plain t.pair c.args.caller ask t.list t.list c.reply.result history_full
+    (step_full g.E.Engine.plain t.pair.0 (entries_of t.list) ask (ap (λ (o : Outcome). o.accepts) c.requires.plain)
+    full_now)
+    c.reply.ensures.at c.reply.ensures.reply.0 (c.reply.ensures.reply.1 ∙ ap Some c.in_ok-make_full.ensures) refl
+    c.reply.ensures.counts
+
+-- the place of the piece
+place_at : (g : given.Over) (c : goal.After-as_slice g) → c.if-first.at ≡ place_of (entries_of c.self.inside.list.items)
+place_at g c =
+    let s = c.self.inside in let inv = c.self.invariant in
+    elim c.if-first.branch [
+      | then-first w ↦ place_first s.entries c.if-first.at (entries_of s.list.items) inv.entries_is w.if-first.true w.at-is
+      | else-first w ↦ place_later s.entries c.if-first.at s.bytes (entries_of s.list.items) inv.entries_is
+          w.if-first.false w.at-is inv.bytes_is
+    ]
+
+pub put_noted-requires-clause-at : goal.put_noted-requires-clause-at
+put_noted-requires-clause-at g c =
+    let s = c.self.inside in
+    subst (λ (n : ℕ). IfSome (g.K.Keeper.kept s.keeper) (λ bytes. n ≤ length bytes)) (sym (place_at g c))
+    (place_within (g.K.Keeper.kept s.keeper) (entries_of s.list.items) c.self.invariant.keeps)
+
+pub overflow_add-self : goal.overflow_add-self
+overflow_add-self g c =
+    let s = c.self.inside in let inv = c.self.invariant in
+    let small = counts_fit s.limit s.bytes c.entry_size.result c.saturating_add-total.result (entries_of s.list.items)
+    c.args.ask.now inv.bytes_is c.entry_size.ensures c.saturating_add-total.ensures inv.limit_is s.entries
+    inv.entries_is c.if-self-total.false in
+    omega (arith, small)
+
+-- the place, at the mark
+marked_place : (g : given.Over) (c : goal.After-drop-world-in-Marked-1 g)
+    → c.if-first.at ≡ place_of (entries_of c.self.inside.list.items)
+marked_place g c =
+    let s = c.self.inside in let inv = c.self.invariant in
+    elim c.if-first.branch [
+      | then-first w ↦ place_first s.entries c.if-first.at (entries_of s.list.items) inv.entries_is w.if-first.true w.at-is
+      | else-first w ↦ place_later s.entries c.if-first.at s.bytes (entries_of s.list.items) inv.entries_is
+          w.if-first.false w.at-is inv.bytes_is
+    ]
+
+-- the state where the piece is kept
+kept_state : (g : given.Over) (c : goal.After-drop-piece-inside-in-Kept-1 g)
+    → IsSound g.E.Engine.stands c.args.world c.put_noted.new.list.items (c.self.inside.entries + 1)
+    c.saturating_add-total.result c.self.inside.limit c.self.inside.opened (g.K.Keeper.failures c.put_noted.new.keeper)
+    (g.K.Keeper.kept c.put_noted.new.keeper)
+    × IfSome (g.K.Keeper.kept c.put_noted.new.keeper) (λ b. b ≡ journal_text (entries_of c.put_noted.new.list.items))
+kept_state g c =
+    let s = c.self.inside in let inv = c.self.invariant in let es = entries_of s.list.items in
+    let p = c.in_ok-entry.ensures in let e = c.in_ok-entry.field-0.entry in
+    let place : c.if-first.at ≡ place_of es = elim c.if-first.branch [
+      | then-first w ↦ place_first s.entries c.if-first.at es inv.entries_is w.if-first.true w.at-is
+      | else-first w ↦ place_later s.entries c.if-first.at s.bytes es inv.entries_is w.if-first.false w.at-is inv.bytes_is
+    ] in
+    let put = noted_kept _ c.in-Kept.is c.in_ok-put_noted.ensures.noted in
+    let total = total_journal s.limit s.bytes c.entry_size.result c.saturating_add-total.result es c.args.ask.now
+    inv.bytes_is c.entry_size.ensures c.saturating_add-total.ensures inv.limit_is c.args.caller
+    c.if-self-total.false in
+    sound_entry g.E.Engine.stands s.world c.args.world s.list.items c.put_noted.new.list.items s.entries s.bytes
+    c.saturating_add-total.result s.limit s.opened (g.K.Keeper.failures s.keeper)
+    (g.K.Keeper.failures c.put_noted.new.keeper) (g.K.Keeper.kept s.keeper) (g.K.Keeper.kept c.put_noted.new.keeper)
+    e c.as_slice.result.now c.if-first.at inv
+    (subst (λ (x : Entry). g.E.Engine.stands c.args.world (es ++ x ∷ [])) (sym p.entry_is)
+    (subst (λ (t : Telling). g.E.Engine.stands c.args.world (entries_of t.list
+    ++ entry_of c.args.caller c.args.ask.now ∷ [])) (sym c.self.view_is) (c.requires.world c.args.caller)))
+    (total ∙ ap (λ (x : Entry). length (journal_text (es ++ x ∷ []))) (sym p.entry_is))
+    (c.as_slice.ensures ∙ p.piece_is ∙ ap (λ (b : Bool). piece_of b (entry_of c.args.caller c.args.ask.now))
+    (first_of s.entries es inv.entries_is) ∙ ap (piece_of (is_first es)) (sym p.entry_is))
+    place
+    (subst (λ (l : List Noted). IsKept e c.if-first.at c.as_slice.result.now l c.put_noted.new.list.items
+    (g.K.Keeper.kept s.keeper) (g.K.Keeper.kept c.put_noted.new.keeper) (g.K.Keeper.failures s.keeper)
+    (g.K.Keeper.failures c.put_noted.new.keeper)) c.reserve.ensures.items put)
+
+pub invariant_of-self-in-Kept-1 : goal.invariant_of-self-in-Kept-1
+invariant_of-self-in-Kept-1 g c = (kept_state g c).0
+
+pub returns-in-Kept-clause-kept : goal.returns-in-Kept-clause-kept
+returns-in-Kept-clause-kept g c = λ _. (kept_state g c).1
+
+pub returns-in-Kept-clause-happens : goal.returns-in-Kept-clause-happens
+returns-in-Kept-clause-happens g c =
+    let s = c.self.inside in let inv = c.self.invariant in let t = c.args.self.now in let ask = c.args.ask.now in
+    let room = room_journal s.limit s.bytes c.entry_size.result c.saturating_add-total.result (entries_of s.list.items)
+    ask inv.bytes_is c.entry_size.ensures c.saturating_add-total.ensures inv.limit_is c.if-self-total.false in
+    let room_now = subst (λ (u : Telling). is_full u.pair.0 (entries_of u.list) (entry_of 0 ask) ≡ false) c.self.view_is
+    room in
+    let put = noted_kept _ c.in-Kept.is c.in_ok-put_noted.ensures.noted in
+    stepped g.E.Engine.plain t.pair c.args.caller ask t.list c.put_noted.new.list.items c.reply-reply.result
+    (record { status = c.args.status; body = c.args.body; accepts = true })
+    (step_room g.E.Engine.plain t.pair.0 (entries_of t.list) ask (ap (λ (o : Outcome). o.accepts) c.requires.plain)
+    room_now ∙ c.requires.plain)
+    c.reply-reply.ensures.at c.reply-reply.ensures.reply.0 c.reply-reply.ensures.reply.1
+    (put.list_is ∙ ap (λ (l : List Noted). l ++ noted.Entry c.in_ok-entry.field-0.entry ∷ []) c.reserve.ensures.items
+    ∙ ap (λ (e : Entry). s.list.items ++ noted.Entry e ∷ []) c.in_ok-entry.ensures.entry_is
+    ∙ ap (λ (u : Telling). u.list ++ noted.Entry (entry_of c.args.caller ask) ∷ []) c.self.view_is)
+    c.reply-reply.ensures.counts
+
+pub invariant_of-self-in-Marked-1 : goal.invariant_of-self-in-Marked-1
+invariant_of-self-in-Marked-1 g c =
+    let s = c.self.inside in
+    let put = noted_marked _ c.in-Marked.before c.in-Marked.after c.in-Marked.is c.in_ok-put_noted.ensures.noted in
+    sound_mark g.E.Engine.stands s.world s.list.items c.put_noted.new.list.items s.entries s.bytes s.limit s.opened
+    (g.K.Keeper.failures s.keeper) (g.K.Keeper.failures c.put_noted.new.keeper) (g.K.Keeper.kept s.keeper)
+    (g.K.Keeper.kept c.put_noted.new.keeper) _ c.in-Marked.before c.in-Marked.after c.as_slice.result.now
+    c.if-first.at c.self.invariant (marked_place g c)
+    (subst (λ (l : List Noted). IsMarked c.in_ok-entry.field-0.entry c.in-Marked.before c.in-Marked.after c.if-first.at
+    c.as_slice.result.now l c.put_noted.new.list.items (g.K.Keeper.kept s.keeper)
+    (g.K.Keeper.kept c.put_noted.new.keeper) (g.K.Keeper.failures s.keeper)
+    (g.K.Keeper.failures c.put_noted.new.keeper)) c.reserve.ensures.items put)
+
+pub returns-in-Marked-clause-happens : goal.returns-in-Marked-clause-happens
+returns-in-Marked-clause-happens g c =
+    let s = c.self.inside in let inv = c.self.invariant in let t = c.args.self.now in let ask = c.args.ask.now in
+    let room = room_journal s.limit s.bytes c.entry_size.result c.saturating_add-total.result (entries_of s.list.items)
+    ask inv.bytes_is c.entry_size.ensures c.saturating_add-total.ensures inv.limit_is c.if-self-total.false in
+    let room_now = subst (λ (u : Telling). is_full u.pair.0 (entries_of u.list) (entry_of 0 ask) ≡ false) c.self.view_is
+    room in
+    let put = noted_marked _ c.in-Marked.before c.in-Marked.after c.in-Marked.is c.in_ok-put_noted.ensures.noted in
+    marked g.E.Engine.plain t.pair c.args.caller ask t.list c.put_noted.new.list.items
+    (record {
+      status = 503;
+      body = Some c.in_ok-entry.field-0.unavailable;
+      at = c.reply-reply.result.at;
+      faults = (c.in-Marked.before, c.in-Marked.after);
+    })
+    c.in_ok-entry.field-0.entry c.in-Marked.before c.in-Marked.after c.in_ok-entry.ensures.entry_is
+    (ap (λ (o : Outcome). o.accepts) (step_room g.E.Engine.plain t.pair.0 (entries_of t.list) ask
+    (ap (λ (o : Outcome). o.accepts) c.requires.plain) room_now ∙ c.requires.plain))
+    c.reply-reply.ensures.at refl (ap Some c.in_ok-entry.ensures.unavailable_is) refl
+    (put.list_is ∙ ap (λ (l : List Noted). l ++ noted.Mark c.in_ok-entry.field-0.entry c.in-Marked.before
+    c.in-Marked.after ∷ []) (c.reserve.ensures.items ∙ ap (λ (u : Telling). u.list) c.self.view_is))
+    (put.before_is ∙ inv.failures_is ∙ ap (λ (u : Telling). last_counted u.pair.1 u.list) c.self.view_is) put.rose
+
+pub returns-in-Marked-clause-kept : goal.returns-in-Marked-clause-kept
+returns-in-Marked-clause-kept g c =
+    let s = c.self.inside in
+    let put = noted_marked _ c.in-Marked.before c.in-Marked.after c.in-Marked.is c.in_ok-put_noted.ensures.noted in
+    no_growth_mark c.args.self.now.list c.put_noted.new.list.items c.in_ok-entry.field-0.entry c.in-Marked.before
+    c.in-Marked.after
+    (put.list_is ∙ ap (λ (l : List Noted). l ++ noted.Mark c.in_ok-entry.field-0.entry c.in-Marked.before
+    c.in-Marked.after ∷ []) (c.reserve.ensures.items ∙ ap (λ (t : Telling). t.list) c.self.view_is))

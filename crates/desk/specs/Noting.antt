@@ -1,0 +1,47 @@
+-- What comes of the put of an accepted call's piece.
+use Rattle.std.specs.Prelude.{◌≡◌, ℕ, List, [], ◌∷◌, ◌++◌, Option, Bool, if◌then◌else◌, codes}
+use Rattle.std.specs.Option.{option_map}
+use Rattle.cell_value.specs.FaultCount.{Rose}
+use Rattle.desk.specs.declared.entry.Entry.{Entry}
+use Rattle.desk.specs.declared.entry.Ask.{Ask}
+use Rattle.desk.specs.declared.entry.Noted.{Noted}
+use Rattle.desk.specs.declared.entry.Noted.TheVariants as noted
+use Rattle.desk.specs.declared.noting.Noting.{Noting}
+use Rattle.desk.specs.declared.noting.Noting.TheVariants as noting
+use Rattle.desk.specs.declared.noting.Prepared.{Prepared}
+use Rattle.desk.specs.Journal.{entry_text}
+use Rattle.desk.specs.Keeping.{with_piece, IsTornPut}
+use Rattle.desk.specs.Steps.{entry_of, unavailable_body}
+
+-- the piece is kept, and its entry is added
+pub record IsKept (entry : Entry) (at : ℕ) (piece : List ℕ) (list list' : List Noted) (kept kept' : Option (List ℕ))
+    (failures failures' : ℕ) : Type 0 where
+  pub list_is : list' ≡ list ++ noted.Entry entry ∷ []
+  pub kept_is : kept' ≡ option_map (with_piece at piece) kept
+  pub failures_are : failures' ≡ failures
+
+-- the keeper failed, and a mark is added
+pub record IsMarked (entry : Entry) (before after : ℕ) (at : ℕ) (piece : List ℕ) (list list' : List Noted)
+    (kept kept' : Option (List ℕ)) (failures failures' : ℕ) : Type 0 where
+  pub list_is : list' ≡ list ++ noted.Mark entry before after ∷ []
+  pub kept_is : IsTornPut kept kept' at piece
+  pub before_is : before ≡ failures
+  pub after_is : after ≡ failures'
+  pub rose : Rose before after
+
+abbrev pub IsNoted : Entry → ℕ → List ℕ → List Noted → List Noted → Option (List ℕ) → Option (List ℕ) → ℕ → ℕ → Noting
+    → Type 0
+IsNoted entry at piece list list' kept kept' failures failures' noting.Kept =
+    IsKept entry at piece list list' kept kept' failures failures'
+IsNoted entry at piece list list' kept kept' failures failures' (noting.Marked before after) =
+    IsMarked entry before after at piece list list' kept kept' failures failures'
+
+-- the piece of an entry: the first one begins with the journal's eight bytes
+abbrev pub piece_of : Bool → Entry → List ℕ
+piece_of first entry = if first then codes "SHEETJ01" ++ entry_text entry else entry_text entry
+
+-- what a put needs, made before it
+pub record IsPrepared (caller : ℕ) (ask : Ask) (first : Bool) (prepared : Prepared) : Type 0 where
+  pub entry_is : prepared.entry ≡ entry_of caller ask
+  pub piece_is : prepared.piece ≡ piece_of first (entry_of caller ask)
+  pub unavailable_is : prepared.unavailable ≡ unavailable_body

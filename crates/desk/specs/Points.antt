@@ -1,0 +1,106 @@
+-- The list that a desk tells, and what a call is at a point of it.
+use Rattle.std.specs.Prelude.{◌≡◌, ◌≢◌, ◌⊎◌, ℕ, ◌≤◌, true, List, [], ◌∷◌, ◌++◌, length, drop, Option, Some, None, IfSome, if◌then◌else◌}
+use Rattle.cell_value.specs.FaultCount.{Rose}
+use Rattle.history_lock.specs.History.{StartsWith, NoneOf}
+use Rattle.desk.specs.declared.entry.Entry.{Entry}
+use Rattle.desk.specs.declared.entry.Ask.{Ask}
+use Rattle.desk.specs.declared.entry.Reply.{Reply}
+use Rattle.desk.specs.declared.entry.Noted.{Noted}
+use Rattle.desk.specs.declared.entry.Noted.TheVariants as noted
+use Rattle.desk.specs.Journal.{journal_text}
+use Rattle.desk.specs.Steps.{Outcome, entry_of, step, unavailable_body}
+
+-- the entries of a told list; marks are left out
+abbrev pub entries_of : List Noted → List Entry
+entries_of [] = []
+entries_of (noted.Entry entry ∷ items) = entry ∷ entries_of items
+entries_of (noted.Mark entry before after ∷ items) = entries_of items
+
+-- the caller that an item is from
+abbrev pub caller_of : Noted → ℕ
+caller_of (noted.Entry entry) = entry.caller
+caller_of (noted.Mark entry before after) = entry.caller
+
+-- how often the keeper had failed after the last mark; where there is none, the given count
+abbrev pub last_counted : ℕ → List Noted → ℕ
+last_counted count [] = count
+last_counted count (noted.Entry entry ∷ items) = last_counted count items
+last_counted count (noted.Mark entry before after ∷ items) = last_counted after items
+
+-- What a desk tells: its list, a pair that no call changes, of the journal's limit and the keeper's count of faults at
+-- the opening, and the bytes that are kept, where the keeper tells them.
+pub record Telling : Type 0 where
+  pub list : List Noted
+  pub pair : ℕ × ℕ
+  pub kept : Option (List ℕ)
+
+-- the list, and the pair
+abbrev pub list_of : Telling → List Noted
+list_of telling = telling.list
+
+abbrev pub pair_of : Telling → ℕ × ℕ
+pair_of telling = telling.pair
+
+-- the bytes that are kept begin with the journal of the entries, where there is one
+abbrev pub Keeps : Option (List ℕ) → List Entry → Type 0
+Keeps kept entries = IfSome kept (λ bytes. entries ≢ [] → StartsWith bytes (journal_text entries))
+
+-- ---- a call at a point
+
+module _ (plain : List Entry → Ask → Outcome) (pair : ℕ × ℕ) (caller : ℕ) (ask : Ask) (told after : List Noted)
+    (reply : Reply) where
+  -- the reply is that of one thread behind the told entries; the call's entry is added exactly where it is accepted
+  pub record IsStep : Type 0 where
+    pub status_is : reply.status ≡ (step plain pair.0 (entries_of told) ask).status
+    pub body_is : reply.body ≡ Some (step plain pair.0 (entries_of told) ask).body
+    pub item :
+        after ≡ (if (step plain pair.0 (entries_of told) ask).accepts then told ++ noted.Entry (entry_of caller ask) ∷ [] else told)
+    pub counts_are : reply.faults ≡ (last_counted pair.1 told, last_counted pair.1 told)
+
+  -- the call would be accepted, but the keeper failed; a mark is added, which begins where the last one ended
+  pub record IsUnavailable : Type 0 where
+    pub status_is : reply.status ≡ 503
+    pub body_is : reply.body ≡ Some unavailable_body
+    pub accepts : (step plain pair.0 (entries_of told) ask).accepts ≡ true
+    pub item : after ≡ told ++ noted.Mark (entry_of caller ask) reply.faults.0 reply.faults.1 ∷ []
+    pub since : reply.faults.0 ≡ last_counted pair.1 told
+    pub rose : Rose reply.faults.0 reply.faults.1
+
+  -- memory ran out, and nothing is added
+  pub record IsOutOfMemory : Type 0 where
+    pub status_is : reply.status ≡ 507
+    pub body_is : reply.body ≡ None
+    pub item : after ≡ told
+    pub counts_are : reply.faults ≡ (last_counted pair.1 told, last_counted pair.1 told)
+
+  -- a call that wants no memory
+  pub record IsAnswered : Type 0 where
+    pub at_is : reply.at ≡ length (entries_of told)
+    pub one_of : IsStep ⊎ IsUnavailable
+
+  -- a call of this caller behind the told items: its reply tells how many entries these have
+  pub record Happens : Type 0 where
+    pub at_is : reply.at ≡ length (entries_of told)
+    pub one_of : IsStep ⊎ (IsUnavailable ⊎ IsOutOfMemory)
+
+-- A call at a point of the list, of a caller that had seen the items before and has seen those after: others may have
+-- added items, none of them is this caller's, and behind these the call happens.
+pub record IsCallAt (plain : List Entry → Ask → Outcome) (pair : ℕ × ℕ) (caller : ℕ) (ask : Ask)
+    (before after : List Noted) (reply : Reply) : Type 0 where
+  pub told : List Noted
+  pub begins : StartsWith told before
+  pub others : NoneOf caller_of caller (drop (length before) told)
+  pub happens : Happens plain pair caller ask told after reply
+
+-- ---- what a state keeps
+
+-- the world stands for the entries of the list; they and the bytes of their journal are counted; the keeper's count of
+-- faults is that of the last mark; and the journal is kept
+pub record IsSound {W : Type 0} (stands : W → List Entry → Type 0) (world : W) (list : List Noted)
+    (entries bytes limit opened failures : ℕ) (kept : Option (List ℕ)) : Type 0 where
+  pub world_is : stands world (entries_of list)
+  pub entries_is : entries ≡ length (entries_of list)
+  pub bytes_is : bytes ≡ length (journal_text (entries_of list))
+  pub limit_is : limit ≤ 1073741824
+  pub failures_is : failures ≡ last_counted opened list
+  pub keeps : Keeps kept (entries_of list)

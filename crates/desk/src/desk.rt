@@ -1,0 +1,135 @@
+ghost use Rattle.std.specs.Prelude.{◌≡◌, ◌≢◌, ◌≤◌, ◌<◌, ◌+◌, ◌++◌, ℕ, List, [], length, drop, Some, None, IfOk, IfErr, IfSome};
+ghost use Rattle.history_lock.specs.History.{StartsWith, NoneOf, longer};
+ghost use Rattle.history_lock.specs.Passes.{seen_by, number_of, given_by, count_of};
+ghost use Rattle.desk.specs.declared.entry.Noted.{Noted};
+ghost use Rattle.desk.specs.Points.{IsCallAt, Keeps, caller_of, entries_of};
+
+use crate::{Ask, Engine, History, Keeper, Noted, Reply, State};
+use cell_value::NoMemory;
+use history_lock::{Lock, Spent, Told};
+use std::alloc::Global;
+use std::sync::Wait;
+
+/// A pass for a desk, whatever its engine and its keeper are.
+pub type Pass = history_lock::Pass<Noted>;
+
+impl<E: Engine, K: Keeper> Told for State<E, K> {
+    ghost use Rattle.desk.specs.Points.{list_of, pair_of};
+
+    type Entry = Noted;
+
+    ghost list = { list_of };
+
+    ghost caller = { caller_of };
+
+    ghost pair = { pair_of };
+
+    fn length(&self) -> u64 {
+        self.length()
+    }
+}
+
+/// One history that many callers share, each by a pass of its own.
+///
+/// Each call that takes a pass requires that it is of this desk, and says so of the one that it gives back. A desk is not
+/// dropped: [`Desk::close`] gives the history and the keeper back.
+pub struct Desk<E: Engine, K: Keeper> {
+    lock: Lock<State<E, K>>,
+}
+
+impl<E: Engine, K: Keeper> Desk<E, K> {
+    ghost use Rattle.desk.specs.Desks.{IsPass, pair_at, list_at, callers_at};
+
+    /// A desk for this many callers, with an empty history, and the pass of number 0. Nothing is loaded of what the
+    /// keeper has; the first put begins at its first byte.
+    ///
+    /// # Errors
+    ///
+    /// [`NoMemory`], with the keeper, where memory runs out.
+    pub fn open(
+        alloc: Global,
+        keeper: K,
+        limit: u64,
+        callers: u32,
+    ) -> Result<(Desk<E, K>, Pass), (NoMemory, K)>
+        requires limit { limit ≤ 1073741824 }
+        requires callers { 0 < callers }
+        ensures pass { IfOk result (λ made. IsPass made.0 made.1 × (seen_by made.1 ≡ []) × (number_of made.1 ≡ 0)) }
+        ensures list { IfOk result (λ made. list_at made.0 ≡ []) }
+        ensures pair { IfOk result (λ made. pair_at made.0 ≡ (limit, K.failures keeper)) }
+        ensures callers { IfOk result (λ made. callers_at made.0 ≡ callers) }
+        ensures err { IfErr result (λ failed. K.kept failed.1 ≡ K.kept keeper) }
+    {
+        let state = State::open(alloc, keeper, limit)?;
+        match Lock::open(alloc, state, callers) {
+            Ok((lock, pass)) => Ok((Desk { lock }, pass)),
+            Err((state, none)) => Err((none, state.into_keeper())),
+        }
+    }
+
+    /// A pass with the next number, that has seen the same list.
+    ///
+    /// # Errors
+    ///
+    /// [`Spent`] where all numbers were drawn, each of them for some pass.
+    pub fn pass<R: Wait>(&self, rt: &R, from: &mut Pass) -> Result<Pass, Spent>
+        requires { IsPass self.now from.old }
+        ensures old { IsPass self.now from.new }
+        ensures same { (seen_by from.new ≡ seen_by from.old) × (number_of from.new ≡ number_of from.old) }
+        ensures count { count_of from.old ≤ count_of from.new }
+        ensures new { IfOk result (λ new. IsPass self.now new × (seen_by new ≡ seen_by from.old)) }
+        ensures next { IfOk result (λ new. (count_of from.old ≤ number_of new)
+            × (count_of from.new ≡ number_of new + 1)) }
+        ensures number { IfOk result (λ new. (number_of new < callers_at self.now)
+            × (number_of new ≢ number_of from.old)) }
+        ensures above { IfOk result (λ new. IfSome (given_by from.old) (λ given. given < number_of new)) }
+        ensures unused { IfOk result (λ new. NoneOf caller_of (number_of new)
+            (drop (length (list_at self.now)) (seen_by new))) }
+        ensures given { IfOk result (λ new. (given_by from.new ≡ Some (number_of new)) × (given_by new ≡ None)) }
+        ensures spent { IfErr result (λ _. count_of from.new ≡ callers_at self.now) }
+        ensures none_given { IfErr result (λ _. given_by from.new ≡ given_by from.old) }
+    {
+        self.lock.split(rt, from)
+    }
+
+    /// Makes one call at a point of the history, whatever other passes do meanwhile. The pass has then seen all items up
+    /// to its own. No clause says that the wait for the turn ends.
+    pub fn call<R: Wait>(&self, rt: &R, pass: Pass, ask: &Ask) -> (Pass, Reply)
+        requires { IsPass self.now pass }
+        ensures pass { IsPass self.now result.0 }
+        ensures number { number_of result.0 ≡ number_of pass }
+        ensures drawn { (count_of result.0 ≡ count_of pass) × (given_by result.0 ≡ given_by pass) }
+        ensures call { IsCallAt E.plain (pair_at self.now) (number_of pass) ask.now (seen_by pass) (seen_by result.0)
+            result.1 }
+    {
+        let caller = pass.number();
+        let (turn, mut state) = self.lock.take(rt, pass);
+        let reply = state.step(caller, ask);
+        (self.lock.leave(turn, state), reply)
+    }
+
+    /// The pass has then seen the longer of both lists, which begins with each of them. The other pass is used up.
+    pub fn meet(&self, pass: &mut Pass, other: Pass)
+        requires pass { IsPass self.now pass.old }
+        requires other { IsPass self.now other }
+        ensures pass { IsPass self.now pass.new }
+        ensures same { (number_of pass.new ≡ number_of pass.old) × (given_by pass.new ≡ given_by pass.old) }
+        ensures count { (count_of pass.old ≤ count_of pass.new) × (count_of other ≤ count_of pass.new) }
+        ensures longer { seen_by pass.new ≡ longer (seen_by pass.old) (seen_by other) }
+        ensures mine { StartsWith (seen_by pass.new) (seen_by pass.old) }
+        ensures theirs { StartsWith (seen_by pass.new) (seen_by other) }
+    {
+        self.lock.meet(pass, other);
+    }
+
+    /// Waits for the turn, and gives the history and the keeper. The entries are those of a list that begins with all
+    /// that the pass has seen; what the keeper has begins with their journal, where there is one. It takes no memory.
+    pub fn close<R: Wait>(self, rt: &R, pass: Pass) -> (History<E>, K)
+        requires { IsPass self pass }
+        ensures history { (told : List Noted) × StartsWith told (seen_by pass) × (result.0 ≡ entries_of told) }
+        ensures kept { Keeps (K.kept result.1) result.0 }
+    {
+        let Desk { lock } = self;
+        lock.close(rt, pass).into_history()
+    }
+}

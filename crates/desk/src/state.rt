@@ -1,0 +1,231 @@
+ghost use Rattle.std.specs.Prelude.{◌≡◌, ℕ, ◌<◌, ◌≤◌, true, [], ◌∷◌, ◌++◌, length, IfOk, IfSome, IfErr, OnErr, None};
+ghost use Rattle.desk.specs.Journal.{journal_text};
+ghost use Rattle.desk.specs.Steps.{entry_of, full_body};
+ghost use Rattle.desk.specs.Points.{Telling, IsSound, Happens, IsAnswered, Keeps, entries_of, last_counted};
+
+use crate::engine::Answered;
+use crate::noting::{Noting, Prepared, entry_size, prepare, put_noted};
+use crate::{Ask, Engine, History, Keeper, Noted, Reply};
+use cell_value::{Bytes, NoMemory};
+use std::alloc::Global;
+use std::marker::Model;
+
+/// The most bytes that a journal may be given as its limit.
+pub const LONGEST_JOURNAL: u64 = 1_073_741_824;
+
+/// The world that a history made, its journal's keeper, and the told list. Contracts see the list, the journal's limit
+/// with the keeper's count of faults at the opening, and the bytes that are kept.
+///
+/// The world stands for the entries of the list. The keeper's count of faults is that of the last mark, or, where there
+/// is none, the one of the opening. Where there is an entry, the bytes that are kept begin with the journal of all.
+pub struct State<E: Engine, K: Keeper> {
+    alloc: Global,
+    keeper: K,
+    world: E::World,
+    list: Vec<Noted>,
+    entries: u64,
+    bytes: u64,
+    limit: u64,
+    opened: u64,
+}
+
+impl<E: Engine, K: Keeper> Model for State<E, K> {
+    ghost Value = { Telling };
+
+    ghost view = { λ s. record { list = s.list.items; pair = (s.limit, s.opened); kept = K.kept s.keeper } };
+
+    ghost invariant = { λ s. IsSound E.stands s.world s.list.items s.entries s.bytes s.limit s.opened (K.failures s.keeper)
+        (K.kept s.keeper) };
+}
+
+impl<E: Engine, K: Keeper> State<E, K> {
+    /// A state with an empty history. Nothing is loaded of what the keeper has; the first put begins at its first byte.
+    ///
+    /// # Errors
+    ///
+    /// [`NoMemory`], with the keeper, where memory runs out.
+    pub fn open(alloc: Global, keeper: K, limit: u64) -> Result<State<E, K>, (NoMemory, K)>
+        requires { limit ≤ 1073741824 }
+        ensures list { IfOk result (λ state. state.list ≡ []) }
+        ensures pair { IfOk result (λ state. state.pair ≡ (limit, K.failures keeper)) }
+        ensures kept { IfOk result (λ state. state.kept ≡ K.kept keeper) }
+        ensures err { IfErr result (λ failed. failed.1 ≡ keeper) }
+    {
+        match E::opening(alloc) {
+            Err(none) => Err((none, keeper)),
+            Ok(world) => {
+                let opened = keeper.faults();
+                Ok(State {
+                    alloc,
+                    keeper,
+                    world,
+                    list: Vec::new(alloc),
+                    entries: 0,
+                    bytes: 8,
+                    limit,
+                    opened,
+                })
+            }
+        }
+    }
+
+    /// Makes one call, at the end of the list. It is answered 503 only where the keeper's count of faults rose in it. Its
+    /// reply is made before the keeper's put, and after the put no memory is taken. After an answer 507 the bytes that
+    /// are kept are as they were.
+    pub fn step(&mut self, caller: u32, ask: &Ask) -> Reply
+        ensures happens { Happens E.plain self.old.pair caller ask.now self.old.list self.new.list result }
+        ensures pair { self.new.pair ≡ self.old.pair }
+        ensures unkept { result.body ≡ None → self.new.kept ≡ self.old.kept }
+
+        // Where the history grew, the bytes that are kept are its journal.
+        ensures kept { length (entries_of self.old.list) < length (entries_of self.new.list)
+            → IfSome self.new.kept (λ bytes. bytes ≡ journal_text (entries_of self.new.list)) }
+    {
+        match self.answer(caller, ask) {
+            Ok(reply) => reply,
+            Err(NoMemory) => self.reply(507, None),
+        }
+    }
+
+    /// How many items the list has.
+    pub fn length(&self) -> u64
+        ensures { result ≡ length self.now.list }
+    {
+        self.list.len() as u64
+    }
+
+    /// The keeper alone.
+    pub fn into_keeper(self) -> K
+        ensures { K.kept result ≡ self.kept }
+    {
+        let State {
+            alloc: _,
+            keeper,
+            world: _,
+            list: _,
+            entries: _,
+            bytes: _,
+            limit: _,
+            opened: _,
+        } = self;
+        keeper
+    }
+
+    /// The history of the list's entries, and the keeper. It takes no memory.
+    pub fn into_history(self) -> (History<E>, K)
+        ensures history { result.0 ≡ entries_of self.list }
+        ensures same { K.kept result.1 ≡ self.kept }
+        ensures kept { Keeps (K.kept result.1) result.0 }
+    {
+        let State {
+            alloc: _,
+            keeper,
+            world,
+            list,
+            entries,
+            bytes,
+            limit: _,
+            opened: _,
+        } = self;
+        let history = History {
+            world,
+            list,
+            entries,
+            bytes,
+        };
+        (history, keeper)
+    }
+
+    // A reply at the end of the list.
+    fn reply(&self, status: u16, body: Option<Bytes>) -> Reply
+        ensures reply { (result.status ≡ status) × (result.body ≡ body) }
+        ensures at { result.at ≡ length (entries_of self.now.list) }
+        ensures counts { result.faults ≡ (last_counted self.now.pair.1 self.now.list, last_counted self.now.pair.1 self.now.list) }
+    {
+        let faults = self.keeper.faults();
+        Reply {
+            status,
+            body,
+            at: self.entries,
+            faults: (faults, faults),
+        }
+    }
+
+    // Answers a call at the end of the list, and enters it where it is accepted.
+    fn answer(&mut self, caller: u32, ask: &Ask) -> Result<Reply, NoMemory>
+        ensures happens { IfOk result (IsAnswered E.plain self.old.pair caller ask.now self.old.list self.new.list) }
+        ensures pair { self.new.pair ≡ self.old.pair }
+        ensures kept { length (entries_of self.old.list) < length (entries_of self.new.list)
+            → IfSome self.new.kept (λ bytes. bytes ≡ journal_text (entries_of self.new.list)) }
+        ensures unmade { OnErr result ((self.new.list ≡ self.old.list) × (self.new.kept ≡ self.old.kept)) }
+    {
+        let Answered { status, body, next } = E::answer(self.alloc, &self.world, ask)?;
+        match next {
+            None => Ok(self.reply(status, Some(body))),
+            Some(world) => self.enter(caller, ask, world, status, body),
+        }
+    }
+
+    // Enters an accepted call, which leaves that world and is answered so: its piece is put, and its entry is added, or a
+    // mark. All memory is taken before the put.
+    fn enter(
+        &mut self,
+        caller: u32,
+        ask: &Ask,
+        world: E::World,
+        status: u16,
+        body: Bytes,
+    ) -> Result<Reply, NoMemory>
+        requires world { (number : ℕ) → E.stands world (entries_of self.old.list ++ entry_of number ask.now ∷ []) }
+        requires plain { E.plain (entries_of self.old.list) ask.now ≡ record { status = status; body = body; accepts = true } }
+        ensures happens { IfOk result (IsAnswered E.plain self.old.pair caller ask.now self.old.list self.new.list) }
+        ensures pair { self.new.pair ≡ self.old.pair }
+        ensures kept { length (entries_of self.old.list) < length (entries_of self.new.list)
+            → IfSome self.new.kept (λ bytes. bytes ≡ journal_text (entries_of self.new.list)) }
+        ensures unmade { OnErr result ((self.new.list ≡ self.old.list) × (self.new.kept ≡ self.old.kept)) }
+    {
+        let first = self.entries == 0;
+        let total = self.bytes.saturating_add(entry_size(ask));
+        if self.limit < total {
+            return Ok(self.reply(429, Some(make_full(self.alloc)?)));
+        }
+        let Prepared {
+            entry,
+            piece,
+            unavailable,
+        } = prepare(self.alloc, caller, ask, first)?;
+        let reply = self.reply(status, Some(body));
+        self.list.reserve(1)?;
+        let at = if first { 0 } else { self.bytes };
+        match put_noted(
+            &mut self.keeper,
+            &mut self.list,
+            at,
+            entry,
+            piece.as_slice(),
+        )? {
+            Noting::Kept => {
+                self.world = world;
+                self.entries += 1;
+                self.bytes = total;
+                Ok(reply)
+            }
+            Noting::Marked(before, after) => Ok(Reply {
+                status: 503,
+                body: Some(unavailable),
+                at: reply.at,
+                faults: (before, after),
+            }),
+        }
+    }
+}
+
+// The body of 429.
+#[tactic(auto, unfolding(crate::specs::Steps::full_body))]
+fn make_full(alloc: Global) -> Result<Bytes, NoMemory>
+    ensures { IfOk result (λ body. body ≡ full_body) }
+{
+    let body =
+        b"{\"error\":{\"code\":429,\"message\":\"HistoryFull\",\"status\":\"RESOURCE_EXHAUSTED\"}}";
+    Ok(Bytes::of(Vec::from_slice(alloc, body)?))
+}
