@@ -13,12 +13,14 @@ use Rattle.desk.specs.Noting.{piece_of}
 use Rattle.desk.specs.Steps.{entry_of}
 use Rattle.desk.specs.Points.{entries_of, last_counted, Keeps}
 
-pub entries_entry : (list : List Noted) (e : Entry) → entries_of (list ++ noted.Entry e ∷ []) ≡ entries_of list ++ e ∷ []
+pub entries_entry : (list : List Noted) (e : Entry) → entries_of (list ++ noted.Entry e ∷ []) ≡ entries_of list
+    ++ e ∷ []
 entries_entry [] e = refl
 entries_entry (noted.Entry first ∷ list) e = ap (λ (l : List Entry). first ∷ l) (entries_entry list e)
 entries_entry (noted.Mark first before after ∷ list) e = entries_entry list e
 
-pub entries_mark : (list : List Noted) (e : Entry) (b a : ℕ) → entries_of (list ++ noted.Mark e b a ∷ []) ≡ entries_of list
+pub entries_mark : (list : List Noted) (e : Entry) (b a : ℕ) → entries_of (list ++ noted.Mark e b a ∷ [])
+    ≡ entries_of list
 entries_mark [] e b a = refl
 entries_mark (noted.Entry first ∷ list) e b a = ap (λ (l : List Entry). first ∷ l) (entries_mark list e b a)
 entries_mark (noted.Mark first before after ∷ list) e b a = entries_mark list e b a
@@ -46,7 +48,8 @@ journal_entry es e = ap (λ (l : List ℕ). codes "SHEETJ01" ++ l) (text_entry e
 
 pub journal_length : (es : List Entry) (e : Entry)
     → length (journal_text (es ++ e ∷ [])) ≡ length (journal_text es) + length (entry_text e)
-journal_length es e = ap (λ (l : List ℕ). length l) (journal_entry es e) ∙ length-append (journal_text es) (entry_text e)
+journal_length es e = ap (λ (l : List ℕ). length l) (journal_entry es e) ∙ length-append (journal_text es)
+    (entry_text e)
 
 -- how many bytes an entry has
 pub entry_length : (e : Entry)
@@ -92,12 +95,14 @@ place_within (Some bytes) (e ∷ es) keeps =
     some_none e es none = let k = ap (λ (l : List Entry). length l) none in omega (arith, k)
 
 taken_front : (front rest : List ℕ) → take (length front) (front ++ rest) ≡ front
-taken_front front rest = take-append-le (length front) front rest (omega arith) ∙ take_all (length front) front (omega arith)
+taken_front front rest = take-append-le (length front) front rest (omega arith) ∙ take_all (length front) front
+    (omega arith)
 
 pub put_keeps : (kept kept' : Option (List ℕ)) (es : List Entry) (e : Entry) → Keeps kept es
     → kept' ≡ option_map (with_piece (place_of es) (piece_of (is_first es) e)) kept
     → IfSome kept' (λ bytes. bytes ≡ journal_text (es ++ e ∷ []))
-put_keeps None kept' es e keeps put = subst (λ (k : Option (List ℕ)). IfSome k (λ bytes. bytes ≡ journal_text (es ++ e ∷ []))) (sym put) tt
+put_keeps None kept' es e keeps put = subst (λ (k : Option (List ℕ)). IfSome k (λ bytes. bytes ≡ journal_text
+    (es ++ e ∷ []))) (sym put) tt
 put_keeps (Some bytes) kept' [] e keeps put =
     subst (λ (k : Option (List ℕ)). IfSome k (λ bytes. bytes ≡ journal_text (e ∷ []))) (sym put)
     (ap (λ (l : List ℕ). codes "SHEETJ01" ++ l) (sym (append-nil (entry_text e))))

@@ -38,7 +38,8 @@ grows : (plain : List Entry → Ask → Outcome) (pair : ℕ × ℕ) (caller : �
     (reply : Reply) → Happens plain pair caller ask told after reply → Grows caller told after
 grows plain pair caller ask told after reply happens = elim happens.one_of [
   | inl is ↦ one_or_none caller ask told after (step plain pair.0 (entries_of told) ask).accepts is.item
-  | inr (inl is) ↦ one_more caller told after (noted.Mark (entry_of caller ask) reply.faults.0 reply.faults.1) is.item refl
+  | inr (inl is) ↦ one_more caller told after (noted.Mark (entry_of caller ask) reply.faults.0 reply.faults.1)
+      is.item refl
   | inr (inr is) ↦ nothing_more caller told after is.item
 ]
 

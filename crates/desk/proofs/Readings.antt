@@ -30,9 +30,11 @@ text_before : (entry : Entry) (x : List ℕ)
 text_before entry x =
     append_assoc (four entry.caller) (field_text entry.user ++ (field_text entry.project ++ (field_text entry.target
     ++ field_text entry.body))) x
-    ∙ ap (λ (l : List ℕ). four entry.caller ++ l) (append_assoc (field_text entry.user) (field_text entry.project ++ (field_text entry.target
+    ∙ ap (λ (l : List ℕ). four entry.caller ++ l) (append_assoc (field_text entry.user) (field_text
+    entry.project ++ (field_text entry.target
     ++ field_text entry.body)) x
-    ∙ ap (λ (l : List ℕ). field_text entry.user ++ l) (append_assoc (field_text entry.project) (field_text entry.target ++ field_text entry.body) x
+    ∙ ap (λ (l : List ℕ). field_text entry.user ++ l) (append_assoc (field_text entry.project) (field_text
+    entry.target ++ field_text entry.body) x
     ∙ ap (λ (l : List ℕ). field_text entry.project ++ l)
     (append_assoc (field_text entry.target) (field_text entry.body) x)))
 

@@ -14,7 +14,8 @@ use Rattle.desk.proofs.Lists.{entries_mark}
 
 module _ (plain : List Entry → Ask → Outcome) (limit : ℕ) (es : List Entry) (ask : Ask) where
   pub step_refused : (plain es ask).accepts ≡ false → step plain limit es ask ≡ plain es ask
-  step_refused refused = ap (λ (b : Bool). if b && is_full limit es (entry_of 0 ask) then history_full else plain es ask) refused
+  step_refused refused = ap (λ (b : Bool). if b && is_full limit es (entry_of 0 ask) then history_full else
+      plain es ask) refused
 
   pub step_full : (plain es ask).accepts ≡ true → is_full limit es (entry_of 0 ask) ≡ true
       → step plain limit es ask ≡ history_full
@@ -65,7 +66,8 @@ module _ (plain : List Entry → Ask → Outcome) (pair : ℕ × ℕ) (caller : 
     });
   }
 
-  pub answered_happens : IsAnswered plain pair caller ask told after reply → Happens plain pair caller ask told after reply
+  pub answered_happens : IsAnswered plain pair caller ask told after reply → Happens plain pair caller ask told
+      after reply
   answered_happens answered = record {
     at_is = answered.at_is;
     one_of = elim answered.one_of [
@@ -90,7 +92,8 @@ pub no_growth : {A : Type 0} (list list' : List Noted) → list' ≡ list
 no_growth list list' same more =
     let k = ap (λ (l : List Noted). length (entries_of l)) same in absurd (omega (arith, more, k))
 
-pub no_growth_mark : {A : Type 0} (list list' : List Noted) (e : Entry) (b a : ℕ) → list' ≡ list ++ noted.Mark e b a ∷ []
+pub no_growth_mark : {A : Type 0} (list list' : List Noted) (e : Entry) (b a : ℕ) → list' ≡ list ++ noted.Mark
+    e b a ∷ []
     → length (entries_of list) < length (entries_of list') → A
 no_growth_mark list list' e b a marked more =
     let k = ap (λ (l : List Noted). length (entries_of l)) marked
@@ -101,7 +104,8 @@ no_growth_mark list list' e b a marked more =
 abbrev outcome : ℕ → List ℕ → Bool → Outcome
 outcome s b a = record { status = s; body = b; accepts = a }
 
-module _ {W : Type 0} (plain : List Entry → Ask → Outcome) (stands : W → List Entry → Type 0) (es : List Entry) (ask : Ask)
+module _ {W : Type 0} (plain : List Entry → Ask → Outcome) (stands : W → List Entry → Type 0) (es : List Entry)
+    (ask : Ask)
     (answered : Answered W) (answers : Answers plain stands es ask answered) where
   pub answers_none : answered.next ≡ None → (plain es ask).accepts ≡ false
   answers_none none =

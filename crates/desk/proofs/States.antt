@@ -29,7 +29,8 @@ module _ {W : Type 0} (stands : W → List Entry → Type 0) where
   sound_same world list list' entries bytes limit opened failures failures' kept kept' sound lists counts keeps =
       subst (λ (l : List Noted). IsSound stands world l entries bytes limit opened failures' kept') (sym lists)
       (subst (λ (n : ℕ). IsSound stands world list entries bytes limit opened n kept') (sym counts)
-      (subst (λ (k : Option (List ℕ)). IsSound stands world list entries bytes limit opened failures k) (sym keeps) sound))
+      (subst (λ (k : Option (List ℕ)). IsSound stands world list entries bytes limit opened failures k) (sym
+      keeps) sound))
 
   -- where an entry was added
   pub sound_entry : (world next : W) (list list' : List Noted) (entries bytes total limit opened failures failures' : ℕ)
@@ -40,7 +41,8 @@ module _ {W : Type 0} (stands : W → List Entry → Type 0) where
       → IsKept e at piece list list' kept kept' failures failures'
       → IsSound stands next list' (entries + 1) total limit opened failures' kept'
       × IfSome kept' (λ b. b ≡ journal_text (entries_of list'))
-  sound_entry world next list list' entries bytes total limit opened failures failures' kept kept' e piece at sound next_is
+  sound_entry world next list list' entries bytes total limit opened failures failures' kept kept' e piece at
+      sound next_is
       total_is piece_is at_is put =
       let more = ap entries_of put.list_is ∙ entries_entry list e in
       let kept_is = put_keeps kept kept' (entries_of list) e sound.keeps
@@ -71,7 +73,8 @@ module _ {W : Type 0} (stands : W → List Entry → Type 0) where
       → at ≡ place_of (entries_of list)
       → IsMarked e before after at piece list list' kept kept' failures failures'
       → IsSound stands world list' entries bytes limit opened failures' kept'
-  sound_mark world list list' entries bytes limit opened failures failures' kept kept' e before after piece at sound at_is
+  sound_mark world list list' entries bytes limit opened failures failures' kept kept' e before after piece at
+      sound at_is
       put =
       let same = ap entries_of put.list_is ∙ entries_mark list e before after in
       record {
@@ -89,7 +92,8 @@ module _ {W : Type 0} (stands : W → List Entry → Type 0) where
 
 -- the journal's bytes, those of the entry and their sum, as counts of 64 bits, which stand still at the last
 module _ (limit bytes size total : ℕ) (es : List Entry) (ask : Ask) (bytes_is : bytes ≡ length (journal_text es))
-    (size_is : size ≡ min (length (entry_text (entry_of 0 ask))) last_count) (sum : total ≡ min (bytes + size) last_count)
+    (size_is : size ≡ min (length (entry_text (entry_of 0 ask))) last_count) (sum : total ≡ min (bytes + size)
+    last_count)
     (small : limit ≤ 1073741824) where
   pub full_journal : limit < total → is_full limit es (entry_of 0 ask) ≡ true
   full_journal over =

@@ -54,7 +54,8 @@ module _ (plain : List Entry → Ask → Outcome) (pair : ℕ × ℕ) (caller : 
     pub status_is : reply.status ≡ (step plain pair.0 (entries_of told) ask).status
     pub body_is : reply.body ≡ Some (step plain pair.0 (entries_of told) ask).body
     pub item :
-        after ≡ (if (step plain pair.0 (entries_of told) ask).accepts then told ++ noted.Entry (entry_of caller ask) ∷ [] else told)
+        after ≡ (if (step plain pair.0 (entries_of told) ask).accepts
+        then told ++ noted.Entry (entry_of caller ask) ∷ [] else told)
     pub counts_are : reply.faults ≡ (last_counted pair.1 told, last_counted pair.1 told)
 
   -- the call would be accepted, but the keeper failed; a mark is added, which begins where the last one ended

@@ -33,7 +33,8 @@ pub record Answers {W : Type 0} (plain : List Entry → Ask → Outcome) (stands
   pub status_is : answered.status ≡ (plain entries ask).status
   pub body_is : answered.body ≡ (plain entries ask).body
   pub next_is : MatchOption answered.next ((plain entries ask).accepts ≡ false)
-      (λ world. ((plain entries ask).accepts ≡ true) × ((caller : ℕ) → stands world (entries ++ entry_of caller ask ∷ [])))
+      (λ world. ((plain entries ask).accepts ≡ true)
+      × ((caller : ℕ) → stands world (entries ++ entry_of caller ask ∷ [])))
 
 -- the journal of the entries with this one has more bytes than the limit
 abbrev pub is_full : ℕ → List Entry → Entry → Bool

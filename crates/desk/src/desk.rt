@@ -1,4 +1,5 @@
-ghost use Rattle.std.specs.Prelude.{◌≡◌, ◌≢◌, ◌≤◌, ◌<◌, ◌+◌, ◌++◌, ℕ, List, [], length, drop, Some, None, IfOk, IfErr, IfSome};
+ghost use Rattle.std.specs.Prelude.{◌≡◌, ◌≢◌, ◌≤◌, ◌<◌, ◌+◌, ◌++◌, ℕ, List, [], length, drop, Some, None, IfOk};
+ghost use Rattle.std.specs.Prelude.{IfErr, IfSome};
 ghost use Rattle.history_lock.specs.History.{StartsWith, NoneOf, longer};
 ghost use Rattle.history_lock.specs.Passes.{seen_by, number_of, given_by, count_of};
 ghost use Rattle.desk.specs.declared.entry.Noted.{Noted};
@@ -31,8 +32,8 @@ impl<E: Engine, K: Keeper> Told for State<E, K> {
 
 /// One history that many callers share, each by a pass of its own.
 ///
-/// Each call that takes a pass requires that it is of this desk, and says so of the one that it gives back. A desk is not
-/// dropped: [`Desk::close`] gives the history and the keeper back.
+/// Each call that takes a pass requires that it is of this desk, and says so of the one that it gives back. A desk is
+/// not dropped: [`Desk::close`] gives the history and the keeper back.
 pub struct Desk<E: Engine, K: Keeper> {
     lock: Lock<State<E, K>>,
 }
@@ -92,8 +93,8 @@ impl<E: Engine, K: Keeper> Desk<E, K> {
         self.lock.split(rt, from)
     }
 
-    /// Makes one call at a point of the history, whatever other passes do meanwhile. The pass has then seen all items up
-    /// to its own. No clause says that the wait for the turn ends.
+    /// Makes one call at a point of the history, whatever other passes do meanwhile. The pass has then seen all items
+    /// up to its own. No clause says that the wait for the turn ends.
     pub fn call<R: Wait>(&self, rt: &R, pass: Pass, ask: &Ask) -> (Pass, Reply)
         requires { IsPass self.now pass }
         ensures pass { IsPass self.now result.0 }

@@ -48,7 +48,7 @@ pub struct Reply {
 pub enum Noted {
     /// A call that was accepted.
     Entry(Entry),
-    /// A call that was answered 503: the entry that it would have made, and how often the keeper had failed before it and
-    /// after it.
+    /// A call that was answered 503: the entry that it would have made, and how often the keeper had failed before it
+    /// and after it.
     Mark(Entry, u64, u64),
 }

@@ -34,7 +34,8 @@ impl<E: Engine, K: Keeper> Model for State<E, K> {
 
     ghost view = { λ s. record { list = s.list.items; pair = (s.limit, s.opened); kept = K.kept s.keeper } };
 
-    ghost invariant = { λ s. IsSound E.stands s.world s.list.items s.entries s.bytes s.limit s.opened (K.failures s.keeper)
+    ghost invariant = { λ s. IsSound E.stands s.world s.list.items s.entries s.bytes s.limit s.opened
+        (K.failures s.keeper)
         (K.kept s.keeper) };
 }
 
@@ -69,9 +70,9 @@ impl<E: Engine, K: Keeper> State<E, K> {
         }
     }
 
-    /// Makes one call, at the end of the list. It is answered 503 only where the keeper's count of faults rose in it. Its
-    /// reply is made before the keeper's put, and after the put no memory is taken. After an answer 507 the bytes that
-    /// are kept are as they were.
+    /// Makes one call, at the end of the list. It is answered 503 only where the keeper's count of faults rose in it.
+    /// Its reply is made before the keeper's put, and after the put no memory is taken. After an answer 507 the bytes
+    /// that are kept are as they were.
     pub fn step(&mut self, caller: u32, ask: &Ask) -> Reply
         ensures happens { Happens E.plain self.old.pair caller ask.now self.old.list self.new.list result }
         ensures pair { self.new.pair ≡ self.old.pair }
@@ -140,7 +141,10 @@ impl<E: Engine, K: Keeper> State<E, K> {
     fn reply(&self, status: u16, body: Option<Bytes>) -> Reply
         ensures reply { (result.status ≡ status) × (result.body ≡ body) }
         ensures at { result.at ≡ length (entries_of self.now.list) }
-        ensures counts { result.faults ≡ (last_counted self.now.pair.1 self.now.list, last_counted self.now.pair.1 self.now.list) }
+        ensures counts { result.faults ≡ (
+          last_counted self.now.pair.1 self.now.list,
+          last_counted self.now.pair.1 self.now.list,
+        ) }
     {
         let faults = self.keeper.faults();
         Reply {
@@ -166,8 +170,8 @@ impl<E: Engine, K: Keeper> State<E, K> {
         }
     }
 
-    // Enters an accepted call, which leaves that world and is answered so: its piece is put, and its entry is added, or a
-    // mark. All memory is taken before the put.
+    // Enters an accepted call, which leaves that world and is answered so: its piece is put, and its entry is added,
+    // or a mark. All memory is taken before the put.
     fn enter(
         &mut self,
         caller: u32,
@@ -177,7 +181,8 @@ impl<E: Engine, K: Keeper> State<E, K> {
         body: Bytes,
     ) -> Result<Reply, NoMemory>
         requires world { (number : ℕ) → E.stands world (entries_of self.old.list ++ entry_of number ask.now ∷ []) }
-        requires plain { E.plain (entries_of self.old.list) ask.now ≡ record { status = status; body = body; accepts = true } }
+        requires plain { E.plain (entries_of self.old.list) ask.now
+            ≡ record { status = status; body = body; accepts = true } }
         ensures happens { IfOk result (IsAnswered E.plain self.old.pair caller ask.now self.old.list self.new.list) }
         ensures pair { self.new.pair ≡ self.old.pair }
         ensures kept { length (entries_of self.old.list) < length (entries_of self.new.list)

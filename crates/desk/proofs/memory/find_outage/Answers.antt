@@ -11,7 +11,8 @@ returns-in_err-pair c =
     (YieldsList-from_slice c.args.failing.now cc) (λ x b q k. search (rules, tests)) in
     let none : c.find.result ≡ None = c.in_err-pair.was in
     c.from_residual.ensures
-    ∙ ap (λ (o : Option (ℕ × Option ℕ)). option_map (λ (p : ℕ × Option ℕ). p.1) o) (ap (option_map _) (sym none) ∙ found)
+    ∙ ap (λ (o : Option (ℕ × Option ℕ)). option_map (λ (p : ℕ × Option ℕ). p.1) o) (ap (option_map _) (sym
+    none) ∙ found)
 
 pub returns : goal.returns
 returns c =

@@ -10,7 +10,8 @@ pub leave-requires-clause-list : goal.leave-requires-clause-list
 leave-requires-clause-list g c =
     let state = c.take-turn.result.1 in let after = c.step-reply.new.self.list in
     subst (λ (l : List Noted). StartsWith after l) (sym c.take-turn.ensures.taken)
-    (happens_begins g.E.Engine.plain state.pair c.number-caller.result c.args.ask.now state.list after c.step-reply.result
+    (happens_begins g.E.Engine.plain state.pair c.number-caller.result c.args.ask.now state.list after
+    c.step-reply.result
     c.step-reply.ensures.happens)
 
 pub leave-requires-clause-own : goal.leave-requires-clause-own

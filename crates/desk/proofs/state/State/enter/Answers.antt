@@ -17,7 +17,8 @@ use Rattle.desk.proofs.state.State.enter.Goals.{then-first, else-first}
 pub prepare-requires : goal.prepare-requires
 prepare-requires g c =
     let s = c.self.inside in let inv = c.self.invariant in
-    fields_fit s.limit s.bytes c.entry_size.result c.saturating_add-total.result (entries_of s.list.items) c.args.ask.now
+    fields_fit s.limit s.bytes c.entry_size.result c.saturating_add-total.result (entries_of s.list.items)
+    c.args.ask.now
     inv.bytes_is c.entry_size.ensures c.saturating_add-total.ensures inv.limit_is c.args.caller c.if-self-total.false
 
 pub returns-then-self-total-clause-happens : goal.returns-then-self-total-clause-happens
@@ -38,7 +39,8 @@ place_at : (g : given.Over) (c : goal.After-as_slice g) → c.if-first.at ≡ pl
 place_at g c =
     let s = c.self.inside in let inv = c.self.invariant in
     elim c.if-first.branch [
-      | then-first w ↦ place_first s.entries c.if-first.at (entries_of s.list.items) inv.entries_is w.if-first.true w.at-is
+      | then-first w ↦ place_first s.entries c.if-first.at (entries_of s.list.items) inv.entries_is
+          w.if-first.true w.at-is
       | else-first w ↦ place_later s.entries c.if-first.at s.bytes (entries_of s.list.items) inv.entries_is
           w.if-first.false w.at-is inv.bytes_is
     ]
@@ -63,7 +65,8 @@ marked_place : (g : given.Over) (c : goal.After-drop-world-in-Marked-1 g)
 marked_place g c =
     let s = c.self.inside in let inv = c.self.invariant in
     elim c.if-first.branch [
-      | then-first w ↦ place_first s.entries c.if-first.at (entries_of s.list.items) inv.entries_is w.if-first.true w.at-is
+      | then-first w ↦ place_first s.entries c.if-first.at (entries_of s.list.items) inv.entries_is
+          w.if-first.true w.at-is
       | else-first w ↦ place_later s.entries c.if-first.at s.bytes (entries_of s.list.items) inv.entries_is
           w.if-first.false w.at-is inv.bytes_is
     ]
@@ -79,7 +82,8 @@ kept_state g c =
     let p = c.in_ok-entry.ensures in let e = c.in_ok-entry.field-0.entry in
     let place : c.if-first.at ≡ place_of es = elim c.if-first.branch [
       | then-first w ↦ place_first s.entries c.if-first.at es inv.entries_is w.if-first.true w.at-is
-      | else-first w ↦ place_later s.entries c.if-first.at s.bytes es inv.entries_is w.if-first.false w.at-is inv.bytes_is
+      | else-first w ↦ place_later s.entries c.if-first.at s.bytes es inv.entries_is w.if-first.false w.at-is
+          inv.bytes_is
     ] in
     let put = noted_kept _ c.in-Kept.is c.in_ok-put_noted.ensures.noted in
     let total = total_journal s.limit s.bytes c.entry_size.result c.saturating_add-total.result es c.args.ask.now
