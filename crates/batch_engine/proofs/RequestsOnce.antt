@@ -41,7 +41,7 @@ module _ (writes : WritesOnce) (apart : ChangesApart) (turns : ChangesInTurn) (b
   asked_once : (asked : Request) → IsOne (IsDoneAsAsked book asked)
   asked_once (request.UpdateCells rows area) = update_cells_once rows area
   asked_once (request.AddSheet properties) = refused_once _
-  asked_once (request.DeleteSheet sheet) = refused_once _
+  asked_once (request.DeleteSheet sheet) = λ told told' is is'. is ∙ sym is'
   asked_once (request.UpdateSheetProperties sheet properties) = refused_once _
   asked_once (request.AppendCells sheet rows) = refused_once _
   asked_once (request.InsertDimension range inherit) = refused_once _

@@ -4,6 +4,7 @@ pub mod Members
 pub mod Values
 pub mod Rows
 pub mod UpdateCells
+pub mod DeleteSheet
 pub mod Requests
 pub mod Looks
 pub mod Calls

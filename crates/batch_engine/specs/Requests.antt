@@ -11,12 +11,14 @@ use Rattle.sheets_json.specs.declared.request.Request.TheVariants as request
 use Rattle.sheets_json.specs.declared.request.Step.{Step}
 use Rattle.sheets_json.specs.declared.request.Step.TheVariants as step
 use Rattle.sheets_json.specs.declared.spreadsheet.Reply.{Reply}
+use Rattle.batch_engine.specs.DeleteSheet.{IsDeleteSheet}
 use Rattle.batch_engine.specs.UpdateCells.{IsUpdateCells}
 use Rattle.batch_engine.specs.Values.{rule_of}
 
 -- what a request is replied, or which rule it breaks, and what it changes; no other kind is done yet
 abbrev pub IsDoneAsAsked : PlaceBook → Request → Result (Reply × List BookChange) Rule → Type 0
 IsDoneAsAsked book (request.UpdateCells rows area) told = IsUpdateCells rows area book told
+IsDoneAsAsked book (request.DeleteSheet sheet) told = IsDeleteSheet sheet book told
 IsDoneAsAsked book _ told = told ≡ Err rule.Unsupported
 
 -- a request whose shape is broken is refused in its turn

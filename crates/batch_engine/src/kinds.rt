@@ -3,8 +3,10 @@ ghost use Rattle.batch_engine.specs.Members.{IsDoneTo};
 ghost use Rattle.batch_engine.specs.Requests.{IsDoneAsAsked};
 
 mod areas;
+mod delete_sheet;
 mod update_cells;
 
+use delete_sheet::delete_sheet;
 use dimension_ops::{Book, Rule, RuleOr};
 use sheets_json::{Reply, Request};
 use std::alloc::Global;
@@ -21,6 +23,7 @@ pub(crate) fn done(
 {
     match request {
         Request::UpdateCells { rows, area } => update_cells(alloc, book, user, rows, *area),
+        Request::DeleteSheet { sheet_id } => delete_sheet(book, *sheet_id),
         _ => Err(RuleOr::Rule(Rule::Unsupported)),
     }
 }
