@@ -1,9 +1,9 @@
 -- More lines than numbers of lines tell are past the limit of lines.
 use Rattle.std.proofs.Common.{◌≡◌, ℕ, suc, ◌+◌, ◌<◌, ◌≤◌, refl, sym, ap, ◌∙◌, List, [], ◌∷◌, cond, Bool, true, false, arith, Ok, Err}
-use Rattle.std.specs.Prelude.{Option, None, Some, IfSome, IsSomeAnd, is_some, ◌==◌, nat_lt}
+use Rattle.std.specs.Prelude.{Option, None, Some, IfSome, IsSomeAnd, ◌==◌, nat_lt}
 use Rattle.std.specs.List.{All}
 use Rattle.std.specs.Option.{option_map_or}
-use Rattle.std.proofs.lemmas.Bool.{false≢true, false_from_ne_true, eqb-true, le-ltb, lt-ltb}
+use Rattle.std.proofs.lemmas.Bool.{false_from_ne_true, eqb-true, le-ltb, lt-ltb}
 use Rattle.grid_range.specs.declared.axis.Axis.{Axis}
 use Rattle.grid_range.specs.declared.axis.Axis.TheVariants.{Rows, Columns}
 use Rattle.grid_range.specs.Change.{count_after}
@@ -58,10 +58,10 @@ found_holds P id (sheet ∷ sheets) all =
 
 -- ---- more lines than a number of lines tells
 
-module _ (id count places : ℕ) (sheet : PlaceSheet) (sheets : List PlaceSheet) (sound : IsSheetSound sheets sheet) where
+module _ (at count places : ℕ) (sheet : PlaceSheet) (sheets : List PlaceSheet) (sound : IsSheetSound sheets sheet) where
   past_on : (axis : Axis) → 4294967296 ≤ lines_of_sheet axis sheet + count
-      → first_passed (passes_size (size_after axis (Insert (lines_of_sheet axis sheet) count) sheet.table.rows
-      sheet.table.cols) places) ≡ Some (limit_on axis)
+      → first_passed (passes_size (size_after axis (Insert at count) sheet.table.rows sheet.table.cols) places)
+      ≡ Some (limit_on axis)
   past_on Rows many =
       rows_first (nat_lt 1000000 (sheet.table.rows + count)) (nat_lt 18278 sheet.table.cols) (nat_lt most_places places)
       (lt-ltb 1000000 (sheet.table.rows + count) (omega arith))
@@ -69,24 +69,24 @@ module _ (id count places : ℕ) (sheet : PlaceSheet) (sheets : List PlaceSheet)
       cols_first (nat_lt 1000000 sheet.table.rows) (nat_lt 18278 (sheet.table.cols + count)) (nat_lt most_places places)
       (le-ltb 1000000 sheet.table.rows sound.rows.1) (lt-ltb 18278 (sheet.table.cols + count) (omega arith))
 
-pub past_refused : (before : PlaceBook) (id count at : ℕ) (axis : Axis) (broken : Rule)
-    → All (IsSheetSound before.sheets) before.sheets → is_some (place_sheet_with id before.sheets) ≡ true
-    → IfSome (place_sheet_with id before.sheets) (λ sheet. at ≡ lines_of_sheet axis sheet)
-    → 4294967296 ≤ at + count → broken ≡ rule.PastLimit (limit_on axis)
-    → IsSomeAnd (place_sheet_with id before.sheets)
-    (λ sheet. IsLinesAnswer id axis (Insert (lines_of_sheet axis sheet) count) before before (Err broken))
-past_refused before id count at axis broken sound there lines many is =
-    at_found (place_sheet_with id before.sheets) refl there lines
+pub past_refused : (before : PlaceBook) (id at count lines : ℕ) (axis : Axis) (broken : Rule)
+    → All (IsSheetSound before.sheets) before.sheets
+    → IsSomeAnd (place_sheet_with id before.sheets) (λ sheet. at ≤ lines_of_sheet axis sheet)
+    → IfSome (place_sheet_with id before.sheets) (λ sheet. lines ≡ lines_of_sheet axis sheet)
+    → 4294967296 ≤ lines + count → broken ≡ rule.PastLimit (limit_on axis)
+    → IsLinesAnswer id axis (Insert at count) before before (Err broken)
+past_refused before id at count lines axis broken sound there long many is =
+    at_found (place_sheet_with id before.sheets) refl there long
     (found_holds (IsSheetSound before.sheets) id before.sheets sound)
   where
-    at_found : (found : Option PlaceSheet) → place_sheet_with id before.sheets ≡ found → is_some found ≡ true
-        → IfSome found (λ sheet. at ≡ lines_of_sheet axis sheet) → IfSome found (IsSheetSound before.sheets)
-        → IsSomeAnd found
-        (λ sheet. IsLinesAnswer id axis (Insert (lines_of_sheet axis sheet) count) before before (Err broken))
-    at_found None here some lines sound = absurd (false≢true some)
-    at_found (Some sheet) here some lines sound =
-        let change : Change = Insert (lines_of_sheet axis sheet) count in
-        let many' : 4294967296 ≤ lines_of_sheet axis sheet + count = omega (arith, many, lines) in
+    at_found : (found : Option PlaceSheet) → place_sheet_with id before.sheets ≡ found
+        → IsSomeAnd found (λ sheet. at ≤ lines_of_sheet axis sheet)
+        → IfSome found (λ sheet. lines ≡ lines_of_sheet axis sheet) → IfSome found (IsSheetSound before.sheets)
+        → IsLinesAnswer id axis (Insert at count) before before (Err broken)
+    at_found None here some long sound = absurd some
+    at_found (Some sheet) here some long sound =
+        let change : Change = Insert at count in
+        let many' : 4294967296 ≤ lines_of_sheet axis sheet + count = omega (arith, many, long) in
         let first : first_broken (lines_broken id axis change before.sheets) ≡ Some (rule.PastLimit (limit_on axis)) =
         ap (λ found. first_broken (option_map_or (λ other. record unbroken {
           last_line = count_after change (lines_of_sheet axis other) == 0;
@@ -97,7 +97,7 @@ past_refused before id count at axis broken sound there lines many is =
         (first_passed (passes_size (size_after axis change sheet.table.rows sheet.table.cols)
         (places_changed id axis change before.sheets))) (limit_on axis)
         (some_lines (lines_of_sheet axis sheet + count) (omega (arith, many')))
-        (past_on id count (places_changed id axis change before.sheets) sheet before.sheets sound axis many') in
+        (past_on at count (places_changed id axis change before.sheets) sheet before.sheets sound axis many') in
         record {
           judged = ap Err is ∙ ap (λ r. option_map_or Err r (Ok tt)) (sym first);
           changed = tt;
@@ -105,3 +105,10 @@ past_refused before id count at axis broken sound there lines many is =
           sizes = tt;
           unchanged = refl;
         }
+
+-- the line before which lines are inserted is one of those that the sheet has, or the one behind them
+pub at_most_lines : (at lines : ℕ) (axis : Axis) (found : Option PlaceSheet)
+    → IsSomeAnd found (λ sheet. at ≤ lines_of_sheet axis sheet)
+    → IfSome found (λ sheet. lines ≡ lines_of_sheet axis sheet) → at ≤ lines
+at_most_lines at lines axis None there long = absurd there
+at_most_lines at lines axis (Some sheet) there long = omega (arith, there, long)

@@ -1,6 +1,7 @@
 -- Which rules a change of the lines of a sheet breaks, and what it makes of sizes (InsertDimensionRequest,
 -- DeleteDimensionRequest, MoveDimensionRequest and AppendDimensionRequest of the Google Sheets API v4 reference).
-use Rattle.std.specs.Prelude.{◌≡◌, ◌≤◌, ◌*◌, None, ◌∷◌, [], ℕ, false, List, Result, ◌==◌, nat_lt, if◌then◌else◌, IsSomeAnd, OnErr, OnOk}
+use Rattle.std.specs.Prelude.{◌≡◌, ◌≤◌, ◌*◌, ◌∷◌, [], ℕ, false, List, None, Result, IsSomeAnd, OnErr, OnOk}
+use Rattle.std.specs.Prelude.{◌==◌, nat_lt, if◌then◌else◌}
 use Rattle.std.specs.List.{sum_by}
 use Rattle.std.specs.Option.{option_map, option_map_or}
 use Rattle.grid_range.specs.Change.{Fits, count_after}
@@ -75,7 +76,8 @@ pub record SheetMoves (axis : Axis) (change : Change) (before after : PlaceSheet
   pub goes : GoesWithLines axis change before.table after.table
 
 -- each of its items followed in its place, and all else of it is as it was
-pub record SheetFollows (changed : ℕ) (axis : Axis) (count : ℕ) (change : Change) (before after : PlaceSheet) : Type 0 where
+pub record SheetFollows (changed : ℕ) (axis : Axis) (count : ℕ) (change : Change) (before after : PlaceSheet) : Type
+    0 where
   pub id : after.id ≡ before.id
   pub title : after.title ≡ before.title
   pub hidden : after.hidden ≡ before.hidden

@@ -23,7 +23,8 @@ use world_model::formulas_counted;
 
 /// All filled places of the cells, by rows.
 fn filled_places(cells: &Cells) -> Result<Vec<(u32, u32)>, NoMemory>
-    ensures { IfOk result (λ places. AreFilledPlaces (record { sheet = 0; rows = Whole; cols = Whole }) cells.now places.items) }
+    ensures { IfOk result
+        (λ places. AreFilledPlaces (record { sheet = 0; rows = Whole; cols = Whole }) cells.now places.items) }
 {
     let places = cells.places(&Area {
         sheet: 0,
@@ -130,7 +131,8 @@ pub(crate) fn follow_places(
     requires fits { Fits by.now.change.now by.now.count }
     requires in_order { IsStrictlySortedBy by_rows places.now }
     requires within { AreWithinOn by.now.sheet by.now.axis by.now.count cells.old }
-    ensures followed { OnOk result (cells.new ≡ fold (followed_at by.now.sheet by.now.axis by.now.count by.now.change.now) cells.old places.now) }
+    ensures followed { OnOk result (cells.new
+        ≡ fold (followed_at by.now.sheet by.now.axis by.now.count by.now.change.now) cells.old places.now) }
     ensures formulas_stay { formulas_in cells.new ≡ formulas_in cells.old }
 {
     for place in places {
@@ -143,7 +145,8 @@ pub(crate) fn follow_places(
 fn follow_at(cells: &mut Cells, row: u32, column: u32, by: &SheetChange) -> Result<(), NoMemory>
     requires fits { Fits by.now.change.now by.now.count }
     requires within { IfSome (item_at cells.old row column) (IsContentWithinOn by.now.sheet by.now.axis by.now.count) }
-    ensures followed { OnOk result (cells.new ≡ followed_at by.now.sheet by.now.axis by.now.count by.now.change.now cells.old (row, column)) }
+    ensures followed { OnOk result (cells.new
+        ≡ followed_at by.now.sheet by.now.axis by.now.count by.now.change.now cells.old (row, column)) }
     ensures formulas_stay { formulas_in cells.new ≡ formulas_in cells.old }
 {
     formulas_counted();

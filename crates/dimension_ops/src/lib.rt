@@ -13,7 +13,7 @@ mod world;
 
 pub use book::Book;
 pub use laws::opening_stands;
-pub use lines::{append_lines, change_sheet};
+pub use lines::{append_lines, change_sheet, insert_lines};
 pub use rule::{Limit, Rule, RuleOr};
 pub use sheet::Sheet;
 pub use sheets::{add_sheet, drop_sheet};

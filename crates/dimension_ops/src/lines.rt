@@ -10,7 +10,8 @@ ghost use Rattle.grid_range.specs.declared.change.Change.TheVariants.{Insert};
 ghost use Rattle.world_model.specs.PlaceChange.{SheetChanged};
 ghost use Rattle.world_model.specs.Sound.{place_sheet_with};
 ghost use Rattle.dimension_ops.specs.Broken.{first_broken, first_passed};
-ghost use Rattle.dimension_ops.specs.Lines.{IsLinesAnswer, IsUnbroken, SheetFollows, limit_on, lines_broken, lines_of_sheet, passes_size, places_changed};
+ghost use Rattle.dimension_ops.specs.Lines.{IsLinesAnswer, IsUnbroken, SheetFollows};
+ghost use Rattle.dimension_ops.specs.Lines.{limit_on, lines_broken, lines_of_sheet, passes_size, places_changed};
 ghost use Rattle.dimension_ops.specs.References.{AreWithinOn, CanChange};
 ghost use Rattle.dimension_ops.specs.Rules.{IsUnlessNoMemory};
 ghost use Rattle.dimension_ops.specs.declared.rule.Rule.TheVariants.{PastLimit};
@@ -34,7 +35,8 @@ use world_model::line_changes_are_changes;
 /// 1,000,000 rows or 18,278 columns, or the spreadsheet more than 10,000,000 places. The spreadsheet is as it
 /// was then. [`RuleOr::NoMemory`] where memory runs out; the spreadsheet is to be given up then.
 pub fn change_sheet(book: &mut Book, sheet: u32, axis: Axis, change: &Change) -> Result<(), RuleOr>
-    requires { IsSomeAnd (place_sheet_with sheet book.old.sheets) (λ found. Fits change.now (lines_of_sheet axis found)) }
+    requires { IsSomeAnd (place_sheet_with sheet book.old.sheets)
+        (λ found. Fits change.now (lines_of_sheet axis found)) }
     ensures { IsUnlessNoMemory (IsLinesAnswer sheet axis change.now book.old book.new) result }
 {
     line_changes_are_changes();
@@ -48,6 +50,33 @@ pub fn change_sheet(book: &mut Book, sheet: u32, axis: Axis, change: &Change) ->
     Ok(())
 }
 
+/// Inserts so many lines before the line `at` on the axis of the sheet with the id, or last where `at` is their
+/// number. Lines are counted from 0.
+///
+/// # Errors
+///
+/// As those of [`change_sheet`].
+pub fn insert_lines(
+    book: &mut Book,
+    sheet: u32,
+    axis: Axis,
+    at: u32,
+    count: u32,
+) -> Result<(), RuleOr>
+    requires some { 0 < count }
+    requires there { IsSomeAnd (place_sheet_with sheet book.old.sheets) (λ found. at ≤ lines_of_sheet axis found) }
+    ensures { IsUnlessNoMemory (IsLinesAnswer sheet axis (Insert at count) book.old book.new) result }
+{
+    book.stays_sound();
+    let lines = lines_of(book, sheet, axis);
+    let change = Change::Insert { at, count };
+    if change.fits(lines) {
+        change_sheet(book, sheet, axis, &change)
+    } else {
+        Err(RuleOr::Rule(past(axis)))
+    }
+}
+
 /// Adds so many lines behind the last one on the axis of the sheet with the id.
 ///
 /// # Errors
@@ -57,16 +86,11 @@ pub fn append_lines(book: &mut Book, sheet: u32, axis: Axis, count: u32) -> Resu
     requires some { 0 < count }
     requires there { IsSome (place_sheet_with sheet book.old.sheets) }
     ensures { IsSomeAnd (place_sheet_with sheet book.old.sheets) (λ found.
-        IsUnlessNoMemory (IsLinesAnswer sheet axis (Insert (lines_of_sheet axis found) count) book.old book.new) result) }
+        IsUnlessNoMemory (IsLinesAnswer sheet axis (Insert (lines_of_sheet axis found) count) book.old book.new)
+        result) }
 {
-    book.stays_sound();
     let at = lines_of(book, sheet, axis);
-    let change = Change::Insert { at, count };
-    if change.fits(at) {
-        change_sheet(book, sheet, axis, &change)
-    } else {
-        Err(RuleOr::Rule(past(axis)))
-    }
+    insert_lines(book, sheet, axis, at, count)
 }
 
 /// How many lines the sheet with the id has on the axis; none where it isn't there.
@@ -105,9 +129,11 @@ fn past(axis: Axis) -> Rule
 ///
 /// The first rule that the change breaks.
 fn judge(book: &Book, sheet: u32, axis: Axis, change: &Change) -> Result<u32, Rule>
-    requires { IsSomeAnd (place_sheet_with sheet book.now.sheets) (λ found. Fits change.now (lines_of_sheet axis found)) }
+    requires { IsSomeAnd (place_sheet_with sheet book.now.sheets)
+        (λ found. Fits change.now (lines_of_sheet axis found)) }
     ensures unbroken { IfOk result (IsUnbroken sheet axis change.now book.now.sheets) }
-    ensures broken { IfErr result (λ rule. first_broken (lines_broken sheet axis change.now book.now.sheets) ≡ Some rule) }
+    ensures broken { IfErr result
+        (λ rule. first_broken (lines_broken sheet axis change.now book.now.sheets) ≡ Some rule) }
 {
     let Some(found) = book.sheet(sheet) else {
         return Ok(0);
@@ -141,7 +167,8 @@ fn first_past(rows: u32, cols: u32, places: u64) -> Option<Limit>
 
 /// How many places the sheets have after the change.
 fn places_after(book: &Book, sheet: u32, axis: Axis, change: &Change) -> u64
-    requires { IsSomeAnd (place_sheet_with sheet book.now.sheets) (λ found. Fits change.now (lines_of_sheet axis found)) }
+    requires { IsSomeAnd (place_sheet_with sheet book.now.sheets)
+        (λ found. Fits change.now (lines_of_sheet axis found)) }
     ensures { result ≡ places_changed sheet axis change.now book.now.sheets }
 {
     book.stays_sound();
@@ -175,7 +202,8 @@ pub(crate) fn sheets_changed(
     by: &SheetChange,
 ) -> Result<Vec<Arc<Sheet>>, NoMemory>
     requires fits { Fits by.now.change.now by.now.count }
-    requires ready { All (CanChange by.now.sheet by.now.axis by.now.count by.now.change.now) (map arc_value sheets.items) }
+    requires ready { All (CanChange by.now.sheet by.now.axis by.now.count by.now.change.now)
+        (map arc_value sheets.items) }
     ensures { IfOk result (λ changed. AllZip (SheetChanged by.now.sheet by.now.axis by.now.count by.now.change.now)
         (map arc_value sheets.items) (map arc_value changed.items)) }
 {
