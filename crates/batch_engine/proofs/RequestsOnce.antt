@@ -44,10 +44,10 @@ module _ (writes : WritesOnce) (apart : ChangesApart) (turns : ChangesInTurn) (b
   asked_once (request.DeleteSheet sheet) = λ told told' is is'. is ∙ sym is'
   asked_once (request.UpdateSheetProperties sheet properties) = refused_once _
   asked_once (request.AppendCells sheet rows) = refused_once _
-  asked_once (request.InsertDimension range inherit) = refused_once _
-  asked_once (request.DeleteDimension range) = refused_once _
-  asked_once (request.AppendDimension sheet dimension length) = refused_once _
-  asked_once (request.MoveDimension source destination) = refused_once _
+  asked_once (request.InsertDimension range inherit) = λ told told' is is'. is ∙ sym is'
+  asked_once (request.DeleteDimension range) = λ told told' is is'. is ∙ sym is'
+  asked_once (request.AppendDimension sheet dimension length) = λ told told' is is'. is ∙ sym is'
+  asked_once (request.MoveDimension source destination) = λ told told' is is'. is ∙ sym is'
   asked_once (request.MergeCells range type) = refused_once _
   asked_once (request.UnmergeCells range) = refused_once _
   asked_once (request.AddNamedRange range) = refused_once _

@@ -5,6 +5,7 @@ pub mod Values
 pub mod Rows
 pub mod UpdateCells
 pub mod DeleteSheet
+pub mod Dimensions
 pub mod Requests
 pub mod Looks
 pub mod Calls

@@ -1,7 +1,7 @@
 -- A batch of requests (Google Sheets API v4 reference, spreadsheets.batchUpdate): each is done on what those before it
 -- leave, and the first that breaks a rule refuses all of them. Each kind of request says its reply, what it changes and
 -- the rules that it breaks in a file of its own.
-use Rattle.std.specs.Prelude.{◌≡◌, List, Result, Err}
+use Rattle.std.specs.Prelude.{◌≡◌, false, List, unwrap_or, Result, Err}
 use Rattle.world_model.specs.Book.{PlaceBook}
 use Rattle.world_model.specs.BookChange.{BookChange}
 use Rattle.dimension_ops.specs.declared.rule.Rule.{Rule}
@@ -12,6 +12,7 @@ use Rattle.sheets_json.specs.declared.request.Step.{Step}
 use Rattle.sheets_json.specs.declared.request.Step.TheVariants as step
 use Rattle.sheets_json.specs.declared.spreadsheet.Reply.{Reply}
 use Rattle.batch_engine.specs.DeleteSheet.{IsDeleteSheet}
+use Rattle.batch_engine.specs.Dimensions.{dimension_appended, dimension_deleted, dimension_inserted, dimension_moved}
 use Rattle.batch_engine.specs.UpdateCells.{IsUpdateCells}
 use Rattle.batch_engine.specs.Values.{rule_of}
 
@@ -19,6 +20,12 @@ use Rattle.batch_engine.specs.Values.{rule_of}
 abbrev pub IsDoneAsAsked : PlaceBook → Request → Result (Reply × List BookChange) Rule → Type 0
 IsDoneAsAsked book (request.UpdateCells rows area) told = IsUpdateCells rows area book told
 IsDoneAsAsked book (request.DeleteSheet sheet) told = IsDeleteSheet sheet book told
+IsDoneAsAsked book (request.InsertDimension range inherits) told =
+    told ≡ dimension_inserted range (unwrap_or inherits false) book.sheets
+IsDoneAsAsked book (request.DeleteDimension range) told = told ≡ dimension_deleted range book.sheets
+IsDoneAsAsked book (request.AppendDimension sheet axis length) told =
+    told ≡ dimension_appended sheet axis length book.sheets
+IsDoneAsAsked book (request.MoveDimension range to) told = told ≡ dimension_moved range to book.sheets
 IsDoneAsAsked book _ told = told ≡ Err rule.Unsupported
 
 -- a request whose shape is broken is refused in its turn

@@ -4,10 +4,12 @@ ghost use Rattle.batch_engine.specs.Requests.{IsDoneAsAsked};
 
 mod areas;
 mod delete_sheet;
+mod dimensions;
 mod update_cells;
 
 use delete_sheet::delete_sheet;
 use dimension_ops::{Book, Rule, RuleOr};
+use dimensions::{append_dimension, delete_dimension, insert_dimension, move_dimension};
 use sheets_json::{Reply, Request};
 use std::alloc::Global;
 use update_cells::update_cells;
@@ -24,6 +26,20 @@ pub(crate) fn done(
     match request {
         Request::UpdateCells { rows, area } => update_cells(alloc, book, user, rows, *area),
         Request::DeleteSheet { sheet_id } => delete_sheet(book, *sheet_id),
+        Request::InsertDimension {
+            range,
+            inherit_from_before,
+        } => insert_dimension(book, *range, inherit_from_before.unwrap_or(false)),
+        Request::DeleteDimension { range } => delete_dimension(book, *range),
+        Request::AppendDimension {
+            sheet_id,
+            dimension,
+            length,
+        } => append_dimension(book, *sheet_id, *dimension, *length),
+        Request::MoveDimension {
+            source,
+            destination_index,
+        } => move_dimension(book, *source, *destination_index),
         _ => Err(RuleOr::Rule(Rule::Unsupported)),
     }
 }

@@ -1,0 +1,224 @@
+ghost use Rattle.std.specs.Prelude.{◌≡◌, ◌<◌, ◌≤◌, ◌∷◌, [], IfErr, IfOk, IsSomeAnd, None, Some};
+ghost use Rattle.grid_range.specs.Change.{Fits};
+ghost use Rattle.grid_range.specs.declared.change.Change.TheVariants.{Insert};
+ghost use Rattle.world_model.specs.BookChange.BookChange.{LinesChanged};
+ghost use Rattle.world_model.specs.Sound.{place_sheet_with};
+ghost use Rattle.dimension_ops.specs.Broken.{first_broken, judged_by};
+ghost use Rattle.dimension_ops.specs.Lines.{lines_broken, lines_of_sheet};
+ghost use Rattle.dimension_ops.specs.Rules.{IsUnlessNoMemory};
+ghost use Rattle.sheets_json.specs.declared.spreadsheet.Reply.TheVariants.{Empty};
+ghost use Rattle.batch_engine.specs.Dimensions.{append_broken, delete_broken, insert_broken, move_broken, end_of};
+ghost use Rattle.batch_engine.specs.Dimensions.{dimension_appended, dimension_deleted, dimension_inserted, dimension_moved};
+ghost use Rattle.batch_engine.specs.Members.{IsDoneTo};
+
+use dimension_ops::{Book, Rule, RuleOr, Sheet, change_sheet, insert_lines};
+use grid_range::{Axis, Change};
+use sheets_json::{DimensionRange, Reply};
+
+/// Inserts the lines of the range; `inherits` tells whether they are to be like the line before them.
+pub(crate) fn insert_dimension(
+    book: &mut Book,
+    range: DimensionRange,
+    inherits: bool,
+) -> Result<Reply, RuleOr>
+    ensures { IsUnlessNoMemory (IsDoneTo (λ told. told ≡ dimension_inserted range inherits book.old.sheets) book.old book.new) result }
+{
+    match inserted(book, range, inherits) {
+        Ok(end) => {
+            let count = end - range.start_index;
+            insert(
+                book,
+                range.sheet_id,
+                range.dimension,
+                range.start_index,
+                count,
+            )
+        }
+        Err(rule) => Err(RuleOr::Rule(rule)),
+    }
+}
+
+/// Deletes the lines of the range.
+pub(crate) fn delete_dimension(book: &mut Book, range: DimensionRange) -> Result<Reply, RuleOr>
+    ensures { IsUnlessNoMemory (IsDoneTo (λ told. told ≡ dimension_deleted range book.old.sheets) book.old book.new) result }
+{
+    match deleted(book, range) {
+        Ok(end) => {
+            let start = range.start_index;
+            change(
+                book,
+                range.sheet_id,
+                range.dimension,
+                &Change::Delete { start, end },
+            )
+        }
+        Err(rule) => Err(RuleOr::Rule(rule)),
+    }
+}
+
+/// Moves the lines of the range before the line `to`, which is counted before they are taken away.
+pub(crate) fn move_dimension(
+    book: &mut Book,
+    range: DimensionRange,
+    to: u32,
+) -> Result<Reply, RuleOr>
+    ensures { IsUnlessNoMemory (IsDoneTo (λ told. told ≡ dimension_moved range to book.old.sheets) book.old book.new) result }
+{
+    match moved(book, range, to) {
+        Ok(end) => {
+            let start = range.start_index;
+            change(
+                book,
+                range.sheet_id,
+                range.dimension,
+                &Change::Move { start, end, to },
+            )
+        }
+        Err(rule) => Err(RuleOr::Rule(rule)),
+    }
+}
+
+/// Appends so many lines to a sheet.
+pub(crate) fn append_dimension(
+    book: &mut Book,
+    sheet: u32,
+    axis: Axis,
+    length: u32,
+) -> Result<Reply, RuleOr>
+    ensures { IsUnlessNoMemory (IsDoneTo (λ told. told ≡ dimension_appended sheet axis length book.old.sheets) book.old book.new) result }
+{
+    match appended(book, sheet, axis, length) {
+        Ok(at) => insert(book, sheet, axis, at, length),
+        Err(rule) => Err(RuleOr::Rule(rule)),
+    }
+}
+
+/// The end of a range of lines that can be inserted, or the first rule that it breaks.
+fn inserted(book: &Book, range: DimensionRange, inherits: bool) -> Result<u32, Rule>
+    ensures broken { IfErr result (λ rule. first_broken (insert_broken range inherits book.now.sheets) ≡ Some rule) }
+    ensures unbroken { IfOk result (λ _. first_broken (insert_broken range inherits book.now.sheets) ≡ None) }
+    ensures end { IfOk result (λ end. end ≡ end_of range book.now.sheets) }
+    ensures some { IfOk result (λ end. range.start_index < end) }
+    ensures there { IfOk result (λ _. IsSomeAnd (place_sheet_with range.sheet_id book.now.sheets)
+        (λ sheet. range.start_index ≤ lines_of_sheet range.dimension sheet)) }
+{
+    let Some(sheet) = book.sheet(range.sheet_id) else {
+        return Err(Rule::NoSheet);
+    };
+    let lines = lines_of(sheet, range.dimension);
+    let end = range.end_index.unwrap_or(lines);
+    if end <= range.start_index {
+        return Err(Rule::BadRange);
+    }
+    let is_outside = if inherits {
+        range.start_index > lines
+    } else {
+        range.start_index >= lines
+    };
+    if is_outside {
+        return Err(Rule::OutsideGrid);
+    }
+    if inherits && range.start_index == 0 {
+        return Err(Rule::InheritAtZero);
+    }
+    Ok(end)
+}
+
+/// The end of a range of lines that can be deleted, or the first rule that it breaks.
+fn deleted(book: &Book, range: DimensionRange) -> Result<u32, Rule>
+    ensures broken { IfErr result (λ rule. first_broken (delete_broken range book.now.sheets) ≡ Some rule) }
+    ensures unbroken { IfOk result (λ _. first_broken (delete_broken range book.now.sheets) ≡ None) }
+    ensures end { IfOk result (λ end. end ≡ end_of range book.now.sheets) }
+    ensures some { IfOk result (λ end. range.start_index < end) }
+    ensures there { IfOk result (λ end. IsSomeAnd (place_sheet_with range.sheet_id book.now.sheets)
+        (λ sheet. end ≤ lines_of_sheet range.dimension sheet)) }
+{
+    let Some(sheet) = book.sheet(range.sheet_id) else {
+        return Err(Rule::NoSheet);
+    };
+    let lines = lines_of(sheet, range.dimension);
+    let end = range.end_index.unwrap_or(lines);
+    if end <= range.start_index {
+        return Err(Rule::BadRange);
+    }
+    if end > lines {
+        return Err(Rule::OutsideGrid);
+    }
+    Ok(end)
+}
+
+/// The end of a range of lines that can be moved before the line `to`, or the first rule that it breaks.
+fn moved(book: &Book, range: DimensionRange, to: u32) -> Result<u32, Rule>
+    ensures broken { IfErr result (λ rule. first_broken (move_broken range to book.now.sheets) ≡ Some rule) }
+    ensures unbroken { IfOk result (λ _. first_broken (move_broken range to book.now.sheets) ≡ None) }
+    ensures end { IfOk result (λ end. end ≡ end_of range book.now.sheets) }
+    ensures some { IfOk result (λ end. range.start_index < end) }
+    ensures there { IfOk result (λ end. IsSomeAnd (place_sheet_with range.sheet_id book.now.sheets)
+        (λ sheet. end ≤ lines_of_sheet range.dimension sheet)) }
+    ensures destination { IfOk result (λ _. IsSomeAnd (place_sheet_with range.sheet_id book.now.sheets)
+        (λ sheet. to ≤ lines_of_sheet range.dimension sheet)) }
+{
+    let Some(sheet) = book.sheet(range.sheet_id) else {
+        return Err(Rule::NoSheet);
+    };
+    let lines = lines_of(sheet, range.dimension);
+    let end = range.end_index.unwrap_or(lines);
+    if end <= range.start_index {
+        return Err(Rule::BadRange);
+    }
+    if end > lines || to > lines {
+        return Err(Rule::OutsideGrid);
+    }
+    Ok(end)
+}
+
+/// The place of lines that can be appended to a sheet, or the first rule that is broken.
+fn appended(book: &Book, sheet: u32, axis: Axis, length: u32) -> Result<u32, Rule>
+    ensures broken { IfErr result (λ rule. first_broken (append_broken sheet length book.now.sheets) ≡ Some rule) }
+    ensures unbroken { IfOk result (λ _. first_broken (append_broken sheet length book.now.sheets) ≡ None) }
+    ensures some { IfOk result (λ _. 0 < length) }
+    ensures there { IfOk result (λ at. IsSomeAnd (place_sheet_with sheet book.now.sheets) (λ found. at ≡ lines_of_sheet axis found)) }
+{
+    let Some(found) = book.sheet(sheet) else {
+        return Err(Rule::NoSheet);
+    };
+    if length == 0 {
+        return Err(Rule::BadRange);
+    }
+    Ok(lines_of(found, axis))
+}
+
+/// How many lines the sheet has on the axis.
+fn lines_of(sheet: &Sheet, axis: Axis) -> u32
+    ensures { result ≡ lines_of_sheet axis sheet.now }
+{
+    match axis {
+        Axis::Rows => sheet.rows(),
+        Axis::Columns => sheet.cols(),
+    }
+}
+
+/// Inserts so many lines before the line `at`.
+fn insert(book: &mut Book, sheet: u32, axis: Axis, at: u32, count: u32) -> Result<Reply, RuleOr>
+    requires some { 0 < count }
+    requires there { IsSomeAnd (place_sheet_with sheet book.old.sheets) (λ found. at ≤ lines_of_sheet axis found) }
+    ensures { IsUnlessNoMemory (IsDoneTo (λ told. told ≡ judged_by (lines_broken sheet axis (Insert at count) book.old.sheets)
+        (Empty, LinesChanged sheet axis (Insert at count) ∷ [])) book.old book.new) result }
+{
+    match insert_lines(book, sheet, axis, at, count) {
+        Ok(()) => Ok(Reply::Empty),
+        Err(fault) => Err(fault),
+    }
+}
+
+/// Makes the change of lines.
+fn change(book: &mut Book, sheet: u32, axis: Axis, change: &Change) -> Result<Reply, RuleOr>
+    requires { IsSomeAnd (place_sheet_with sheet book.old.sheets) (λ found. Fits change.now (lines_of_sheet axis found)) }
+    ensures { IsUnlessNoMemory (IsDoneTo (λ told. told ≡ judged_by (lines_broken sheet axis change.now book.old.sheets)
+        (Empty, LinesChanged sheet axis change.now ∷ [])) book.old book.new) result }
+{
+    match change_sheet(book, sheet, axis, change) {
+        Ok(()) => Ok(Reply::Empty),
+        Err(fault) => Err(fault),
+    }
+}
