@@ -64,7 +64,7 @@ Leads book zero one other = one ≡ other
 Leads book (suc steps) one other = (next : Place) × Reads book.named (book.cells one) next × Leads book steps next other
 
 module _ (book : Book) where
-  shorter : (steps : ℕ) (place : Place) → Walks book (suc steps) place → Walks book steps place
+  pub shorter : (steps : ℕ) (place : Place) → Walks book (suc steps) place → Walks book steps place
   shorter zero place (next, reads, rest) = reads_as_formula book.named (book.cells place) next reads
   shorter (suc steps) place (next, reads, rest) = (next, reads, shorter steps next rest)
 

@@ -13,3 +13,11 @@ pub mod Filled
 pub mod Rectangle
 pub mod AreasLent
 pub mod OneAnswer
+pub mod Depth
+pub mod Marking
+pub mod Steps
+pub mod Closing
+pub mod Going
+pub mod Calculating
+pub mod AreasListed
+pub mod Popped

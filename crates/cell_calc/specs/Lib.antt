@@ -18,3 +18,6 @@ pub mod FormulaValue
 pub mod CellValue
 pub mod Contents
 pub mod Known
+pub mod Marks
+pub mod Walk
+pub mod Calculated

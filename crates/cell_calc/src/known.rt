@@ -20,7 +20,7 @@ pub trait ValuesOf {
     ghost known: { Self → Place → Option Value };
 
     /// The value in the place, lent; None where none is known.
-    fn value(&self, sheet: u32, row: u32, column: u32) -> Option<&Value>
+    fn known_value(&self, sheet: u32, row: u32, column: u32) -> Option<&Value>
         ensures { option_copied result
             ≡ known self.now (record { sheet = sheet; row = row; column = column }) };
 }
@@ -94,7 +94,7 @@ fn add_known<'a, V: ValuesOf>(
     ensures { OnOk result (map place_and_value filled.new.items
         ≡ map place_and_value filled.old.items ++ cell_known (V.known values.now) area.now columns cell) }
 {
-    match values.value(area.sheet, cell.0, cell.1) {
+    match values.known_value(area.sheet, cell.0, cell.1) {
         Some(value) => add_filled(filled, place_among(area, columns, cell.0, cell.1), value),
         None => Ok(()),
     }

@@ -1,8 +1,10 @@
 //! The values of formulas by their trees: what operators and functions make of the values that they are given.
 #![tactic(auto)]
 
+mod areas;
 mod arguments;
 mod arithmetic;
+mod calculation;
 mod cells;
 mod comparison;
 mod content_value;
@@ -11,11 +13,15 @@ mod evaluation;
 mod functions;
 mod known;
 mod laws;
+mod mark;
 mod operators;
 mod outcome;
 mod reader;
+mod table;
+mod walk;
 
 pub use arguments::{AreaCells, Argument, FilledCell};
+pub use calculation::{calculate, calculate_for};
 pub use cells::CellsOf;
 pub use content_value::value_of_content;
 pub use evaluation::value_of_tree;
@@ -30,3 +36,4 @@ pub use known::{KnownCells, ValuesOf};
 pub use laws::{counts_are_bounds, reads_decide};
 pub use operators::{negation, operation};
 pub use reader::CellReader;
+pub use table::Table;

@@ -1,0 +1,149 @@
+-- From marks to the values that a table tells.
+use Rattle.std.proofs.Common.{◌≡◌, ◌⊎◌, ℕ, suc, ◌+◌, ◌<◌, List, [], ◌∷◌, ◌++◌, length, map, take, get_or, Contains, Option, Some, None, unwrap_or, refl, ap, sym, subst, ◌∙◌, inl, inr, arith}
+use Rattle.std.specs.Prelude.{IsSomeAnd}
+use Rattle.std.specs.Option.{IsSome}
+use Rattle.std.proofs.Math.Seq.{take-suc}
+use Rattle.std.proofs.lemmas.List.Elements.{Contains-append_cases}
+use Rattle.cell_value.specs.declared.cell.Kind.TheVariants as kind
+use Rattle.cell_value.specs.declared.cell.Value.{Value}
+use Rattle.cell_value.specs.declared.cell.Value.TheVariants.{Blank, Error}
+use Rattle.cell_value.specs.Elements.{nothing_in, Contains-cons_cases, Contains-map}
+use Rattle.grid_range.specs.declared.area.Area.{Area}
+use Rattle.ref_rewrite.specs.declared.cell_content.Content.{Content}
+use Rattle.ref_rewrite.specs.declared.cell_content.Content.TheVariants.{Number, Text, Truth, Formula}
+use Rattle.cell_calc.specs.declared.mark.Mark.{Mark}
+use Rattle.cell_calc.specs.declared.mark.Mark.TheVariants.{Open, Endless, Known}
+use Rattle.cell_calc.specs.declared.walk.Frame.{Frame}
+use Rattle.cell_calc.specs.Book.{Book, Place, Cell, IsFormula, HoldsPlace}
+use Rattle.cell_calc.specs.Contents.{Contents, AreOf, AreSound, AreStoredPlaces, IsCell}
+use Rattle.cell_calc.specs.CellValue.{Walks, HasValue}
+use Rattle.cell_calc.specs.Known.{value_known}
+use Rattle.cell_calc.specs.Marks.{place_of, value_told}
+use Rattle.cell_calc.specs.Walk.{HeldBy, Holds, Goes, Meets}
+use Rattle.cell_calc.specs.Calculated.{AreValues, AreAllValues, IsStoredFormula, Calculates, SettlesAll, Calculated, whole_sheet}
+use Rattle.cell_calc.proofs.Endless.{counts_are_bounds}
+use Rattle.cell_calc.proofs.Steps.{told_is_value}
+use Rattle.cell_calc.proofs.Going.{goes_nowhere, goes_on}
+
+plus_one : (n : ℕ) → n + 1 ≡ suc n
+plus_one n = omega arith
+
+-- what has one more element has those before and that one
+pub one_more_cases : {A : Type 0} → (xs : List A) (count : ℕ) (x d y : A) → count < length xs → x ≡ get_or xs count d
+    → Contains (take (count + 1) xs) y → Contains (take count xs) y ⊎ (x ≡ y)
+one_more_cases xs count x d y within is has =
+    let more : take (count + 1) xs ≡ take count xs ++ x ∷ [] =
+    ap (λ n. take n xs) (plus_one count) ∙ take-suc xs count d within ∙ ap (λ z. take count xs ++ z ∷ []) (sym is) in
+    elim (Contains-append_cases (take count xs) (x ∷ []) y (subst (λ l. Contains l y) more has)) [
+      | inl before ↦ inl before
+      | inr last ↦ elim (Contains-cons_cases x y [] last) [
+        | inl same ↦ inr same
+        | inr never ↦ absurd (nothing_in y never)
+      ]
+    ]
+
+stored_formula : (content : Option Content) (cell : Cell) → IsCell content cell → IsFormula cell → IsStoredFormula content
+stored_formula None cell is formed = absurd (subst IsFormula is formed)
+stored_formula (Some (Number number)) cell is formed = absurd (subst IsFormula is formed)
+stored_formula (Some (Text text)) cell is formed = absurd (subst IsFormula is formed)
+stored_formula (Some (Truth truth)) cell is formed = absurd (subst IsFormula is formed)
+stored_formula (Some (Formula text)) cell is formed = tt
+
+formula_is_some : (content : Option Content) → IsStoredFormula content → IsSome content
+formula_is_some None is = absurd is
+formula_is_some (Some content) is = refl
+
+sized : {A : Type 0} → (P : A → Type 0) (size : Option A) → IsSomeAnd size P → IsSome size
+sized P None has = absurd has
+sized P (Some size) has = refl
+
+module _ (contents : Contents) where
+  pub nothing_known : (marks : Place → Option Mark) → ((place : Place) → marks place ≡ None) → Calculated contents [] marks
+  nothing_known marks none = record {
+    right = λ book are. record {
+      depth = 0;
+      known = λ place value is. let no = none place in let never : ⊥ = cc in absurd never;
+      endless = λ place is. let no = none place in let never : ⊥ = cc in absurd never;
+      opened = λ place is. let no = none place in let never : ⊥ = cc in absurd never;
+      linked = tt;
+      waits = tt;
+    };
+    all = λ place held. absurd (nothing_in held.0 held.1);
+  }
+
+  pub one_more_cell : (sheet : ℕ) (cells : List (ℕ × ℕ)) (count : ℕ) (cell d : ℕ × ℕ) → count < length cells
+      → cell ≡ get_or cells count d → (before middle after : Place → Option Mark)
+      → SettlesAll contents sheet (take count cells) before middle → Goes contents middle [] after []
+      → (IsStoredFormula (contents.content (place_of (sheet, cell.0, cell.1))) → IsSome (after (place_of (sheet, cell.0, cell.1))))
+      → SettlesAll contents sheet (take (count + 1) cells) before after
+  one_more_cell sheet cells count cell d within is before middle after settles goes met = record {
+    goes = goes_on contents before [] middle [] after [] settles.goes goes;
+    all = λ other has formed. elim (one_more_cases cells count cell d other within is has) [
+      | inl earlier ↦ goes.stay (place_of (sheet, other.0, other.1)) (settles.all other earlier formed)
+      | inr same ↦ subst (λ c. IsSome (after (place_of (sheet, c.0, c.1)))) same
+          (met (subst (λ c. IsStoredFormula (contents.content (place_of (sheet, c.0, c.1)))) (sym same) formed))
+    ];
+  }
+
+  pub no_cell : (sheet : ℕ) (marks : Place → Option Mark) → SettlesAll contents sheet [] marks marks
+  no_cell sheet marks = record {
+    goes = goes_nowhere contents marks [];
+    all = λ cell has. absurd (nothing_in cell has);
+  }
+
+  pub all_of_area : (area : Area) (places : List (ℕ × ℕ)) → AreStoredPlaces contents area places
+      → (before after : Place → Option Mark) → SettlesAll contents area.sheet places before after
+      → Calculates contents area before after
+  all_of_area area places stored before after settles = record {
+    goes = settles.goes;
+    all = λ place holds formed.
+        let at : place_of (area.sheet, place.row, place.column) ≡ place =
+        ap (λ s. place_of (s, place.row, place.column)) holds.0 in
+        let here = subst (λ p. IsStoredFormula (contents.content p)) (sym at) formed in
+        let has = (stored.exactly place.row place.column).1 (holds.1, formula_is_some (contents.content (place_of (area.sheet, place.row, place.column))) here) in
+        subst (λ p. IsSome (after p)) at (settles.all (place.row, place.column) has here);
+  }
+
+  pub one_more_area : (areas : List Area) (count : ℕ) (area d : Area) → count < length areas → area ≡ get_or areas count d
+      → (before after : Place → Option Mark) → Calculated contents (take count areas) before
+      → Calculates contents area before after → Calculated contents (take (count + 1) areas) after
+  one_more_area areas count area d within is before after was calculates = record {
+    right = λ book are. calculates.goes.right book are (was.right book are);
+    all = λ place held formed. elim (one_more_cases areas count area d held.0 within is held.1) [
+      | inl earlier ↦ calculates.goes.stay place (was.all place (held.0, earlier, held.2) formed)
+      | inr same ↦ calculates.all place (subst (λ a. HoldsPlace a place) (sym same) held.2) formed
+    ];
+  }
+
+  module _ (areas : List Area) (marks : Place → Option Mark) (calculated : Calculated contents areas marks) where
+    other_value : (book : Book) → AreOf contents book → (place : Place) (value : Value)
+        → value_told (marks place) ≡ Some value → HasValue book place value
+    other_value book are place value is =
+        counts_are_bounds book place value (told_is_value contents book are marks (calculated.right book are) place value is)
+
+    some_told : (book : Book) → AreOf contents book → (place : Place) (mark : Option Mark) → marks place ≡ mark → IsSome mark
+        → HasValue book place (unwrap_or (value_told mark) Blank)
+    some_told book are place None is some = let no : ⊥ = cc in absurd no
+    some_told book are place (Some Open) is some = absurd ((calculated.right book are).opened place is)
+    some_told book are place (Some Endless) is some = other_value book are place (Error kind.Ref) (ap value_told is)
+    some_told book are place (Some (Known value)) is some = other_value book are place value (ap value_told is)
+
+    pub are_values : AreValues contents areas (λ place. value_told (marks place))
+    are_values = record {
+      formulas = λ book are place formed held.
+          some_told book are place (marks place) refl
+          (calculated.all place held (stored_formula (contents.content place) (book.cells place) (are.cells place) formed));
+      others = other_value;
+    }
+
+  pub are_all_values : AreSound contents → (known : Place → Option Value)
+      → AreValues contents (map whole_sheet contents.sheets) known → AreAllValues contents known
+  are_all_values sound known values = record {
+    formulas = λ book are place formed.
+        let stored = stored_formula (contents.content place) (book.cells place) (are.cells place) formed in
+        let within = sound.inside place (formula_is_some (contents.content place) stored) in
+        let has = (sound.sized place.sheet).0 (sized _ (contents.size place.sheet) within) in
+        values.formulas book are place formed
+        (whole_sheet place.sheet, Contains-map whole_sheet contents.sheets place.sheet has, (refl, (tt, tt)));
+    others = values.others;
+  }

@@ -1,0 +1,307 @@
+-- What the functions of the walk do, by its steps.
+use Rattle.std.proofs.Common.{◌≡◌, ◌⊎◌, ℕ, List, [], ◌∷◌, ◌++◌, Contains, All, Option, Some, None, Result, refl, ap, sym, subst, ◌∙◌, inl, inr}
+use Rattle.std.specs.Option.{IsSome}
+use Rattle.std.specs.Result.{OnOk}
+use Rattle.std.proofs.Math.Path.{fun_ext}
+use Rattle.std.proofs.lemmas.List.Elements.{All-contains, Contains-append_cases, Contains-append_left, Contains-append_right}
+use Rattle.std.proofs.lemmas.Result.{on_ok_weaker}
+use Rattle.cell_value.specs.declared.cell.Kind.TheVariants as kind
+use Rattle.cell_value.specs.declared.cell.Value.{Value}
+use Rattle.cell_value.specs.declared.cell.Value.TheVariants.{Error}
+use Rattle.cell_value.specs.Elements.{nothing_in, Contains-head, Contains-cons_cases}
+use Rattle.grid_range.specs.declared.area.Area.{Area}
+use Rattle.ref_rewrite.specs.declared.cell_content.Content.{Content}
+use Rattle.ref_rewrite.specs.declared.cell_content.Content.TheVariants.{Number, Text, Truth, Formula}
+use Rattle.formula_reader.specs.Only.{IsOnly}
+use Rattle.formula_reader.specs.Symbols.{IsTreeOf}
+use Rattle.formula_reader.specs.declared.tree.Tree.{Tree}
+use Rattle.formula_reader.specs.Tree.{Expression, expression_of}
+use Rattle.cell_calc.specs.declared.mark.Mark.{Mark}
+use Rattle.cell_calc.specs.declared.mark.Mark.TheVariants.{Open, Endless, Known}
+use Rattle.cell_calc.specs.declared.mark.Found.TheVariants.{New, Circular, Settled}
+use Rattle.cell_calc.specs.declared.walk.Frame.{Frame}
+use Rattle.cell_calc.specs.Book.{Book, Place, Cell, stored, formula, IsFormula, HoldsPlace}
+use Rattle.cell_calc.specs.Contents.{Contents, AreOf, AreStoredPlaces, IsCell, IsContentSound, KeepsItsLimits}
+use Rattle.cell_calc.specs.CellValue.{areas_of, Reads}
+use Rattle.cell_calc.specs.FormulaValue.{value_of_cell}
+use Rattle.cell_calc.specs.Known.{book_read, value_read}
+use Rattle.cell_calc.specs.Marks.{place_of, IsMarked, IsKnown, value_told, found_by}
+use Rattle.cell_calc.specs.Walk.{HeldBy, place_at, Waits, IsReadBy, Holds, Stay, Goes, Meets, Closes, IsCut, IsTreeAt, IsKnownAs}
+use Rattle.cell_calc.proofs.OneAnswer.{one_answer}
+use Rattle.cell_calc.proofs.Marking.{some_is, here, mark_stays, value_known_of}
+use Rattle.cell_calc.proofs.Steps.{learn, leave, wait_on, enter, value_by_marks}
+use Rattle.cell_calc.proofs.Closing.{found_settled, found_circular, closed_cases, close}
+
+-- a cell without a formula is only one
+only_cell : (content : Content) (one : Cell) (value : Value) → IsCell (Some content) one
+    → IsCell (Some content) (stored value) → one ≡ stored value
+only_cell (Number number) one value is other = is ∙ sym other
+only_cell (Text text) one value is other = is ∙ sym other
+only_cell (Truth truth) one value is other = is ∙ sym other
+only_cell (Formula text) one value is other = absurd (subst IsFormula (sym other.2) tt)
+
+module _ (contents : Contents) where
+  pub goes_nowhere : (marks : Place → Option Mark) (path : List Frame) → Goes contents marks path marks path
+  goes_nowhere marks path = record { right = λ book are h. h; stay = λ place some. some }
+
+  pub goes_on : (one : Place → Option Mark) (first : List Frame) (two : Place → Option Mark) (second : List Frame)
+      (three : Place → Option Mark) (third : List Frame)
+      → Goes contents one first two second → Goes contents two second three third → Goes contents one first three third
+  goes_on one first two second three third goes more = record {
+    right = λ book are h. more.right book are (goes.right book are h);
+    stay = λ place some. more.stay place (goes.stay place some);
+  }
+
+  pub meets_on : (place : Place) (one : Place → Option Mark) (first : List Frame) (two : Place → Option Mark)
+      (second : List Frame) (three : Place → Option Mark) (third : List Frame)
+      → Meets contents place one first two second → Goes contents two second three third
+      → Meets contents place one first three third
+  meets_on place one first two second three third meets more = record {
+    right = λ book are reads h. more.right book are (meets.right book are reads h);
+    stay = λ other some. more.stay other (meets.stay other some);
+    met = more.stay place meets.met;
+  }
+
+  pub meets_alone : (place : Place) (one two : Place → Option Mark) → Meets contents place one [] two []
+      → Goes contents one [] two []
+  meets_alone place one two meets = record {
+    right = λ book are h. meets.right book are tt h;
+    stay = meets.stay;
+  }
+
+  abbrev value_by : (Place → Option Mark) → Cell → Value
+  value_by marks cell =
+      value_of_cell (book_read contents (λ place. value_told (marks place)))
+      (value_read contents (λ place. value_told (marks place))) cell
+
+  -- a formula that waits for nothing leaves the path with its value
+  pub finished : (before : Place → Option Mark) (frame : Frame) (below : List Frame) → frame.rest.items ≡ []
+      → (value : Value) → value ≡ value_by before (formula (Some (expression_of frame.tree)))
+      → (after : Place → Option Mark) → IsMarked before (place_at frame) (Known value) after
+      → Goes contents before (frame ∷ below) after below
+  finished before frame below none value is after marked = record {
+    right = right;
+    stay = mark_stays before (place_at frame) (Known value) after marked;
+  }
+    where
+      right : (book : Book) → AreOf contents book → Holds contents book before (frame ∷ below) → Holds contents book after below
+      right book are h =
+          let wait = h.waits.0 in
+          leave contents book are after frame below
+          (learn contents book are before (frame ∷ below) h (place_at frame) value
+          (λ next reads some. elim (wait.covers next reads some) [
+            | inl known ↦ known
+            | inr (area, has, holds) ↦ absurd (nothing_in area (subst (λ l. Contains l area) none has))
+          ])
+          (is ∙ ap (value_by before) (sym wait.is)) after marked)
+          (λ waiting. let known = here before (place_at frame) (Known value) after marked in let no : ⊥ = cc in no)
+
+  -- the same by the formula's place and tree
+  pub finished_by : (before : Place → Option Mark) (frame : Frame) (below : List Frame) (key : ℕ × ℕ × ℕ) (tree : Tree)
+      → frame.place ≡ key → frame.tree ≡ tree → frame.rest.items ≡ [] → (value : Value)
+      → value ≡ value_by before (formula (Some (expression_of tree)))
+      → (after : Place → Option Mark) → IsMarked before (place_of key) (Known value) after
+      → Goes contents before (frame ∷ below) after below
+  finished_by before frame below key tree at same none value is after marked =
+      finished before frame below none value
+      (subst (λ t. value ≡ value_by before (formula (Some (expression_of t)))) (sym same) is) after
+      (subst (λ k. IsMarked before (place_of k) (Known value) after) (sym at) marked)
+
+  -- a cell that reads nothing is known at once
+  pub known_at_once : (place : Place) (before : Place → Option Mark) (path : List Frame) (cell : Cell) (value : Value)
+      → ((named : List ℕ → Option Area) (next : Place) → Reads named cell next → ⊥) → value ≡ value_by before cell
+      → ((book : Book) → AreOf contents book → book.cells place ≡ cell)
+      → (after : Place → Option Mark) → IsMarked before place (Known value) after
+      → Meets contents place before path after path
+  known_at_once place before path cell value alone is at after marked = record {
+    right = λ book are reads h.
+        learn contents book are before path h place value
+        (λ next read some. absurd (alone book.named next (subst (λ c. Reads book.named c next) (at book are) read)))
+        (is ∙ ap (value_by before) (sym (at book are))) after marked;
+    stay = mark_stays before place (Known value) after marked;
+    met = some_is (after place) (Known value) (here before place (Known value) after marked);
+  }
+
+  pub stored_at_once : (place : Place) (before : Place → Option Mark) (path : List Frame) (value : Value)
+      → ((book : Book) → AreOf contents book → book.cells place ≡ stored value)
+      → (after : Place → Option Mark) → IsMarked before place (Known value) after
+      → Meets contents place before path after path
+  stored_at_once place before path value at after marked =
+      known_at_once place before path (stored value) value (λ named next reads. reads) refl at after marked
+
+  -- what is stored is that cell
+  pub cell_at : (place : Place) (found : Option Content) → contents.content place ≡ found → (book : Book)
+      → AreOf contents book → IsCell found (book.cells place)
+  cell_at place found is book are = subst (λ o. IsCell o (book.cells place)) is (are.cells place)
+
+  -- what is stored comes to be known
+  pub stored_known : {T E : Type 0} → (place : Place) (before : Place → Option Mark) (path : List Frame) (content : Content)
+      (value : Value) (r : Result T E) → IsCell (Some content) (stored value) → contents.content place ≡ Some content
+      → (after : Place → Option Mark)
+      → ((cell : Cell) → IsCell (Some content) cell → OnOk r (IsKnownAs contents before place cell after))
+      → OnOk r (Meets contents place before path after path)
+  stored_known place before path content value r is at after known =
+      on_ok_weaker r
+      (λ found. known_at_once place before path (stored value) found.0 (λ named next reads. reads) found.1
+      (λ book are. only_cell content (book.cells place) value (cell_at place (Some content) at book are) is) after found.2)
+      (known (stored value) is)
+
+  pub tree_at : (place : Place) (text : _) (tree : Option Expression) → contents.content place ≡ Some (Formula text)
+      → IsOnly (IsTreeOf text) tree → IsTreeAt contents place tree
+  tree_at place text tree at only book are =
+      let is = cell_at place (Some (Formula text)) at book are in
+      is.2 ∙ ap formula (one_answer (IsTreeOf text) is.0 tree is.1 only)
+
+  pub limits_kept : (content : Content) → IsContentSound contents content → KeepsItsLimits content
+  limits_kept (Number number) sound = tt
+  limits_kept (Text text) sound = tt
+  limits_kept (Truth truth) sound = tt
+  limits_kept (Formula text) sound = sound.0
+
+  pub treeless_at_once : (place : Place) (before : Place → Option Mark) (path : List Frame)
+      → IsTreeAt contents place None
+      → (after : Place → Option Mark) → IsMarked before place (Known (Error kind.Error)) after
+      → Meets contents place before path after path
+  treeless_at_once place before path at after marked =
+      known_at_once place before path (formula None) (Error kind.Error) (λ named next reads. reads) refl at after marked
+
+  same_areas : (book : Book) → AreOf contents book → (tree : Expression)
+      → areas_of contents.named tree ≡ areas_of book.named tree
+  same_areas book are tree = ap (λ named. areas_of named tree) (sym (fun_ext are.named))
+
+  pub entered : (before : Place → Option Mark) (path : List Frame) (frame : Frame)
+      → IsTreeAt contents (place_at frame) (Some (expression_of frame.tree)) → before (place_at frame) ≡ None
+      → frame.rest.items ≡ areas_of contents.named (expression_of frame.tree)
+      → (after : Place → Option Mark) → IsMarked before (place_at frame) Open after
+      → Meets contents (place_at frame) before path after (frame ∷ path)
+  entered before path frame at none all after marked = record {
+    right = λ book are reads h.
+        enter contents book are before path h frame reads none (at book are)
+        (all ∙ same_areas book are (expression_of frame.tree)) after marked;
+    stay = mark_stays before (place_at frame) Open after marked;
+    met = some_is (after (place_at frame)) Open (here before (place_at frame) Open after marked);
+  }
+
+  pub settled : (place : Place) (marks : Place → Option Mark) (path : List Frame) → found_by (marks place) ≡ Settled
+      → Meets contents place marks path marks path
+  settled place marks path is = record {
+    right = λ book are reads h. h;
+    stay = λ other some. some;
+    met = (let (value, known) = value_known_of (marks place) (found_settled (marks place) is) in
+        some_is (marks place) (Known value) known);
+  }
+
+  pub closed : (place : Place) (before : Place → Option Mark) (path : List Frame) → found_by (before place) ≡ Circular
+      → (after : Place → Option Mark) → Closes before path after → Meets contents place before path after []
+  closed place before path is after closes = record {
+    right = λ book are reads h. close book contents before path h place reads (found_circular (before place) is) after closes;
+    stay = stay;
+    met = stay place (elim (found_circular (before place) is) [
+      | inl waits ↦ some_is (before place) Open waits
+      | inr endless ↦ some_is (before place) Endless endless
+    ]);
+  }
+    where
+      stay : Stay before after
+      stay other some = elim (closed_cases before path after closes other) [
+        | inl (on, now) ↦ some_is (after other) Endless now
+        | inr same ↦ subst IsSome (sym same) some
+      ]
+
+  -- a formula waits with other areas
+  waits_with : (book : Book) (marks : Place → Option Mark) (whole frame : Frame) → Waits contents book marks whole
+      → place_at frame ≡ place_at whole → frame.tree ≡ whole.tree
+      → ((place : Place) → HeldBy frame.rest.items place → HeldBy whole.rest.items place)
+      → ((place : Place) → HeldBy whole.rest.items place → IsSome (contents.content place)
+      → IsKnown (marks place) ⊎ HeldBy frame.rest.items place)
+      → Waits contents book marks frame
+  waits_with book marks whole frame wait at tree fewer left = record {
+    is = same ∙ wait.is ∙ ap (λ t. formula (Some (expression_of t))) (sym tree);
+    within = λ place held. subst (λ cell. Reads book.named cell place) (sym same) (wait.within place (fewer place held));
+    covers = λ place reads some.
+        elim (wait.covers place (subst (λ cell. Reads book.named cell place) same reads) some) [
+          | inl known ↦ inl known
+          | inr held ↦ left place held some
+        ];
+  }
+    where
+      same : book.cells (place_at frame) ≡ book.cells (place_at whole)
+      same = ap book.cells at
+
+  module _ (whole frame : Frame) (area : Area) (cut : IsCut whole frame area) where
+    held_more : (place : Place) → HeldBy frame.rest.items place → HeldBy whole.rest.items place
+    held_more place (one, has, holds) =
+        (one, subst (λ l. Contains l one) (sym cut.rest) (Contains-append_left frame.rest.items (area ∷ []) one has), holds)
+
+    held_last : (place : Place) → HoldsPlace area place → HeldBy whole.rest.items place
+    held_last place holds = (
+      area,
+      subst (λ l. Contains l area) (sym cut.rest)
+          (Contains-append_right frame.rest.items (area ∷ []) area (Contains-head area [])),
+      holds,
+    )
+
+    held_cases : (place : Place) → HeldBy whole.rest.items place → HoldsPlace area place ⊎ HeldBy frame.rest.items place
+    held_cases place (one, has, holds) =
+        elim (Contains-append_cases frame.rest.items (area ∷ []) one (subst (λ l. Contains l one) cut.rest has)) [
+          | inl front ↦ inr (one, front, holds)
+          | inr last ↦ elim (Contains-cons_cases area one [] last) [
+            | inl same ↦ inl (subst (λ a. HoldsPlace a place) (sym same) holds)
+            | inr never ↦ absurd (nothing_in one never)
+          ]
+        ]
+
+    -- the formula waits no more for an area whose cells are known
+    pub dropped : (marks : Place → Option Mark) (below : List Frame)
+        → ((place : Place) → HoldsPlace area place → IsSome (contents.content place) → IsKnown (marks place))
+        → Goes contents marks (whole ∷ below) marks (frame ∷ below)
+    dropped marks below known = record {
+      right = λ book are h.
+          wait_on contents book are marks whole frame below h (ap place_of (sym cut.place))
+          (waits_with book marks whole frame h.waits.0 (ap place_of (sym cut.place)) (sym cut.tree) held_more
+          (λ place held some. elim (held_cases place held) [
+            | inl holds ↦ inl (known place holds some)
+            | inr left ↦ inr left
+          ]));
+      stay = λ place some. some;
+    }
+
+    -- the formula goes on waiting, with a cell of the area
+    pub went_on : (same : Frame) → IsCut same frame area → (place : Place) → HoldsPlace area place
+        → (before : Place → Option Mark) (below : List Frame) (after : Place → Option Mark) (next : List Frame)
+        → Meets contents place before (same ∷ below) after next → Goes contents before (whole ∷ below) after next
+    went_on same other place holds before below after next meets = record {
+      right = right;
+      stay = meets.stay;
+    }
+      where
+        at : place_at same ≡ place_at whole
+        at = ap place_of (other.place ∙ sym cut.place)
+
+        rest : same.rest.items ≡ whole.rest.items
+        rest = other.rest ∙ sym cut.rest
+
+        right : (book : Book) → AreOf contents book → Holds contents book before (whole ∷ below) → Holds contents book after next
+        right book are h =
+            let wait = waits_with book before whole same h.waits.0 at (other.tree ∙ sym cut.tree)
+            (λ p held. subst (λ l. HeldBy l p) rest held)
+            (λ p held some. inr (subst (λ l. HeldBy l p) (sym rest) held)) in
+            meets.right book are
+            (wait.within place (subst (λ l. HeldBy l place) (sym rest) (held_last place holds)))
+            (wait_on contents book are before whole same below h at wait)
+
+  -- where each stored cell of an area is known
+  pub all_known : (marks : Place → Option Mark) (area : Area) (places : List (ℕ × ℕ)) → AreStoredPlaces contents area places
+      → All (λ cell. IsKnown (marks (place_of (area.sheet, cell.0, cell.1)))) places
+      → (place : Place) → HoldsPlace area place → IsSome (contents.content place) → IsKnown (marks place)
+  all_known marks area places filled known place (sheet, holds) some =
+      let at : place_of (area.sheet, place.row, place.column) ≡ place =
+      ap (λ s. place_of (s, place.row, place.column)) sheet in
+      let has = (filled.exactly place.row place.column).1 (holds, subst (λ p. IsSome (contents.content p)) (sym at) some) in
+      subst (λ p. IsKnown (marks p)) at
+      (All-contains (λ cell. IsKnown (marks (place_of (area.sheet, cell.0, cell.1)))) places (place.row, place.column) known has)
+
+  -- what is stored in an area lies in it
+  pub held_place : (area : Area) (places : List (ℕ × ℕ)) → AreStoredPlaces contents area places
+      → (key : ℕ × ℕ × ℕ) → key.0 ≡ area.sheet → Contains places (key.1, key.2) → HoldsPlace area (place_of key)
+  held_place area places filled key sheet has = (sym sheet, ((filled.exactly key.1 key.2).0 has).0)

@@ -1,0 +1,128 @@
+ghost use Rattle.std.specs.Prelude.{◌≡◌, ◌↔◌, [], map, IfOk, OnOk, IsTrue};
+ghost use Rattle.std.specs.Option.{IsSome, option_copied};
+ghost use Rattle.cell_calc.specs.Calculated.{AreValues, AreAllValues, Calculates, SettlesAll, IsStoredFormula, whole_sheet};
+ghost use Rattle.cell_calc.specs.Marks.{place_of, marks_of, values_of};
+ghost use Rattle.cell_calc.specs.Walk.{Goes};
+
+use crate::cells::CellsOf;
+use crate::mark::Key;
+use crate::table::Table;
+use crate::walk::settle;
+use cell_value::NoMemory;
+use grid_range::{Area, Band};
+use ref_rewrite::Content;
+use std::alloc::Global;
+
+/// The values of all formulas of a spreadsheet, and of the cells that they read.
+///
+/// # Errors
+///
+/// [`NoMemory`] where memory runs out.
+pub fn calculate<C: CellsOf>(alloc: Global, cells: &C) -> Result<Table, NoMemory>
+    ensures { IfOk result (λ table. AreAllValues (C.contents cells.now) (values_of table)) }
+{
+    cells.stay_sound();
+    let areas = whole_sheets(alloc, cells.sheets().as_slice())?;
+    calculate_for(alloc, cells, areas.as_slice())
+}
+
+/// The areas of these sheets with all their cells.
+fn whole_sheets(alloc: Global, sheets: &[u32]) -> Result<Vec<Area>, NoMemory>
+    ensures { IfOk result (λ areas. areas.items ≡ map whole_sheet sheets.now) }
+{
+    Ok(
+        sheets
+            .iter()
+            .map(|sheet| whole_sheet(*sheet))
+            .collect(alloc)?,
+    )
+}
+
+/// The area of a sheet with all its cells.
+fn whole_sheet(sheet: u32) -> Area
+    ensures { result ≡ whole_sheet sheet }
+{
+    Area {
+        sheet,
+        rows: Band::Whole,
+        cols: Band::Whole,
+    }
+}
+
+/// The values of the formulas in the areas, and of the cells that they read and those that these read, each
+/// calculated once. A formula from which walks over formulas that it reads have no end is
+/// [`Kind::Ref`](cell_value::Kind::Ref). The table tells of no other cell.
+///
+/// # Errors
+///
+/// [`NoMemory`] where memory runs out.
+pub fn calculate_for<C: CellsOf>(
+    alloc: Global,
+    cells: &C,
+    areas: &[Area],
+) -> Result<Table, NoMemory>
+    ensures { IfOk result (λ table. AreValues (C.contents cells.now) areas.now (values_of table)) }
+{
+    let mut table = Table::new(alloc);
+    for area in areas {
+        calculate_area(alloc, cells, &mut table, area)?;
+    }
+    Ok(table)
+}
+
+/// Comes to know the values of the formulas in the area.
+fn calculate_area<C: CellsOf>(
+    alloc: Global,
+    cells: &C,
+    table: &mut Table,
+    area: &Area,
+) -> Result<(), NoMemory>
+    ensures { OnOk result (Calculates (C.contents cells.now) area.now (marks_of table.old) (marks_of table.new)) }
+{
+    let places = cells.places(area)?;
+    settle_all(alloc, cells, table, area.sheet, places.as_slice())
+}
+
+/// Comes to know the values of the formulas in these cells of the sheet.
+fn settle_all<C: CellsOf>(
+    alloc: Global,
+    cells: &C,
+    table: &mut Table,
+    sheet: u32,
+    places: &[(u32, u32)],
+) -> Result<(), NoMemory>
+    ensures { OnOk result (SettlesAll (C.contents cells.now) sheet places.now (marks_of table.old)
+        (marks_of table.new)) }
+{
+    for cell in places {
+        settle_formula(alloc, cells, table, (sheet, cell.0, cell.1))?;
+    }
+    Ok(())
+}
+
+/// Comes to know the value of a cell, if it is a formula.
+fn settle_formula<C: CellsOf>(
+    alloc: Global,
+    cells: &C,
+    table: &mut Table,
+    place: Key,
+) -> Result<(), NoMemory>
+    ensures goes { OnOk result (Goes (C.contents cells.now) (marks_of table.old) [] (marks_of table.new) []) }
+    ensures met { OnOk result (IsStoredFormula ((C.contents cells.now).content (place_of place))
+        → IsSome (marks_of table.new (place_of place))) }
+{
+    if is_formula(cells.content(place.0, place.1, place.2)) {
+        settle(alloc, cells, table, place)
+    } else {
+        Ok(())
+    }
+}
+
+fn is_formula(content: Option<&Content>) -> bool
+    ensures { IsTrue result ↔ IsStoredFormula (option_copied content.entry) }
+{
+    match content {
+        Some(content) => matches!(content, Content::Formula(_)),
+        None => false,
+    }
+}
