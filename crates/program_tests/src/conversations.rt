@@ -1,5 +1,6 @@
 use crate::batches::BATCHES;
 use crate::common::check;
+use crate::lines::{FOLLOWED, LINES};
 use crate::rows::{
     BAD_REQUEST, CHANGES, CONVERSATIONS, Conversation, Exchange, FORMULAS, LIMITS, LISTS,
     LONG_HEADS, LOOKS, LongHead, NO_CALLS, OK, RANGES, TYPED, USERS, WRITES, WRITES_TO_LISTS,
@@ -142,6 +143,20 @@ fn shows_spreadsheets(rt: HostRuntime) {
 #[test]
 fn does_batches(rt: HostRuntime) {
     for row in &BATCHES {
+        check(&rt, &row.3, is_answered(&rt, row));
+    }
+}
+
+#[test]
+fn follows_rows_and_columns(rt: HostRuntime) {
+    for row in &FOLLOWED {
+        check(&rt, &row.3, is_answered(&rt, row));
+    }
+}
+
+#[test]
+fn changes_rows_and_columns(rt: HostRuntime) {
+    for row in &LINES {
         check(&rt, &row.3, is_answered(&rt, row));
     }
 }

@@ -13,6 +13,8 @@ mod common;
 #[cfg(test)]
 mod conversations;
 #[cfg(test)]
+mod lines;
+#[cfg(test)]
 mod rows;
 #[cfg(test)]
 mod system;
