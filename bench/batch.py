@@ -1,0 +1,82 @@
+#!/usr/bin/env python3
+"""Pipes batches through the built program and prints what a request of a batch takes, with ratios: updates of
+one cell in a full sheet, in a long batch and in a short one, and inserted rows beside few and many cells and
+formulas.
+
+    ./sheets run < examples/first.http    # builds the program
+    python3 bench/batch.py
+"""
+
+from client import COLUMNS, batch, filled, numbers, put, seconds
+
+INSERTED = {
+    "insertDimension": {"range": {"sheetId": 0, "dimension": "ROWS", "startIndex": 0, "endIndex": 1}}
+}
+DELETED = {
+    "deleteDimension": {"range": {"sheetId": 0, "dimension": "ROWS", "startIndex": 0, "endIndex": 1}}
+}
+ROWS_MORE = {"appendDimension": {"sheetId": 0, "dimension": "ROWS", "length": 3_000}}
+OTHER_SHEET = {
+    "addSheet": {
+        "properties": {"sheetId": 1, "title": "Other", "gridProperties": {"rowCount": 1_000, "columnCount": 26}}
+    }
+}
+
+
+def updated(number):
+    """A request that writes a number to one cell of its own."""
+    return {
+        "updateCells": {
+            "start": {"sheetId": 0, "rowIndex": number % 1_000, "columnIndex": number // 1_000 % COLUMNS},
+            "rows": [{"values": [{"userEnteredValue": {"numberValue": number}}]}],
+            "fields": "userEnteredValue",
+        }
+    }
+
+
+def updates(long, short):
+    """Prints what an update of one cell takes in a long batch and in a short one, in a sheet of 26,000 cells."""
+    full = filled("A1:Z1000", 1_000)
+    figures = [
+        seconds(full, batch(*map(updated, range(count))), 5) / 5 / count for count in (long, short)
+    ]
+    print(
+        f"an update of one cell: {figures[0] * 1e6:.1f} microseconds in a batch of {long}, {figures[1] * 1e6:.1f} in"
+        f" one of {short}: ratio {figures[0] / figures[1]:.2f}"
+    )
+
+
+def insertions():
+    """Prints what a row takes that is inserted at the top of a sheet of 1,000 cells and of one of 100,000, and is
+    deleted again."""
+    few = filled("A1:Z38", 38)
+    many = batch(ROWS_MORE) + filled("A1:Z3846", 3_846)
+    figures = [seconds(before, batch(INSERTED, DELETED), 10) / 10 for before in (few, many)]
+    print(
+        f"a row inserted and deleted: {figures[0] * 1e6:.0f} microseconds beside 988 cells, {figures[1] * 1e6:.0f}"
+        f" beside 99996: ratio {figures[1] / figures[0]:.1f}"
+    )
+
+
+def followed():
+    """Prints the same beside 1,000 and 10,000 formulas of another sheet that read the changed one."""
+    figures = []
+    for columns in (1, 10):
+        end = "ABCDEFGHIJ"[columns - 1]
+        formulas = [[f"=Sheet1!A{row + 1}"] * columns for row in range(1_000)]
+        before = batch(OTHER_SHEET) + put(f"A1:{end}1000", formulas, "Other", "USER_ENTERED")
+        figures.append(seconds(before + put("A1", numbers(1, 1)), batch(INSERTED, DELETED), 10) / 10)
+    print(
+        f"the same: {figures[0] * 1e6:.0f} microseconds beside 1000 formulas of another sheet,"
+        f" {figures[1] * 1e6:.0f} beside 10000: ratio {figures[1] / figures[0]:.1f}"
+    )
+
+
+def main():
+    updates(1_000, 10)
+    insertions()
+    followed()
+
+
+if __name__ == "__main__":
+    main()
