@@ -1,6 +1,9 @@
-use crate::batches::BATCHES;
+use crate::batches::{
+    A_HUNDRED, AFTER_A_HUNDRED, FIFTH_BATCHES, FIRST_BATCHES, FOURTH_BATCHES, LAST_OF_A_HUNDRED,
+    SECOND_BATCHES, SEVENTH_BATCHES, SIXTH_BATCHES, THIRD_BATCHES,
+};
 use crate::common::check;
-use crate::lines::{FOLLOWED, LINES};
+use crate::lines::{COLUMNS, INSERTED_AND_DELETED, LINES, MOVED};
 use crate::rows::{
     BAD_REQUEST, CHANGES, CONVERSATIONS, Conversation, Exchange, FORMULAS, LIMITS, LISTS,
     LONG_HEADS, LOOKS, LongHead, NO_CALLS, OK, RANGES, TYPED, USERS, WRITES, WRITES_TO_LISTS,
@@ -141,15 +144,92 @@ fn shows_spreadsheets(rt: HostRuntime) {
 }
 
 #[test]
-fn does_batches(rt: HostRuntime) {
-    for row in &BATCHES {
+fn does_first_batches(rt: HostRuntime) {
+    for row in &FIRST_BATCHES {
         check(&rt, &row.3, is_answered(&rt, row));
     }
 }
 
 #[test]
-fn follows_rows_and_columns(rt: HostRuntime) {
-    for row in &FOLLOWED {
+fn does_second_batches(rt: HostRuntime) {
+    for row in &SECOND_BATCHES {
+        check(&rt, &row.3, is_answered(&rt, row));
+    }
+}
+
+#[test]
+fn does_third_batches(rt: HostRuntime) {
+    for row in &THIRD_BATCHES {
+        check(&rt, &row.3, is_answered(&rt, row));
+    }
+}
+
+#[test]
+fn does_fourth_batches(rt: HostRuntime) {
+    for row in &FOURTH_BATCHES {
+        check(&rt, &row.3, is_answered(&rt, row));
+    }
+}
+
+#[test]
+fn does_fifth_batches(rt: HostRuntime) {
+    for row in &FIFTH_BATCHES {
+        check(&rt, &row.3, is_answered(&rt, row));
+    }
+}
+
+#[test]
+fn does_sixth_batches(rt: HostRuntime) {
+    for row in &SIXTH_BATCHES {
+        check(&rt, &row.3, is_answered(&rt, row));
+    }
+}
+
+#[test]
+fn does_seventh_batches(rt: HostRuntime) {
+    for row in &SEVENTH_BATCHES {
+        check(&rt, &row.3, is_answered(&rt, row));
+    }
+}
+
+#[test]
+fn names_the_last_of_a_hundred_requests(rt: HostRuntime) {
+    for row in &LAST_OF_A_HUNDRED {
+        check(&rt, &row.3, is_answered(&rt, row));
+    }
+}
+
+#[test]
+fn leaves_nothing_of_a_hundred_requests(rt: HostRuntime) {
+    for row in &AFTER_A_HUNDRED {
+        check(&rt, &row.3, is_answered(&rt, row));
+    }
+}
+
+#[test]
+fn does_a_hundred_requests(rt: HostRuntime) {
+    for row in &A_HUNDRED {
+        check(&rt, &row.3, is_answered(&rt, row));
+    }
+}
+
+#[test]
+fn follows_inserted_and_deleted_rows(rt: HostRuntime) {
+    for row in &INSERTED_AND_DELETED {
+        check(&rt, &row.3, is_answered(&rt, row));
+    }
+}
+
+#[test]
+fn follows_moved_rows(rt: HostRuntime) {
+    for row in &MOVED {
+        check(&rt, &row.3, is_answered(&rt, row));
+    }
+}
+
+#[test]
+fn follows_columns(rt: HostRuntime) {
+    for row in &COLUMNS {
         check(&rt, &row.3, is_answered(&rt, row));
     }
 }

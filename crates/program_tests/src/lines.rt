@@ -2,8 +2,8 @@
 
 use crate::rows::{BAD_REQUEST, Exchange, OK};
 
-/// What follows rows and columns that are inserted, deleted and moved.
-pub(crate) static FOLLOWED: [Exchange; 21] = [
+/// What follows rows that are inserted and deleted.
+pub(crate) static INSERTED_AND_DELETED: [Exchange; 6] = [
     (
         &[
             (
@@ -141,6 +141,10 @@ pub(crate) static FOLLOWED: [Exchange; 21] = [
         "",
         "{\"majorDimension\":\"ROWS\",\"range\":\"Sheet1!C9\",\"values\":[[\"=SUM(#REF!)\"]]}",
     ),
+];
+
+/// What follows rows that are moved.
+pub(crate) static MOVED: [Exchange; 7] = [
     (
         &[
             (
@@ -275,6 +279,10 @@ pub(crate) static FOLLOWED: [Exchange; 21] = [
         "",
         "{\"replies\":[{}],\"spreadsheetId\":\"book1\"}",
     ),
+];
+
+/// What follows columns, and changes of rows that break a rule.
+pub(crate) static COLUMNS: [Exchange; 8] = [
     (
         &[
             (
