@@ -1,5 +1,5 @@
 -- Told lists, their entries and journals, one item longer.
-use Rattle.std.proofs.Common.{◌≡◌, inl, inr, ℕ, ◌+◌, ◌≤◌, Bool, true, false, List, [], ◌∷◌, ◌++◌, length, take, refl, sym, ap, subst, ◌∙◌, append_assoc, arith, length-append}
+use Rattle.std.proofs.Common.{◌≡◌, inl, inr, ℕ, ◌+◌, ◌≤◌, List, [], ◌∷◌, ◌++◌, length, take, refl, sym, ap, subst, ◌∙◌, append_assoc, arith, length-append}
 use Rattle.std.specs.Prelude.{Option, Some, None, IfSome, codes}
 use Rattle.std.specs.Option.{option_map}
 use Rattle.std.proofs.lemmas.List.{append-nil, take-append-le, take_all}
@@ -9,7 +9,7 @@ use Rattle.desk.specs.declared.entry.Noted.{Noted}
 use Rattle.desk.specs.declared.entry.Noted.TheVariants as noted
 use Rattle.desk.specs.Journal.{field_text, entry_text, entries_text, journal_text}
 use Rattle.desk.specs.Keeping.{with_piece, IsTornPut}
-use Rattle.desk.specs.Noting.{piece_of}
+use Rattle.desk.specs.Noting.{piece_of, is_first, place_of}
 use Rattle.desk.specs.Steps.{entry_of}
 use Rattle.desk.specs.Points.{entries_of, last_counted, Keeps}
 
@@ -72,15 +72,6 @@ few_entries (e ∷ es) =
     let more = few_entries es in
     let long = length-append (entry_text e) (entries_text es) in
     omega (arith, more, long)
-
--- whether the next piece is the first, and where it goes
-abbrev pub is_first : List Entry → Bool
-is_first [] = true
-is_first (e ∷ es) = false
-
-abbrev pub place_of : List Entry → ℕ
-place_of [] = 0
-place_of (e ∷ es) = length (journal_text (e ∷ es))
 
 pub place_within : (kept : Option (List ℕ)) (es : List Entry) → Keeps kept es
     → IfSome kept (λ bytes. place_of es ≤ length bytes)

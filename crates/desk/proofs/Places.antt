@@ -10,8 +10,8 @@ use Rattle.desk.specs.declared.entry.Ask.{Ask}
 use Rattle.desk.specs.declared.entry.Reply.{Reply}
 use Rattle.desk.specs.declared.entry.Noted.{Noted}
 use Rattle.desk.specs.declared.entry.Noted.TheVariants as noted
-use Rattle.desk.specs.Steps.{Outcome, entry_of, step}
-use Rattle.desk.specs.Points.{caller_of, entries_of, Happens}
+use Rattle.desk.specs.Steps.{Outcome, entry_of}
+use Rattle.desk.specs.Points.{caller_of, Happens}
 
 -- the list is the told one, or one item of the caller more
 abbrev Grows : ℕ → List Noted → List Noted → Type 0
@@ -34,16 +34,16 @@ one_or_none : (caller : ℕ) (ask : Ask) (told after : List Noted) (b : Bool)
 one_or_none caller ask told after true added = one_more caller told after (noted.Entry (entry_of caller ask)) added refl
 one_or_none caller ask told after false added = nothing_more caller told after added
 
-grows : (plain : List Entry → Ask → Outcome) (pair : ℕ × ℕ) (caller : ℕ) (ask : Ask) (told after : List Noted)
+grows : (plain : List Entry → Ask → Outcome → Type 0) (pair : ℕ × ℕ) (caller : ℕ) (ask : Ask) (told after : List Noted)
     (reply : Reply) → Happens plain pair caller ask told after reply → Grows caller told after
 grows plain pair caller ask told after reply happens = elim happens.one_of [
-  | inl is ↦ one_or_none caller ask told after (step plain pair.0 (entries_of told) ask).accepts is.item
+  | inl is ↦ one_or_none caller ask told after is.outcome.accepts is.item
   | inr (inl is) ↦ one_more caller told after (noted.Mark (entry_of caller ask) reply.faults.0 reply.faults.1)
       is.item refl
   | inr (inr is) ↦ nothing_more caller told after is.item
 ]
 
-module _ (plain : List Entry → Ask → Outcome) (pair : ℕ × ℕ) (caller : ℕ) (ask : Ask) (told after : List Noted)
+module _ (plain : List Entry → Ask → Outcome → Type 0) (pair : ℕ × ℕ) (caller : ℕ) (ask : Ask) (told after : List Noted)
     (reply : Reply) (happens : Happens plain pair caller ask told after reply) where
   pub happens_begins : StartsWith after told
   happens_begins = let (more, parts, own) = grows plain pair caller ask told after reply happens in (more, parts)

@@ -10,12 +10,12 @@ use Rattle.desk.specs.declared.entry.Ask.{Ask}
 use Rattle.desk.specs.declared.entry.Noted.{Noted}
 use Rattle.desk.specs.Journal.{entry_text, journal_text, FieldsFit}
 use Rattle.desk.specs.Keeping.{with_piece, IsTornPut}
-use Rattle.desk.specs.Noting.{piece_of, IsKept, IsMarked, IsNoted}
+use Rattle.desk.specs.Noting.{piece_of, is_first, place_of, IsTornBehind, IsKept, IsMarked, IsNoted}
 use Rattle.desk.specs.declared.noting.Noting.{Noting}
 use Rattle.desk.specs.declared.noting.Noting.TheVariants as noting
 use Rattle.desk.specs.Steps.{entry_of, is_full}
 use Rattle.desk.specs.Points.{entries_of, last_counted, Keeps, IsSound}
-use Rattle.desk.proofs.Lists.{entries_entry, entries_mark, counted_entry, counted_mark, journal_length, few_entries, is_first, place_of, put_keeps, torn_keeps, entry_length, size_same}
+use Rattle.desk.proofs.Lists.{entries_entry, entries_mark, counted_entry, counted_mark, journal_length, few_entries, put_keeps, torn_keeps, entry_length, size_same}
 use Rattle.std.proofs.lemmas.List.{append-nil}
 
 -- ---- the world, the counts and what is kept
@@ -159,3 +159,13 @@ pub noted_marked : {e : Entry} {at : ℕ} {piece : List ℕ} {list list' : List 
     → IsMarked e before after at piece list list' kept kept' failures failures'
 noted_marked {e} {at} {piece} {list} {list'} {kept} {kept'} {failures} {failures'} n before after is put =
     subst (IsNoted e at piece list list' kept kept' failures failures') is put
+
+-- the piece of a mark's entry, which was torn
+pub torn_behind : {e : Entry} {before after : ℕ} {at : ℕ} {piece : List ℕ} {list list' : List Noted}
+    {kept kept' : Option (List ℕ)} {failures failures' : ℕ} (es : List Entry) (entry : Entry)
+    → at ≡ place_of es → piece ≡ piece_of (is_first es) entry
+    → IsMarked e before after at piece list list' kept kept' failures failures' → IsTornBehind es entry kept kept'
+torn_behind {e} {before} {after} {at} {piece} {list} {list'} {kept} {kept'} {failures} {failures'} es entry at_is piece_is
+    put =
+    subst (λ (n : ℕ). IsTornPut kept kept' n (piece_of (is_first es) entry)) at_is
+    (subst (λ (p : List ℕ). IsTornPut kept kept' at p) piece_is put.kept_is)

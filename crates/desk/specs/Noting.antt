@@ -1,5 +1,5 @@
 -- What comes of the put of an accepted call's piece.
-use Rattle.std.specs.Prelude.{◌≡◌, ℕ, List, [], ◌∷◌, ◌++◌, Option, Bool, if◌then◌else◌, codes}
+use Rattle.std.specs.Prelude.{◌≡◌, ℕ, List, [], ◌∷◌, ◌++◌, length, Option, Bool, true, false, if◌then◌else◌, codes}
 use Rattle.std.specs.Option.{option_map}
 use Rattle.cell_value.specs.FaultCount.{Rose}
 use Rattle.desk.specs.declared.entry.Entry.{Entry}
@@ -9,7 +9,7 @@ use Rattle.desk.specs.declared.entry.Noted.TheVariants as noted
 use Rattle.desk.specs.declared.noting.Noting.{Noting}
 use Rattle.desk.specs.declared.noting.Noting.TheVariants as noting
 use Rattle.desk.specs.declared.noting.Prepared.{Prepared}
-use Rattle.desk.specs.Journal.{entry_text}
+use Rattle.desk.specs.Journal.{entry_text, journal_text}
 use Rattle.desk.specs.Keeping.{with_piece, IsTornPut}
 use Rattle.desk.specs.Steps.{entry_of, unavailable_body}
 
@@ -39,6 +39,20 @@ IsNoted entry at piece list list' kept kept' failures failures' (noting.Marked b
 -- the piece of an entry: the first one begins with the journal's eight bytes
 abbrev pub piece_of : Bool → Entry → List ℕ
 piece_of first entry = if first then codes "SHEETJ01" ++ entry_text entry else entry_text entry
+
+-- whether the next piece is the first, and where it goes
+abbrev pub is_first : List Entry → Bool
+is_first [] = true
+is_first (entry ∷ entries) = false
+
+abbrev pub place_of : List Entry → ℕ
+place_of [] = 0
+place_of (entry ∷ entries) = length (journal_text (entry ∷ entries))
+
+-- what a put of an entry behind these leaves, where the keeper fails: what was kept, or what is kept of the entries and
+-- a beginning of its piece
+abbrev pub IsTornBehind : List Entry → Entry → Option (List ℕ) → Option (List ℕ) → Type 0
+IsTornBehind entries entry kept kept' = IsTornPut kept kept' (place_of entries) (piece_of (is_first entries) entry)
 
 -- what a put needs, made before it
 pub record IsPrepared (caller : ℕ) (ask : Ask) (first : Bool) (prepared : Prepared) : Type 0 where

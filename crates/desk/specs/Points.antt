@@ -1,5 +1,5 @@
 -- The list that a desk tells, and what a call is at a point of it.
-use Rattle.std.specs.Prelude.{◌≡◌, ◌≢◌, ◌⊎◌, ℕ, ◌≤◌, true, List, [], ◌∷◌, ◌++◌, length, drop, Option, Some, None, IfSome, if◌then◌else◌}
+use Rattle.std.specs.Prelude.{◌≡◌, ◌≢◌, ◌⊎◌, ℕ, ◌≤◌, Bool, true, List, [], ◌∷◌, ◌++◌, length, drop, Option, Some, None, IfSome, if◌then◌else◌}
 use Rattle.cell_value.specs.FaultCount.{Rose}
 use Rattle.history_lock.specs.History.{StartsWith, NoneOf}
 use Rattle.desk.specs.declared.entry.Entry.{Entry}
@@ -8,7 +8,8 @@ use Rattle.desk.specs.declared.entry.Reply.{Reply}
 use Rattle.desk.specs.declared.entry.Noted.{Noted}
 use Rattle.desk.specs.declared.entry.Noted.TheVariants as noted
 use Rattle.desk.specs.Journal.{journal_text}
-use Rattle.desk.specs.Steps.{Outcome, entry_of, step, unavailable_body}
+use Rattle.desk.specs.Keeping.{StaysSteady}
+use Rattle.desk.specs.Steps.{Outcome, entry_of, StepsTo, unavailable_body}
 
 -- the entries of a told list; marks are left out
 abbrev pub entries_of : List Noted → List Entry
@@ -28,18 +29,35 @@ last_counted count (noted.Entry entry ∷ items) = last_counted count items
 last_counted count (noted.Mark entry before after ∷ items) = last_counted after items
 
 -- What a desk tells: its list, a pair that no call changes, of the journal's limit and the keeper's count of faults at
--- the opening, and the bytes that are kept, where the keeper tells them.
-pub record Telling : Type 0 where
+-- the opening, and the keeper.
+pub record Telling (K : Type 0) : Type 0 where
   pub list : List Noted
   pub pair : ℕ × ℕ
-  pub kept : Option (List ℕ)
+  pub keeper : K
 
 -- the list, and the pair
-abbrev pub list_of : Telling → List Noted
+abbrev pub list_of : {K : Type 0} → Telling K → List Noted
 list_of telling = telling.list
 
-abbrev pub pair_of : Telling → ℕ × ℕ
+abbrev pub pair_of : {K : Type 0} → Telling K → ℕ × ℕ
 pair_of telling = telling.pair
+
+-- the keeper's count of faults is that of the last mark
+abbrev pub IsCounted : {K : Type 0} → (K → ℕ) → Telling K → Type 0
+IsCounted failures telling = failures telling.keeper ≡ last_counted telling.pair.1 telling.list
+
+-- the counts of faults are those of a keeper before a call and after it, which stays steady where it was
+pub record AreCountsOf {K : Type 0} (failures : K → ℕ) (steady : K → Bool) (faults : ℕ × ℕ) (before after : K) : Type 0
+  where
+    pub before_is : faults.0 ≡ failures before
+    pub after_is : faults.1 ≡ failures after
+    pub stays : StaysSteady (steady before) (steady after) (failures before) (failures after)
+
+-- nothing was added, and the keeper's count of faults stayed
+pub record IsUnmade {K : Type 0} (failures : K → ℕ) (steady : K → Bool) (before after : Telling K) : Type 0 where
+  pub list_is : after.list ≡ before.list
+  pub count_is : failures after.keeper ≡ failures before.keeper
+  pub stays : StaysSteady (steady before.keeper) (steady after.keeper) (failures before.keeper) (failures after.keeper)
 
 -- the bytes that are kept begin with the journal of the entries, where there is one
 abbrev pub Keeps : Option (List ℕ) → List Entry → Type 0
@@ -47,22 +65,24 @@ Keeps kept entries = IfSome kept (λ bytes. entries ≢ [] → StartsWith bytes 
 
 -- ---- a call at a point
 
-module _ (plain : List Entry → Ask → Outcome) (pair : ℕ × ℕ) (caller : ℕ) (ask : Ask) (told after : List Noted)
+module _ (plain : List Entry → Ask → Outcome → Type 0) (pair : ℕ × ℕ) (caller : ℕ) (ask : Ask) (told after : List Noted)
     (reply : Reply) where
   -- the reply is that of one thread behind the told entries; the call's entry is added exactly where it is accepted
   pub record IsStep : Type 0 where
-    pub status_is : reply.status ≡ (step plain pair.0 (entries_of told) ask).status
-    pub body_is : reply.body ≡ Some (step plain pair.0 (entries_of told) ask).body
-    pub item :
-        after ≡ (if (step plain pair.0 (entries_of told) ask).accepts
-        then told ++ noted.Entry (entry_of caller ask) ∷ [] else told)
+    pub outcome : Outcome
+    pub steps : StepsTo plain pair.0 (entries_of told) ask outcome
+    pub status_is : reply.status ≡ outcome.status
+    pub body_is : reply.body ≡ Some outcome.body
+    pub item : after ≡ (if outcome.accepts then told ++ noted.Entry (entry_of caller ask) ∷ [] else told)
     pub counts_are : reply.faults ≡ (last_counted pair.1 told, last_counted pair.1 told)
 
   -- the call would be accepted, but the keeper failed; a mark is added, which begins where the last one ended
   pub record IsUnavailable : Type 0 where
+    pub outcome : Outcome
+    pub steps : StepsTo plain pair.0 (entries_of told) ask outcome
+    pub accepts : outcome.accepts ≡ true
     pub status_is : reply.status ≡ 503
     pub body_is : reply.body ≡ Some unavailable_body
-    pub accepts : (step plain pair.0 (entries_of told) ask).accepts ≡ true
     pub item : after ≡ told ++ noted.Mark (entry_of caller ask) reply.faults.0 reply.faults.1 ∷ []
     pub since : reply.faults.0 ≡ last_counted pair.1 told
     pub rose : Rose reply.faults.0 reply.faults.1
@@ -86,12 +106,21 @@ module _ (plain : List Entry → Ask → Outcome) (pair : ℕ × ℕ) (caller : 
 
 -- A call at a point of the list, of a caller that had seen the items before and has seen those after: others may have
 -- added items, none of them is this caller's, and behind these the call happens.
-pub record IsCallAt (plain : List Entry → Ask → Outcome) (pair : ℕ × ℕ) (caller : ℕ) (ask : Ask)
+pub record IsCallAt (plain : List Entry → Ask → Outcome → Type 0) (pair : ℕ × ℕ) (caller : ℕ) (ask : Ask)
     (before after : List Noted) (reply : Reply) : Type 0 where
   pub told : List Noted
   pub begins : StartsWith told before
   pub others : NoneOf caller_of caller (drop (length before) told)
   pub happens : Happens plain pair caller ask told after reply
+
+-- What a closed desk's history is, of a caller that had seen these items: the entries of a list that begins with them,
+-- in which none behind them is this caller's; the keeper's count of faults is that of the list's last mark.
+pub record IsClosed (opened : ℕ) (caller : ℕ) (seen : List Noted) (entries : List Entry) (failures : ℕ) : Type 0 where
+  pub told : List Noted
+  pub begins : StartsWith told seen
+  pub others : NoneOf caller_of caller (drop (length seen) told)
+  pub entries_are : entries ≡ entries_of told
+  pub counted : failures ≡ last_counted opened told
 
 -- ---- what a state keeps
 

@@ -1,5 +1,6 @@
 -- What a call is on a history of accepted calls.
-use Rattle.std.specs.Prelude.{◌≡◌, ℕ, Bool, true, false, ◌&&◌, List, [], ◌∷◌, ◌++◌, length, nat_lt, if◌then◌else◌, Option, None, Some, MatchOption, codes}
+use Rattle.std.specs.Prelude.{◌≡◌, ℕ, ◌==◌, Bool, true, false, ◌&&◌, List, [], ◌∷◌, ◌++◌, length, nat_lt, if◌then◌else◌, Option, None, Some, MatchOption, IsSome, IsTrue, codes}
+use Rattle.std.specs.List.{list_any}
 use Rattle.desk.specs.declared.entry.Entry.{Entry}
 use Rattle.desk.specs.declared.entry.Ask.{Ask}
 use Rattle.desk.specs.declared.engine.Answered.{Answered}
@@ -26,14 +27,26 @@ entry_of caller ask = record {
   body = ask.body;
 }
 
--- What is answered on a world that stands for the entries, where an engine makes of entries `plain`: just that. A world
--- is told exactly where the ask is accepted; it stands for the entries with the ask's own behind them.
-pub record Answers {W : Type 0} (plain : List Entry → Ask → Outcome) (stands : W → List Entry → Type 0)
+-- the statuses that an engine answers (RFC 9110, sections 15.3.1 and 15.5)
+abbrev pub served : List ℕ
+served = 200 ∷ 400 ∷ 401 ∷ 403 ∷ 404 ∷ []
+
+-- the status is one of these; what is accepted is answered 200, and has a user and no content coding, so that its
+-- entry tells all of it
+pub record IsServed (ask : Ask) (outcome : Outcome) : Type 0 where
+  pub status_is : IsTrue (list_any (λ status. status == outcome.status) served)
+  pub accepted : outcome.accepts ≡ true → (outcome.status ≡ 200) × IsSome ask.user × (ask.coded ≡ false)
+
+-- What is answered on a world that stands for the entries: what one thread answers behind them. A world is told exactly
+-- where the ask is accepted; it stands for the entries with the ask's own behind them.
+pub record Answers {W : Type 0} (plain : List Entry → Ask → Outcome → Type 0) (stands : W → List Entry → Type 0)
     (entries : List Entry) (ask : Ask) (answered : Answered W) : Type 0 where
-  pub status_is : answered.status ≡ (plain entries ask).status
-  pub body_is : answered.body ≡ (plain entries ask).body
-  pub next_is : MatchOption answered.next ((plain entries ask).accepts ≡ false)
-      (λ world. ((plain entries ask).accepts ≡ true)
+  pub outcome : Outcome
+  pub plainly : plain entries ask outcome
+  pub status_is : answered.status ≡ outcome.status
+  pub body_is : answered.body ≡ outcome.body
+  pub next_is : MatchOption answered.next (outcome.accepts ≡ false)
+      (λ world. (outcome.accepts ≡ true)
       × ((caller : ℕ) → stands world (entries ++ entry_of caller ask ∷ [])))
 
 -- the journal of the entries with this one has more bytes than the limit
@@ -52,7 +65,18 @@ unavailable_body = codes "{\"error\":{\"code\":503,\"message\":\"Unavailable\",\
 abbrev pub history_full : Outcome
 history_full = record { status = 429; body = full_body; accepts = false }
 
--- what an ask is answered behind these entries, where their journal has a limit
-abbrev pub step : (List Entry → Ask → Outcome) → ℕ → List Entry → Ask → Outcome
-step plain limit entries ask =
-    if (plain entries ask).accepts && is_full limit entries (entry_of 0 ask) then history_full else plain entries ask
+-- what stands for an outcome where the journal has a limit
+abbrev pub within_limit : ℕ → List Entry → Ask → Outcome → Outcome
+within_limit limit entries ask outcome =
+    if outcome.accepts && is_full limit entries (entry_of 0 ask) then history_full else outcome
+
+-- what one thread answers an ask behind these entries, where their journal has a limit
+abbrev pub StepsTo : (List Entry → Ask → Outcome → Type 0) → ℕ → List Entry → Ask → Outcome → Type 0
+StepsTo plain limit entries ask outcome =
+    (plainly : Outcome) × plain entries ask plainly × (outcome ≡ within_limit limit entries ask plainly)
+
+-- an ask has one outcome behind a history whose journal has a limit
+abbrev pub StepsOnce : (List Entry → Ask → Outcome → Type 0) → Type 0
+StepsOnce plain =
+    (limit : ℕ) (entries : List Entry) (ask : Ask) (outcome other : Outcome)
+    → StepsTo plain limit entries ask outcome → StepsTo plain limit entries ask other → outcome ≡ other

@@ -3,7 +3,7 @@ ghost use Rattle.std.specs.Prelude.{IfErr, IfSome};
 ghost use Rattle.history_lock.specs.History.{StartsWith, NoneOf, longer};
 ghost use Rattle.history_lock.specs.Passes.{seen_by, number_of, given_by, count_of};
 ghost use Rattle.desk.specs.declared.entry.Noted.{Noted};
-ghost use Rattle.desk.specs.Points.{IsCallAt, Keeps, caller_of, entries_of};
+ghost use Rattle.desk.specs.Points.{IsCallAt, IsClosed, AreCountsOf, Keeps, caller_of};
 
 use crate::{Ask, Engine, History, Keeper, Noted, Reply, State};
 use cell_value::NoMemory;
@@ -59,7 +59,8 @@ impl<E: Engine, K: Keeper> Desk<E, K> {
         ensures list { IfOk result (λ made. list_at made.0 ≡ []) }
         ensures pair { IfOk result (λ made. pair_at made.0 ≡ (limit, K.failures keeper)) }
         ensures callers { IfOk result (λ made. callers_at made.0 ≡ callers) }
-        ensures err { IfErr result (λ failed. K.kept failed.1 ≡ K.kept keeper) }
+        ensures drawn { IfOk result (λ made. (count_of made.1 ≡ 1) × (given_by made.1 ≡ None)) }
+        ensures err { IfErr result (λ failed. failed.1 ≡ keeper) }
     {
         let state = State::open(alloc, keeper, limit)?;
         match Lock::open(alloc, state, callers) {
@@ -79,7 +80,8 @@ impl<E: Engine, K: Keeper> Desk<E, K> {
         ensures same { (seen_by from.new ≡ seen_by from.old) × (number_of from.new ≡ number_of from.old) }
         ensures count { count_of from.old ≤ count_of from.new }
         ensures new { IfOk result (λ new. IsPass self.now new × (seen_by new ≡ seen_by from.old)) }
-        ensures next { IfOk result (λ new. (count_of from.old ≤ number_of new)
+        ensures next { IfOk result (λ new. count_of from.old ≤ number_of new) }
+        ensures counted { IfOk result (λ new. (count_of new ≡ number_of new + 1)
             × (count_of from.new ≡ number_of new + 1)) }
         ensures number { IfOk result (λ new. (number_of new < callers_at self.now)
             × (number_of new ≢ number_of from.old)) }
@@ -102,6 +104,9 @@ impl<E: Engine, K: Keeper> Desk<E, K> {
         ensures drawn { (count_of result.0 ≡ count_of pass) × (given_by result.0 ≡ given_by pass) }
         ensures call { IsCallAt E.plain (pair_at self.now) (number_of pass) ask.now (seen_by pass) (seen_by result.0)
             result.1 }
+
+        // The counts of faults are those of a keeper before the call and after it: a steady one is never unavailable.
+        ensures faults { (before : K) × (after : K) × AreCountsOf K.failures K.steady result.1.faults before after }
     {
         let caller = pass.number();
         let (turn, mut state) = self.lock.take(rt, pass);
@@ -124,10 +129,11 @@ impl<E: Engine, K: Keeper> Desk<E, K> {
     }
 
     /// Waits for the turn, and gives the history and the keeper. The entries are those of a list that begins with all
-    /// that the pass has seen; what the keeper has begins with their journal, where there is one. It takes no memory.
+    /// that the pass has seen, and has no further call of the pass; the keeper has failed as often as its last mark
+    /// tells. What the keeper has begins with the journal of the entries, where there is one. It takes no memory.
     pub fn close<R: Wait>(self, rt: &R, pass: Pass) -> (History<E>, K)
         requires { IsPass self pass }
-        ensures history { (told : List Noted) × StartsWith told (seen_by pass) × (result.0 ≡ entries_of told) }
+        ensures history { IsClosed (pair_at self).1 (number_of pass) (seen_by pass) result.0 (K.failures result.1) }
         ensures kept { Keeps (K.kept result.1) result.0 }
     {
         let Desk { lock } = self;

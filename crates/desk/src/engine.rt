@@ -19,19 +19,31 @@ pub struct Answered<W> {
 pub trait Engine {
     ghost use Rattle.desk.specs.declared.entry.Entry.{Entry};
     ghost use Rattle.desk.specs.declared.entry.Ask.{Ask};
-    ghost use Rattle.desk.specs.Steps.{Outcome, Answers};
+    ghost use Rattle.desk.specs.Steps.{Outcome, Answers, IsServed};
 
     /// What the calls of a history made.
     type World: Drop;
 
-    /// What an ask is answered behind a history, and whether it is accepted.
-    ghost plain: { List Entry → Ask → Outcome };
+    /// What one thread answers an ask behind a history, and whether it accepts it.
+    ghost plain: { List Entry → Ask → Outcome → Type 0 };
 
     /// A world stands for what the accepted calls of a history made, in order.
     ghost stands: { Self.World → List Entry → Type 0 };
 
     /// How many cells a world has that stands for a history.
-    ghost cells: { List Entry → ℕ };
+    ghost cells: { List Entry → ℕ → Type 0 };
+
+    /// An ask has one outcome behind a history.
+    ghost plain_once: { (entries : List Entry) (ask : Ask) (outcome other : Outcome)
+        → plain entries ask outcome → plain entries ask other → outcome ≡ other };
+
+    /// A history makes one number of cells.
+    ghost cells_once: { (entries : List Entry) (count other : ℕ) → cells entries count → cells entries other
+        → count ≡ other };
+
+    /// The status is 200, 400, 401, 403 or 404. What is accepted is answered 200, and has a user and no content coding.
+    ghost plain_served: { (entries : List Entry) (ask : Ask) (outcome : Outcome) → plain entries ask outcome
+        → IsServed ask outcome };
 
     /// The world of the beginning.
     ///
@@ -56,5 +68,5 @@ pub trait Engine {
 
     /// How many cells the world has.
     fn count_cells(world: &Self::World) -> u64
-        ensures { (entries : List Entry) → stands world.now entries → result ≡ cells entries };
+        ensures { (entries : List Entry) → stands world.now entries → cells entries result };
 }

@@ -52,7 +52,7 @@ impl<E: Engine> History<E> {
     /// What it comes to. It takes no memory.
     pub fn summary(&self) -> Summary
         ensures accepted { result.accepted ≡ length self.now }
-        ensures cells { result.cells ≡ E.cells self.now }
+        ensures cells { E.cells self.now result.cells }
         ensures bytes { result.bytes ≡ length (journal_text self.now) }
     {
         Summary {

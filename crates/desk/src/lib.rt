@@ -23,6 +23,6 @@ pub use entry::{Ask, Entry, Noted, Reply};
 pub use history::{History, Summary};
 pub use journal::entry_bytes;
 pub use keeper::{Keeper, LoadFault, PutFault};
-pub use laws::one_reading;
+pub use laws::{one_reading, one_step};
 pub use memory::{MemoryKeeper, SteadyKeeper};
 pub use state::{LONGEST_JOURNAL, State};

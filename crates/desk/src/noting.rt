@@ -3,6 +3,7 @@ ghost use Rattle.std.specs.Vec.{vec_len, vec_capacity};
 ghost use Rattle.cell_value.specs.FaultCount.{last_count};
 ghost use Rattle.desk.specs.Steps.{entry_of, unavailable_body};
 ghost use Rattle.desk.specs.Journal.{entry_text, FieldsFit};
+ghost use Rattle.desk.specs.Keeping.{StaysSteady};
 ghost use Rattle.desk.specs.Noting.{IsNoted, IsPrepared};
 
 use crate::journal::put_entry;
@@ -114,6 +115,8 @@ pub(crate) fn put_noted<K: Keeper>(
     ensures list { OnErr result (list.new.items ≡ list.old.items) }
     ensures kept { OnErr result (K.kept keeper.new ≡ K.kept keeper.old) }
     ensures failures { OnErr result (K.failures keeper.new ≡ K.failures keeper.old) }
+    ensures steady { StaysSteady (K.steady keeper.old) (K.steady keeper.new) (K.failures keeper.old)
+        (K.failures keeper.new) }
 {
     let before = keeper.faults();
     match keeper.put(at, piece) {

@@ -1,7 +1,10 @@
 ghost use Rattle.std.specs.Prelude.{◌≡◌, ℕ, ◌<◌, ◌≤◌, true, [], ◌∷◌, ◌++◌, length, IfOk, IfSome, IfErr, OnErr, None};
+ghost use Rattle.cell_value.specs.FaultCount.{Rose};
 ghost use Rattle.desk.specs.Journal.{journal_text};
+ghost use Rattle.desk.specs.Noting.{IsTornBehind};
 ghost use Rattle.desk.specs.Steps.{entry_of, full_body};
-ghost use Rattle.desk.specs.Points.{Telling, IsSound, Happens, IsAnswered, Keeps, entries_of, last_counted};
+ghost use Rattle.desk.specs.Points.{Telling, IsSound, Happens, IsAnswered, IsCounted, AreCountsOf, IsUnmade, Keeps};
+ghost use Rattle.desk.specs.Points.{entries_of, last_counted};
 
 use crate::engine::Answered;
 use crate::noting::{Noting, Prepared, entry_size, prepare, put_noted};
@@ -14,7 +17,7 @@ use std::marker::Model;
 pub const LONGEST_JOURNAL: u64 = 1_073_741_824;
 
 /// The world that a history made, its journal's keeper, and the told list. Contracts see the list, the journal's limit
-/// with the keeper's count of faults at the opening, and the bytes that are kept.
+/// with the keeper's count of faults at the opening, and the keeper.
 ///
 /// The world stands for the entries of the list. The keeper's count of faults is that of the last mark, or, where there
 /// is none, the one of the opening. Where there is an entry, the bytes that are kept begin with the journal of all.
@@ -30,9 +33,9 @@ pub struct State<E: Engine, K: Keeper> {
 }
 
 impl<E: Engine, K: Keeper> Model for State<E, K> {
-    ghost Value = { Telling };
+    ghost Value = { Telling K };
 
-    ghost view = { λ s. record { list = s.list.items; pair = (s.limit, s.opened); kept = K.kept s.keeper } };
+    ghost view = { λ s. record { list = s.list.items; pair = (s.limit, s.opened); keeper = s.keeper } };
 
     ghost invariant = { λ s. IsSound E.stands s.world s.list.items s.entries s.bytes s.limit s.opened
         (K.failures s.keeper)
@@ -49,7 +52,7 @@ impl<E: Engine, K: Keeper> State<E, K> {
         requires { limit ≤ 1073741824 }
         ensures list { IfOk result (λ state. state.list ≡ []) }
         ensures pair { IfOk result (λ state. state.pair ≡ (limit, K.failures keeper)) }
-        ensures kept { IfOk result (λ state. state.kept ≡ K.kept keeper) }
+        ensures keeper { IfOk result (λ state. state.keeper ≡ keeper) }
         ensures err { IfErr result (λ failed. failed.1 ≡ keeper) }
     {
         match E::opening(alloc) {
@@ -76,11 +79,19 @@ impl<E: Engine, K: Keeper> State<E, K> {
     pub fn step(&mut self, caller: u32, ask: &Ask) -> Reply
         ensures happens { Happens E.plain self.old.pair caller ask.now self.old.list self.new.list result }
         ensures pair { self.new.pair ≡ self.old.pair }
-        ensures unkept { result.body ≡ None → self.new.kept ≡ self.old.kept }
 
-        // Where the history grew, the bytes that are kept are its journal.
+        // The keeper's count of faults is that of the last mark, and the reply tells it. It rose where 503 is answered.
+        ensures counted { IsCounted K.failures self.old × IsCounted K.failures self.new }
+        ensures faults { AreCountsOf K.failures K.steady result.faults self.old.keeper self.new.keeper }
+        ensures cause { result.status ≡ 503 → Rose (K.failures self.old.keeper) (K.failures self.new.keeper) }
+
+        // Where the history grew, the bytes that are kept are its journal. Behind a mark they are what they were, or
+        // end with a beginning of its entry's piece. Behind any other call they are what they were.
         ensures kept { length (entries_of self.old.list) < length (entries_of self.new.list)
-            → IfSome self.new.kept (λ bytes. bytes ≡ journal_text (entries_of self.new.list)) }
+            → IfSome (K.kept self.new.keeper) (λ bytes. bytes ≡ journal_text (entries_of self.new.list)) }
+        ensures torn { result.status ≡ 503 → IsTornBehind (entries_of self.old.list) (entry_of caller ask.now)
+            (K.kept self.old.keeper) (K.kept self.new.keeper) }
+        ensures unkept { self.new.list ≡ self.old.list → K.kept self.new.keeper ≡ K.kept self.old.keeper }
     {
         match self.answer(caller, ask) {
             Ok(reply) => reply,
@@ -97,7 +108,7 @@ impl<E: Engine, K: Keeper> State<E, K> {
 
     /// The keeper alone.
     pub fn into_keeper(self) -> K
-        ensures { K.kept result ≡ self.kept }
+        ensures { result ≡ self.keeper }
     {
         let State {
             alloc: _,
@@ -115,8 +126,9 @@ impl<E: Engine, K: Keeper> State<E, K> {
     /// The history of the list's entries, and the keeper. It takes no memory.
     pub fn into_history(self) -> (History<E>, K)
         ensures history { result.0 ≡ entries_of self.list }
-        ensures same { K.kept result.1 ≡ self.kept }
+        ensures keeper { result.1 ≡ self.keeper }
         ensures kept { Keeps (K.kept result.1) result.0 }
+        ensures counted { IsCounted K.failures self }
     {
         let State {
             alloc: _,
@@ -145,6 +157,7 @@ impl<E: Engine, K: Keeper> State<E, K> {
           last_counted self.now.pair.1 self.now.list,
           last_counted self.now.pair.1 self.now.list,
         ) }
+        ensures counted { IsCounted K.failures self.now }
     {
         let faults = self.keeper.faults();
         Reply {
@@ -159,9 +172,15 @@ impl<E: Engine, K: Keeper> State<E, K> {
     fn answer(&mut self, caller: u32, ask: &Ask) -> Result<Reply, NoMemory>
         ensures happens { IfOk result (IsAnswered E.plain self.old.pair caller ask.now self.old.list self.new.list) }
         ensures pair { self.new.pair ≡ self.old.pair }
+        ensures counted { IsCounted K.failures self.old × IsCounted K.failures self.new }
+        ensures faults { IfOk result (λ reply. AreCountsOf K.failures K.steady reply.faults self.old.keeper
+            self.new.keeper) }
         ensures kept { length (entries_of self.old.list) < length (entries_of self.new.list)
-            → IfSome self.new.kept (λ bytes. bytes ≡ journal_text (entries_of self.new.list)) }
-        ensures unmade { OnErr result ((self.new.list ≡ self.old.list) × (self.new.kept ≡ self.old.kept)) }
+            → IfSome (K.kept self.new.keeper) (λ bytes. bytes ≡ journal_text (entries_of self.new.list)) }
+        ensures torn { IfOk result (λ reply. reply.status ≡ 503 → IsTornBehind (entries_of self.old.list)
+            (entry_of caller ask.now) (K.kept self.old.keeper) (K.kept self.new.keeper)) }
+        ensures unkept { self.new.list ≡ self.old.list → K.kept self.new.keeper ≡ K.kept self.old.keeper }
+        ensures unmade { OnErr result (IsUnmade K.failures K.steady self.old self.new) }
     {
         let Answered { status, body, next } = E::answer(self.alloc, &self.world, ask)?;
         match next {
@@ -182,12 +201,18 @@ impl<E: Engine, K: Keeper> State<E, K> {
     ) -> Result<Reply, NoMemory>
         requires world { (number : ℕ) → E.stands world (entries_of self.old.list ++ entry_of number ask.now ∷ []) }
         requires plain { E.plain (entries_of self.old.list) ask.now
-            ≡ record { status = status; body = body; accepts = true } }
+            (record { status = status; body = body; accepts = true }) }
         ensures happens { IfOk result (IsAnswered E.plain self.old.pair caller ask.now self.old.list self.new.list) }
         ensures pair { self.new.pair ≡ self.old.pair }
+        ensures counted { IsCounted K.failures self.old × IsCounted K.failures self.new }
+        ensures faults { IfOk result (λ reply. AreCountsOf K.failures K.steady reply.faults self.old.keeper
+            self.new.keeper) }
         ensures kept { length (entries_of self.old.list) < length (entries_of self.new.list)
-            → IfSome self.new.kept (λ bytes. bytes ≡ journal_text (entries_of self.new.list)) }
-        ensures unmade { OnErr result ((self.new.list ≡ self.old.list) × (self.new.kept ≡ self.old.kept)) }
+            → IfSome (K.kept self.new.keeper) (λ bytes. bytes ≡ journal_text (entries_of self.new.list)) }
+        ensures torn { IfOk result (λ reply. reply.status ≡ 503 → IsTornBehind (entries_of self.old.list)
+            (entry_of caller ask.now) (K.kept self.old.keeper) (K.kept self.new.keeper)) }
+        ensures unkept { self.new.list ≡ self.old.list → K.kept self.new.keeper ≡ K.kept self.old.keeper }
+        ensures unmade { OnErr result (IsUnmade K.failures K.steady self.old self.new) }
     {
         let first = self.entries == 0;
         let total = self.bytes.saturating_add(entry_size(ask));

@@ -4,12 +4,12 @@ use Rattle.desk.specs.declared.entry.Entry.{Entry}
 use Rattle.desk.specs.Journal.{journal_text}
 use Rattle.desk.specs.declared.entry.Noted.{Noted}
 use Rattle.desk.specs.declared.entry.Noted.TheVariants as noted
-use Rattle.desk.specs.Noting.{piece_of, IsKept, IsMarked}
+use Rattle.desk.specs.Noting.{piece_of, is_first, place_of, IsTornBehind, IsKept, IsMarked}
 use Rattle.desk.specs.Steps.{Outcome, entry_of, is_full, history_full}
 use Rattle.desk.specs.Points.{Telling, IsSound, entries_of, last_counted}
-use Rattle.desk.proofs.Lists.{place_of, place_within, is_first}
-use Rattle.desk.proofs.States.{sound_entry, sound_mark, full_journal, room_journal, total_journal, fields_fit, counts_fit, first_of, place_first, place_later, noted_kept, noted_marked}
-use Rattle.desk.proofs.Replies.{step_full, step_room, stepped, marked, no_growth_mark}
+use Rattle.desk.proofs.Lists.{place_within}
+use Rattle.desk.proofs.States.{sound_entry, sound_mark, full_journal, room_journal, total_journal, fields_fit, counts_fit, first_of, place_first, place_later, noted_kept, noted_marked, torn_behind}
+use Rattle.desk.proofs.Replies.{within_full, within_room, served_not, stepped, marked, no_growth_mark}
 use Rattle.desk.proofs.state.State.enter.Given as given
 use Rattle.desk.proofs.state.State.enter.Goals as goal
 use Rattle.desk.proofs.state.State.enter.Goals.{then-first, else-first}
@@ -26,11 +26,11 @@ returns-then-self-total-clause-happens g c =
     let s = c.self.inside in let inv = c.self.invariant in let t = c.args.self.now in let ask = c.args.ask.now in
     let full = full_journal s.limit s.bytes c.entry_size.result c.saturating_add-total.result (entries_of s.list.items)
     ask inv.bytes_is c.entry_size.ensures c.saturating_add-total.ensures inv.limit_is c.if-self-total.true in
-    let full_now = subst (λ (u : Telling). is_full u.pair.0 (entries_of u.list) (entry_of 0 ask) ≡ true) c.self.view_is
+    let full_now = subst (λ (u : Telling _). is_full u.pair.0 (entries_of u.list) (entry_of 0 ask) ≡ true) c.self.view_is
     full in
+    let made : Outcome = record { status = c.args.status; body = c.args.body; accepts = true } in
     stepped g.E.Engine.plain t.pair c.args.caller ask t.list t.list c.reply.result history_full
-    (step_full g.E.Engine.plain t.pair.0 (entries_of t.list) ask (ap (λ (o : Outcome). o.accepts) c.requires.plain)
-    full_now)
+    (made, c.requires.plain, within_full t.pair.0 (entries_of t.list) ask made refl full_now)
     c.reply.ensures.at c.reply.ensures.reply.0 (c.reply.ensures.reply.1 ∙ ap Some c.in_ok-make_full.ensures) refl
     c.reply.ensures.counts
 
@@ -94,7 +94,7 @@ kept_state g c =
     (g.K.Keeper.failures c.put_noted.new.keeper) (g.K.Keeper.kept s.keeper) (g.K.Keeper.kept c.put_noted.new.keeper)
     e c.as_slice.result.now c.if-first.at inv
     (subst (λ (x : Entry). g.E.Engine.stands c.args.world (es ++ x ∷ [])) (sym p.entry_is)
-    (subst (λ (t : Telling). g.E.Engine.stands c.args.world (entries_of t.list
+    (subst (λ (t : Telling _). g.E.Engine.stands c.args.world (entries_of t.list
     ++ entry_of c.args.caller c.args.ask.now ∷ [])) (sym c.self.view_is) (c.requires.world c.args.caller)))
     (total ∙ ap (λ (x : Entry). length (journal_text (es ++ x ∷ []))) (sym p.entry_is))
     (c.as_slice.ensures ∙ p.piece_is ∙ ap (λ (b : Bool). piece_of b (entry_of c.args.caller c.args.ask.now))
@@ -115,21 +115,24 @@ returns-in-Kept-clause-happens g c =
     let s = c.self.inside in let inv = c.self.invariant in let t = c.args.self.now in let ask = c.args.ask.now in
     let room = room_journal s.limit s.bytes c.entry_size.result c.saturating_add-total.result (entries_of s.list.items)
     ask inv.bytes_is c.entry_size.ensures c.saturating_add-total.ensures inv.limit_is c.if-self-total.false in
-    let room_now = subst (λ (u : Telling). is_full u.pair.0 (entries_of u.list) (entry_of 0 ask) ≡ false) c.self.view_is
+    let room_now = subst (λ (u : Telling _). is_full u.pair.0 (entries_of u.list) (entry_of 0 ask) ≡ false) c.self.view_is
     room in
     let put = noted_kept _ c.in-Kept.is c.in_ok-put_noted.ensures.noted in
+    let made : Outcome = record { status = c.args.status; body = c.args.body; accepts = true } in
     stepped g.E.Engine.plain t.pair c.args.caller ask t.list c.put_noted.new.list.items c.reply-reply.result
-    (record { status = c.args.status; body = c.args.body; accepts = true })
-    (step_room g.E.Engine.plain t.pair.0 (entries_of t.list) ask (ap (λ (o : Outcome). o.accepts) c.requires.plain)
-    room_now ∙ c.requires.plain)
+    made (made, c.requires.plain, within_room t.pair.0 (entries_of t.list) ask made room_now)
     c.reply-reply.ensures.at c.reply-reply.ensures.reply.0 c.reply-reply.ensures.reply.1
     (put.list_is ∙ ap (λ (l : List Noted). l ++ noted.Entry c.in_ok-entry.field-0.entry ∷ []) c.reserve.ensures.items
     ∙ ap (λ (e : Entry). s.list.items ++ noted.Entry e ∷ []) c.in_ok-entry.ensures.entry_is
-    ∙ ap (λ (u : Telling). u.list ++ noted.Entry (entry_of c.args.caller ask) ∷ []) c.self.view_is)
+    ∙ ap (λ (u : Telling _). u.list ++ noted.Entry (entry_of c.args.caller ask) ∷ []) c.self.view_is)
     c.reply-reply.ensures.counts
 
-pub invariant_of-self-in-Marked-1 : goal.invariant_of-self-in-Marked-1
-invariant_of-self-in-Marked-1 g c =
+-- the state where the keeper failed
+marked_state : (g : given.Over) (c : goal.After-drop-world-in-Marked-1 g)
+    → IsSound g.E.Engine.stands c.self.inside.world c.put_noted.new.list.items c.self.inside.entries c.self.inside.bytes
+    c.self.inside.limit c.self.inside.opened (g.K.Keeper.failures c.put_noted.new.keeper)
+    (g.K.Keeper.kept c.put_noted.new.keeper)
+marked_state g c =
     let s = c.self.inside in
     let put = noted_marked _ c.in-Marked.before c.in-Marked.after c.in-Marked.is c.in_ok-put_noted.ensures.noted in
     sound_mark g.E.Engine.stands s.world s.list.items c.put_noted.new.list.items s.entries s.bytes s.limit s.opened
@@ -141,14 +144,18 @@ invariant_of-self-in-Marked-1 g c =
     (g.K.Keeper.kept c.put_noted.new.keeper) (g.K.Keeper.failures s.keeper)
     (g.K.Keeper.failures c.put_noted.new.keeper)) c.reserve.ensures.items put)
 
+pub invariant_of-self-in-Marked-1 : goal.invariant_of-self-in-Marked-1
+invariant_of-self-in-Marked-1 g c = marked_state g c
+
 pub returns-in-Marked-clause-happens : goal.returns-in-Marked-clause-happens
 returns-in-Marked-clause-happens g c =
     let s = c.self.inside in let inv = c.self.invariant in let t = c.args.self.now in let ask = c.args.ask.now in
     let room = room_journal s.limit s.bytes c.entry_size.result c.saturating_add-total.result (entries_of s.list.items)
     ask inv.bytes_is c.entry_size.ensures c.saturating_add-total.ensures inv.limit_is c.if-self-total.false in
-    let room_now = subst (λ (u : Telling). is_full u.pair.0 (entries_of u.list) (entry_of 0 ask) ≡ false) c.self.view_is
+    let room_now = subst (λ (u : Telling _). is_full u.pair.0 (entries_of u.list) (entry_of 0 ask) ≡ false) c.self.view_is
     room in
     let put = noted_marked _ c.in-Marked.before c.in-Marked.after c.in-Marked.is c.in_ok-put_noted.ensures.noted in
+    let made : Outcome = record { status = c.args.status; body = c.args.body; accepts = true } in
     marked g.E.Engine.plain t.pair c.args.caller ask t.list c.put_noted.new.list.items
     (record {
       status = 503;
@@ -156,13 +163,12 @@ returns-in-Marked-clause-happens g c =
       at = c.reply-reply.result.at;
       faults = (c.in-Marked.before, c.in-Marked.after);
     })
-    c.in_ok-entry.field-0.entry c.in-Marked.before c.in-Marked.after c.in_ok-entry.ensures.entry_is
-    (ap (λ (o : Outcome). o.accepts) (step_room g.E.Engine.plain t.pair.0 (entries_of t.list) ask
-    (ap (λ (o : Outcome). o.accepts) c.requires.plain) room_now ∙ c.requires.plain))
+    made c.in_ok-entry.field-0.entry c.in-Marked.before c.in-Marked.after c.in_ok-entry.ensures.entry_is
+    (made, c.requires.plain, within_room t.pair.0 (entries_of t.list) ask made room_now) refl
     c.reply-reply.ensures.at refl (ap Some c.in_ok-entry.ensures.unavailable_is) refl
     (put.list_is ∙ ap (λ (l : List Noted). l ++ noted.Mark c.in_ok-entry.field-0.entry c.in-Marked.before
-    c.in-Marked.after ∷ []) (c.reserve.ensures.items ∙ ap (λ (u : Telling). u.list) c.self.view_is))
-    (put.before_is ∙ inv.failures_is ∙ ap (λ (u : Telling). last_counted u.pair.1 u.list) c.self.view_is) put.rose
+    c.in-Marked.after ∷ []) (c.reserve.ensures.items ∙ ap (λ (u : Telling _). u.list) c.self.view_is))
+    (put.before_is ∙ inv.failures_is ∙ ap (λ (u : Telling _). last_counted u.pair.1 u.list) c.self.view_is) put.rose
 
 pub returns-in-Marked-clause-kept : goal.returns-in-Marked-clause-kept
 returns-in-Marked-clause-kept g c =
@@ -171,4 +177,31 @@ returns-in-Marked-clause-kept g c =
     no_growth_mark c.args.self.now.list c.put_noted.new.list.items c.in_ok-entry.field-0.entry c.in-Marked.before
     c.in-Marked.after
     (put.list_is ∙ ap (λ (l : List Noted). l ++ noted.Mark c.in_ok-entry.field-0.entry c.in-Marked.before
-    c.in-Marked.after ∷ []) (c.reserve.ensures.items ∙ ap (λ (t : Telling). t.list) c.self.view_is))
+    c.in-Marked.after ∷ []) (c.reserve.ensures.items ∙ ap (λ (t : Telling _). t.list) c.self.view_is))
+
+-- ---- the count of faults, and what is torn
+
+pub returns-in-Kept-clause-counted : goal.returns-in-Kept-clause-counted
+returns-in-Kept-clause-counted g c = (c.reply-reply.ensures.counted, (kept_state g c).0.failures_is)
+
+pub returns-in-Marked-clause-counted : goal.returns-in-Marked-clause-counted
+returns-in-Marked-clause-counted g c = (c.reply-reply.ensures.counted, (marked_state g c).failures_is)
+
+pub returns-in-Kept-clause-torn : goal.returns-in-Kept-clause-torn
+returns-in-Kept-clause-torn g c =
+    let t = c.args.self.now in let ask = c.args.ask.now in
+    let made : Outcome = record { status = c.args.status; body = c.args.body; accepts = true } in
+    λ unavailable. absurd (served_not ask made
+    (g.E.Engine.plain_served (entries_of t.list) ask made c.requires.plain)
+    (sym c.reply-reply.ensures.reply.0 ∙ unavailable))
+
+pub returns-in-Marked-clause-torn : goal.returns-in-Marked-clause-torn
+returns-in-Marked-clause-torn g c =
+    let s = c.self.inside in let inv = c.self.invariant in let es = entries_of s.list.items in
+    let put = noted_marked _ c.in-Marked.before c.in-Marked.after c.in-Marked.is c.in_ok-put_noted.ensures.noted in
+    λ _. subst (λ (u : Telling _). IsTornBehind (entries_of u.list) (entry_of c.args.caller c.args.ask.now)
+    (g.K.Keeper.kept u.keeper) (g.K.Keeper.kept c.put_noted.new.keeper)) c.self.view_is
+    (torn_behind es (entry_of c.args.caller c.args.ask.now) (marked_place g c)
+    (c.as_slice.ensures ∙ c.in_ok-entry.ensures.piece_is
+    ∙ ap (λ (b : Bool). piece_of b (entry_of c.args.caller c.args.ask.now)) (first_of s.entries es inv.entries_is))
+    put)
