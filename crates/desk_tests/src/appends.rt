@@ -1,0 +1,74 @@
+ghost use Rattle.std.specs.Prelude.{◌≡◌, ◌++◌, [], IfOk, None};
+
+use cell_value::{Bytes, Duplicate, NoMemory};
+use desk::{Answered, Ask, Engine};
+use std::alloc::Global;
+
+/// An engine whose world is bytes: an ask with a body appends it, and each ask is answered what was appended before.
+pub enum Appends {}
+
+impl Engine for Appends {
+    ghost use Rattle.desk_tests.specs.Appending.{Plain, Stands, Cells};
+    ghost use Rattle.desk_tests.specs.Laws.{one_outcome, one_count, served};
+
+    type World = Bytes;
+
+    ghost plain = { Plain };
+
+    ghost stands = { Stands };
+
+    ghost cells = { Cells };
+
+    ghost plain_once = { one_outcome };
+
+    ghost cells_once = { one_count };
+
+    ghost plain_served = { served };
+
+    fn opening(alloc: Global) -> Result<Bytes, NoMemory> {
+        Ok(Bytes::of(Vec::new(alloc)))
+    }
+
+    #[tactic(auto, using(crate::proofs::Appended::bodies_more))]
+    fn answer(alloc: Global, world: &Bytes, ask: &Ask) -> Result<Answered<Bytes>, NoMemory> {
+        if ask.user.is_none() {
+            return Ok(refuse(alloc, 401));
+        }
+        if ask.coded {
+            return Ok(refuse(alloc, 400));
+        }
+        let next = match ask.body.as_slice() {
+            [] => None,
+            more => Some(append(world, more)?),
+        };
+        Ok(Answered {
+            status: 200,
+            body: world.duplicate()?,
+            next,
+        })
+    }
+
+    fn count_cells(world: &Bytes) -> u64 {
+        world.as_slice().len() as u64
+    }
+}
+
+// A refusal without a word.
+fn refuse(alloc: Global, status: u16) -> Answered<Bytes>
+    ensures { (result.status ≡ status) × (result.body ≡ []) × (result.next ≡ None) }
+{
+    Answered {
+        status,
+        body: Bytes::of(Vec::new(alloc)),
+        next: None,
+    }
+}
+
+// The bytes and more behind them.
+fn append(bytes: &Bytes, more: &[u8]) -> Result<Bytes, NoMemory>
+    ensures { IfOk result (λ all. all ≡ bytes.now ++ more.now) }
+{
+    let mut all = bytes.duplicate()?;
+    all.extend_from_slice(more)?;
+    Ok(all)
+}
