@@ -18,6 +18,7 @@ use Rattle.cell_value.specs.declared.entered.Mode.{Mode}
 use Rattle.sheets_json.specs.Reading.{Reading}
 use Rattle.sheets_json.specs.declared.call.Call.{Call}
 use Rattle.sheets_json.specs.declared.call.Call.TheVariants as call
+use Rattle.sheets_json.specs.declared.call.InsertData.{InsertData}
 use Rattle.sheets_json.specs.declared.call.RangeBlock.{RangeBlock}
 use Rattle.sheets_json.specs.declared.call.ValueRange.{ValueRange}
 use Rattle.sheets_json.specs.declared.request.Step.{Step}
@@ -171,6 +172,30 @@ module _ (id range : List ℕ) (books : List PlaceBook) (book : PlaceBook) (call
   clear_applied outcome next installed =
       applied_change called id books Clears clear_answered book found (alone judged) outcome next clear_change installed
 
+-- ---- another change that has no members
+
+module _ (id : List ℕ) (books : List PlaceBook) (book : PlaceBook) (called : Call)
+    (Answered : PlaceBook → Result Answer Rule → Effect → Type 0)
+    (is_answered : (told : Result Answer Refusal) (effect : Effect)
+    → OnBook id books (λ one. IsAlone (Answered one) told effect) → IsAnswered called books told effect)
+    (found : book_with id books ≡ Some book) (told : Result (Answer × PlaceBook) RuleOr)
+    (judged : Result (Answer × PlaceBook) Rule) (change : IsUnlessNoMemory (IsChange (Answered book) book) told)
+    (told_is : told ≡ as_told judged) where
+  lone_change : IsChange (IsAlone (Answered book)) book (alone judged)
+  lone_change = alone_change (Answered book) book judged
+      (judged_so (IsChange (Answered book) book) judged
+      (subst (IsUnlessNoMemory (IsChange (Answered book) book)) told_is change))
+
+  pub lone_there : IfOk (alone judged) (λ done. IsSome (book_with done.1.id books))
+  lone_there =
+      change_there called id books (λ one. IsAlone (Answered one)) is_answered book found (alone judged) lone_change
+
+  pub lone_applied : (outcome : Outcome) (next : Option (List PlaceBook)) → IsInstalled books (alone judged) outcome next
+      → IsApplied called books outcome next
+  lone_applied outcome next installed =
+      applied_change called id books (λ one. IsAlone (Answered one)) is_answered book found (alone judged) outcome next
+      lone_change installed
+
 -- ---- reads
 
 pub read_judged : (range : List ℕ) (dimension : Option Axis) (render : Option Render) (book : PlaceBook)
@@ -217,29 +242,31 @@ pub other_answered : (called : Call) (books : List PlaceBook)
     → ((id : Text) (requests : List Step) → called ≡ call.Batch id requests → ⊥)
     → ((id range : Text) (dimension : Option Axis) (render : Option Render) → called ≡ call.Read id range dimension render → ⊥)
     → ((id range : Text) (mode : Mode) (values : Reading ValueRange) → called ≡ call.Write id range mode values → ⊥)
+    → ((id range : Text) (mode : Mode) (option : Option InsertData) (values : Reading ValueRange)
+    → called ≡ call.Append id range mode option values → ⊥)
     → ((id range : Text) → called ≡ call.Clear id range → ⊥)
     → ((id : Text) (ranges : List Text) (dimension : Option Axis) (render : Option Render)
     → called ≡ call.ReadMany id ranges dimension render → ⊥)
     → ((id : Text) (mode : Mode) (blocks : List (Reading RangeBlock)) → called ≡ call.WriteMany id mode blocks → ⊥)
     → ((id : Text) (ranges : List (Reading Text)) → called ≡ call.ClearMany id ranges → ⊥)
     → IsAnswered called books (Err (place.Alone, rule.Unsupported)) Nothing
-other_answered (call.Read id range dimension render) books no_look no_batch no_read no_write no_clear no_list no_writes no_clears =
+other_answered (call.Read id range dimension render) books no_look no_batch no_read no_write no_append no_clear no_list no_writes no_clears =
     absurd (no_read id range dimension render refl)
-other_answered (call.Write id range mode values) books no_look no_batch no_read no_write no_clear no_list no_writes no_clears =
+other_answered (call.Write id range mode values) books no_look no_batch no_read no_write no_append no_clear no_list no_writes no_clears =
     absurd (no_write id range mode values refl)
-other_answered (call.Clear id range) books no_look no_batch no_read no_write no_clear no_list no_writes no_clears =
+other_answered (call.Clear id range) books no_look no_batch no_read no_write no_append no_clear no_list no_writes no_clears =
     absurd (no_clear id range refl)
-other_answered (call.Create spreadsheet) books no_look no_batch no_read no_write no_clear no_list no_writes no_clears =
+other_answered (call.Create spreadsheet) books no_look no_batch no_read no_write no_append no_clear no_list no_writes no_clears =
     (refl, refl)
-other_answered (call.Get id grids) books no_look no_batch no_read no_write no_clear no_list no_writes no_clears =
+other_answered (call.Get id grids) books no_look no_batch no_read no_write no_append no_clear no_list no_writes no_clears =
     absurd (no_look id grids refl)
-other_answered (call.Batch id requests) books no_look no_batch no_read no_write no_clear no_list no_writes no_clears =
+other_answered (call.Batch id requests) books no_look no_batch no_read no_write no_append no_clear no_list no_writes no_clears =
     absurd (no_batch id requests refl)
-other_answered (call.Append id range mode insert values) books no_look no_batch no_read no_write no_clear no_list no_writes no_clears =
-    (refl, refl)
-other_answered (call.ReadMany id ranges dimension render) books no_look no_batch no_read no_write no_clear no_list no_writes no_clears =
+other_answered (call.Append id range mode option values) books no_look no_batch no_read no_write no_append no_clear no_list no_writes no_clears =
+    absurd (no_append id range mode option values refl)
+other_answered (call.ReadMany id ranges dimension render) books no_look no_batch no_read no_write no_append no_clear no_list no_writes no_clears =
     absurd (no_list id ranges dimension render refl)
-other_answered (call.WriteMany id mode blocks) books no_look no_batch no_read no_write no_clear no_list no_writes no_clears =
+other_answered (call.WriteMany id mode blocks) books no_look no_batch no_read no_write no_append no_clear no_list no_writes no_clears =
     absurd (no_writes id mode blocks refl)
-other_answered (call.ClearMany id ranges) books no_look no_batch no_read no_write no_clear no_list no_writes no_clears =
+other_answered (call.ClearMany id ranges) books no_look no_batch no_read no_write no_append no_clear no_list no_writes no_clears =
     absurd (no_clears id ranges refl)

@@ -1,6 +1,7 @@
 pub mod Becoming
 pub mod Judged
 pub mod Ranged
+pub mod Appended
 pub mod Installed
 pub mod WritingRows
 pub mod RowsOnce

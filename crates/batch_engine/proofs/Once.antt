@@ -1,6 +1,6 @@
 -- A call on given spreadsheets has one answer and one effect.
 use Rattle.std.proofs.Common.{◌≡◌, ℕ, Bool, sym, ap, subst, ◌∙◌, List, suc, [], ◌∷◌, cond, true, false, arith}
-use Rattle.std.specs.Prelude.{◌+◌, Option, Some, None, IsSomeAnd, IfSome, Result, Ok, Err, MatchResult}
+use Rattle.std.specs.Prelude.{◌+◌, Option, Some, None, IsSomeAnd, IfSome, OnOk, Result, Ok, Err, MatchResult}
 use Rattle.std.specs.List.{All}
 use Rattle.std.specs.Str.{bytes_eq}
 use Rattle.cell_value.specs.declared.cell.Block.{Block}
@@ -9,16 +9,17 @@ use Rattle.grid_range.specs.declared.area.Area.{Area}
 use Rattle.grid_range.specs.declared.axis.Axis.{Axis}
 use Rattle.a1_notation.specs.Laws.{HasOneReading}
 use Rattle.world_model.specs.Book.{PlaceBook}
-use Rattle.world_model.specs.BookChange.{BookChange}
+use Rattle.world_model.specs.BookChange.{AreChanges, BookChange}
 use Rattle.world_model.specs.ChangingLaws.{ChangesApart, ChangesInTurn}
 use Rattle.world_model.specs.Sheet.{PlaceSheet}
 use Rattle.world_model.specs.Sound.{IsSound, place_sheet_with}
 use Rattle.world_model.specs.Updating.{Updates}
+use Rattle.dimension_ops.specs.SheetRequests.{NewSheetsOnce}
 use Rattle.dimension_ops.specs.World.{book_with}
 use Rattle.dimension_ops.specs.declared.rule.Rule.{Rule}
 use Rattle.dimension_ops.specs.declared.rule.Rule.TheVariants as rule
 use Rattle.values_api.specs.Blocks.{contents_of}
-use Rattle.values_api.specs.Laws.{WritesOnce}
+use Rattle.values_api.specs.Laws.{AppendsOnce, WritesOnce}
 use Rattle.values_api.specs.Ranges.{FoundArea, Resolves, named, unnamed, part_of}
 use Rattle.values_api.specs.declared.writing.Written.{Written}
 use Rattle.sheets_json.specs.Reading.{Reading}
@@ -32,9 +33,9 @@ use Rattle.batch_engine.specs.Effects.{Effect, cells_updated}
 use Rattle.batch_engine.specs.Effects.Effect.{Nothing}
 use Rattle.batch_engine.specs.Ranges.{IsTarget, agreed}
 use Rattle.batch_engine.specs.Values.{OnRange, done, refused, IsRead, IsClear, IsUpdate, IsShown, IsCleared, IsWritten}
-use Rattle.batch_engine.specs.Values.{IsUpdated, Wrote, update_of}
+use Rattle.batch_engine.specs.Values.{Appended, IsAppendOn, IsAppended, IsUpdated, Wrote, appended_of, inserts, update_of}
 use Rattle.batch_engine.specs.Looks.{looked}
-use Rattle.batch_engine.specs.Calls.{AreMade, IsBatchOf, IsLookOf, IsAlone, IsAnswered, IsClearManyOf, IsClearOf, IsMade, IsReadManyOf}
+use Rattle.batch_engine.specs.Calls.{AreMade, IsAppendOf, IsBatchOf, IsLookOf, IsAlone, IsAnswered, IsClearManyOf, IsClearOf, IsMade, IsReadManyOf}
 use Rattle.batch_engine.specs.Calls.{IsReadOf, IsSeen, IsWriteManyOf, IsWriteOf, OnBook, Refusal, alone, answered_at}
 use Rattle.batch_engine.specs.Calls.{answered_by, effect_of, effect_on, told_of, written_answer}
 use Rattle.batch_engine.specs.Members.{InOrder, Then, Told, with_first}
@@ -138,6 +139,47 @@ module _ (writes : WritesOnce) (book : PlaceBook) (sound : IsSound book) where
       (subst (λ wrote. Tells area sheet (contents_of other.writes.entries) wrote told) same_wrote
       (subst (λ updates. Tells area sheet updates one.wrote told) same one.tells)) other.tells
 
+-- ---- appends
+
+module _ (appends : AppendsOnce) (apart : ChangesApart) (book : PlaceBook) (sound : IsSound book) where
+  -- what an append that changes the spreadsheet so is told as
+  abbrev Says : Area → Result (Appended × List BookChange) Rule → PlaceBook → List BookChange
+      → Result (Option Area × Written) Rule → Type 0
+  Says area told after changes appended =
+      OnOk appended (AreChanges changes book after)
+      × MatchResult appended
+      (λ made. (own : PlaceSheet) × (place_sheet_with area.sheet after.sheets ≡ Some own)
+      × (told ≡ Ok (appended_of after own made, changes)))
+      (λ broken. told ≡ Err broken)
+
+  abbrev as_appended : PlaceBook → PlaceSheet → Option Area × Written → List BookChange
+      → Result (Appended × List BookChange) Rule
+  as_appended after own made changes = Ok (appended_of after own made, changes)
+
+  says_once : (area : Area) (told told' : Result (Appended × List BookChange) Rule) (after after' : PlaceBook)
+      (changes : List BookChange) (appended : Result (Option Area × Written) Rule)
+      → Says area told after changes appended → Says area told' after' changes appended → told ≡ told'
+  says_once area told told' after after' changes (Ok made) (becomes, said) (becomes', said') =
+      let (own, there, is) = said in
+      let (own', there', is') = said' in
+      let same = apart.same changes book after after' sound becomes becomes' in
+      let same_own = some_same own own'
+      (sym there ∙ ap (λ (one : PlaceBook). place_sheet_with area.sheet one.sheets) same ∙ there') in
+      is ∙ ap (λ one. as_appended one own made changes) same ∙ ap (λ one. as_appended after' one made changes) same_own
+      ∙ sym is'
+  says_once area told told' after after' changes (Err broken) (stays, is) (stays', is') = is ∙ sym is'
+
+  append_once : (insert : Bool) (block : Block) (area : Area) (sheet : PlaceSheet)
+      (told told' : Result (Appended × List BookChange) Rule) → IsAppendOn book insert block area sheet told
+      → IsAppendOn book insert block area sheet told' → told ≡ told'
+  append_once insert block area sheet told told' one other =
+      let (same, same_appended) = appends.once insert area block sheet book one.after other.after one.appended
+      other.appended sound one.appends other.appends in
+      says_once area told told' one.after other.after other.appends.changes other.appended
+      (subst (Says area told one.after other.appends.changes) same_appended
+      (subst (λ changes. Says area told one.after changes one.appended) same (one.appends.made, one.tells)))
+      (other.appends.made, other.tells)
+
 -- ---- members
 
 module _ {M A : Type 0} (Is : M → Result A Rule → Type 0)
@@ -197,7 +239,8 @@ found_sound id (b ∷ bs) all =
     first_sound (bytes_eq b.id id) b (book_with id bs) (all 0 b (omega arith))
     (found_sound id bs (λ k d there. all (suc k) d (omega arith)))
 
-module _ (one_reading : HasOneReading) (writes : WritesOnce) (apart : ChangesApart) (turns : ChangesInTurn) where
+module _ (one_reading : HasOneReading) (news : NewSheetsOnce) (writes : WritesOnce) (appends : AppendsOnce)
+    (apart : ChangesApart) (turns : ChangesInTurn) where
   shown_once : (dimension : Option Axis) (render : Option Render) (book : PlaceBook) (range : List ℕ)
       (one other : Result ShownRange Rule) → IsShown dimension render book range one
       → IsShown dimension render book range other → one ≡ other
@@ -219,6 +262,15 @@ module _ (one_reading : HasOneReading) (writes : WritesOnce) (apart : ChangesApa
       on_range_once (IsTarget range values.range book.sheets) book.sheets (IsUpdate book values.block)
       (target_once one_reading range values.range book.sheets) (update_once writes book sound values.block)
   written_once range book sound (Err shape) = λ one other is is'. is ∙ sym is'
+
+  appended_once : (range : List ℕ) (insert : Bool) (book : PlaceBook) → IsSound book → (values : Reading ValueRange)
+      (one other : Result (Appended × List BookChange) Rule) → IsAppended range insert book values one
+      → IsAppended range insert book values other → one ≡ other
+  appended_once range insert book sound (Ok values) =
+      on_range_once (IsTarget range values.range book.sheets) book.sheets
+      (λ found. IsAppendOn book insert values.block found.0) (target_once one_reading range values.range book.sheets)
+      (λ found. append_once appends apart book sound insert values.block found.0)
+  appended_once range insert book sound (Err shape) = λ one other is is'. is ∙ sym is'
 
   updated_once : (book : PlaceBook) → IsSound book → (values : Reading RangeBlock)
       (one other : Result (Wrote × List BookChange) Rule) → IsUpdated book values one → IsUpdated book values other → one ≡ other
@@ -284,6 +336,10 @@ module _ (one_reading : HasOneReading) (writes : WritesOnce) (apart : ChangesApa
         on_book_once id (IsLookOf grids) (λ book sound. said_once (looked grids book) Nothing)
     answered_once (call.Batch id requests) =
         on_book_once id (IsBatchOf requests)
-        (λ book sound. are_made_once IsRequested (requested_once writes apart turns) requests place.Requests
+        (λ book sound. are_made_once IsRequested (requested_once news writes apart turns) requests place.Requests
         (λ replies. answer.Batch replies book.id) book sound)
-    answered_once (call.Append id range mode insert values) = said_once (Err (place.Alone, rule.Unsupported)) Nothing
+    answered_once (call.Append id range mode option values) =
+        on_book_once id (λ book. IsAlone (IsAppendOf range option values book))
+        (λ book sound. alone_once (IsAppendOf range option values book)
+        (made_once (IsAppended range (inserts option) book values) (λ made. answer.Append book.id made.0 made.1) book
+        (appended_once range (inserts option) book sound values)))

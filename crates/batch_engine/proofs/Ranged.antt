@@ -21,7 +21,8 @@ use Rattle.dimension_ops.specs.declared.rule.Rule.{Rule}
 use Rattle.dimension_ops.specs.declared.rule.RuleOr.{RuleOr}
 use Rattle.dimension_ops.specs.declared.rule.RuleOr.TheVariants as refusal
 use Rattle.values_api.specs.Blocks.{IsWrite, contents_of}
-use Rattle.values_api.specs.Ranges.{FoundArea, IsThere, Resolves, area_text}
+use Rattle.values_api.specs.Laws.{UpdatesOnce}
+use Rattle.values_api.specs.Ranges.{FoundArea, Resolves, area_text}
 use Rattle.values_api.specs.Sheets.{formula_sheets}
 use Rattle.values_api.specs.Shown.{area_shown}
 use Rattle.values_api.specs.Updates.{cleared, AreUpdated}
@@ -177,39 +178,6 @@ emptied_done are range book after found text resolves text_of updated =
 
 -- ---- writes
 
--- the sheet with the id stays where it is
-module _ (number : ℕ) (updates : Updates) (id : ℕ) where
-  abbrev pub Kept : PlaceSheet → Option PlaceSheet → Type 0
-  Kept sheet after = (now : PlaceSheet) × (after ≡ Some now) × SheetUpdated number updates sheet now
-
-  kept_first : (same : Bool) (one other sheet : PlaceSheet) (ones others : Option PlaceSheet)
-      → SheetUpdated number updates one other → (ones ≡ Some sheet → Kept sheet others)
-      → cond same (Some one) ones ≡ Some sheet → Kept sheet (cond same (Some other) others)
-  kept_first true one other sheet ones others updated rest found =
-      (other, refl, subst (λ first. SheetUpdated number updates first other) (first_some one sheet found) updated)
-  kept_first false one other sheet ones others updated rest found = rest found
-
-  pub kept_sheet : (before after : List PlaceSheet) → AllZip (SheetUpdated number updates) before after
-      → (sheet : PlaceSheet) → place_sheet_with id before ≡ Some sheet → Kept sheet (place_sheet_with id after)
-  kept_sheet [] [] updated sheet is = absurd (none_is_some sheet is)
-  kept_sheet [] (other ∷ others) updated sheet is = absurd updated
-  kept_sheet (one ∷ ones) [] updated sheet is = absurd updated
-  kept_sheet (one ∷ ones) (other ∷ others) updated sheet is =
-      subst (λ key. Kept sheet (cond (key == id) (Some other) (place_sheet_with id others))) (sym updated.0.id)
-      (kept_first (one.id == id) one other sheet (place_sheet_with id ones) (place_sheet_with id others) updated.0
-      (kept_sheet ones others updated.1 sheet) is)
-
--- the area stays on its sheet
-pub stays_there : (number : ℕ) (updates : Updates) (area : Area) (before after : List PlaceSheet)
-    → AllZip (SheetUpdated number updates) before after → IsThere before area → IsThere after area
-stays_there number updates area before after updated there =
-    let (sheet, is, within) = some_and (λ (sheet : PlaceSheet). AreaWithin area sheet.table.rows sheet.table.cols)
-    (place_sheet_with area.sheet before) there in
-    let (now, is_now, same) = kept_sheet number updates area.sheet before after updated sheet is in
-    subst (λ one. IsSomeAnd one (λ (sheet : PlaceSheet). AreaWithin area sheet.table.rows sheet.table.cols)) (sym is_now)
-    (subst (λ cols. AreaWithin area now.table.rows cols) (sym same.cols)
-    (subst (λ rows. AreaWithin area rows sheet.table.cols) (sym same.rows) within))
-
 -- what is told of a write doesn't tell the spreadsheet after it from the one before
 told_same : (number : ℕ) (updates : Updates) (book after : PlaceBook) (sheet now : PlaceSheet) (wrote : Written)
     → after.id ≡ book.id → SheetUpdated number updates sheet now → update_of after now wrote ≡ update_of book sheet wrote
@@ -223,26 +191,17 @@ module _ (book after : PlaceBook) (block : Block) (area : Area) (one_cell : Bool
   abbrev Writes : Result Written Rule → PlaceSheet → Type 0
   Writes wrote sheet = IsWrite one_cell area block sheet book after wrote
 
-  pub put_there : (wrote : Written)
-      → IsSomeAnd (place_sheet_with area.sheet book.sheets)
-      (λ sheet. IsUnlessNoMemory (IsWrite one_cell area block sheet book after) (Ok wrote))
-      → IsThere book.sheets wrote.area → IsThere after.sheets wrote.area
-  put_there wrote writes_it there =
-      let (sheet, is, writes) = some_and (Writes (Ok wrote)) (place_sheet_with area.sheet book.sheets) writes_it in
-      stays_there area.sheet (contents_of writes.entries) wrote.area book.sheets after.sheets writes.updated.places.sheets
-      there
-
-  pub put_done : UpdatesAreChanges → (wrote : Written) (update : UpdateAnswer)
+  pub put_done : UpdatesAreChanges → UpdatesOnce → (wrote : Written) (update : UpdateAnswer)
       → IsSomeAnd (place_sheet_with area.sheet book.sheets)
       (λ sheet. IsUnlessNoMemory (IsWrite one_cell area block sheet book after) (Ok wrote))
       → IsSomeAnd (place_sheet_with wrote.area.sheet after.sheets) (λ sheet. update ≡ update_of after sheet wrote)
       → IsSomeAnd (place_sheet_with area.sheet book.sheets)
       (λ sheet. IsUnlessNoMemory (IsDoneTo (IsUpdate book block (area, one_cell) sheet) book after) (Ok (update, wrote)))
-  put_done are wrote update writes_it told =
+  put_done are updates_once wrote update writes_it told =
       let (sheet, is, writes) = some_and (Writes (Ok wrote)) (place_sheet_with area.sheet book.sheets) writes_it in
       let updates = contents_of writes.entries in
-      let (now, is_now, same) = kept_sheet area.sheet updates area.sheet book.sheets after.sheets
-      writes.updated.places.sheets sheet is in
+      let (now, is_now, same) = some_and (SheetUpdated area.sheet updates sheet) (place_sheet_with area.sheet after.sheets)
+      (updates_once.kept area.sheet updates book after area.sheet sheet writes.updated is) in
       let same_area = ap (λ (area : Area). place_sheet_with area.sheet after.sheets) writes.answered.1.area_is in
       let told_now : update ≡ update_of after now wrote =
       subst (λ one. IsSomeAnd one (λ (sheet : PlaceSheet). update ≡ update_of after sheet wrote)) (same_area ∙ is_now) told in

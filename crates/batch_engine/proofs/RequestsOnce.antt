@@ -1,11 +1,14 @@
 -- A request on a given spreadsheet has one reply and makes one list of changes.
-use Rattle.std.proofs.Common.{◌≡◌, true, false, sym, ◌∙◌, List, []}
-use Rattle.std.specs.Prelude.{Result, Err}
+use Rattle.std.proofs.Common.{◌≡◌, true, false, sym, ap, ◌∙◌, List, [], ◌∷◌}
+use Rattle.std.specs.Prelude.{Option, None, Some, unwrap_or, Result, Ok, Err}
 use Rattle.cell_value.specs.declared.cell.Block.{Block}
+use Rattle.cell_value.specs.declared.cell.SheetProperties.{SheetProperties}
 use Rattle.world_model.specs.Book.{PlaceBook}
 use Rattle.world_model.specs.BookChange.{BookChange}
 use Rattle.world_model.specs.ChangingLaws.{ChangesApart, ChangesInTurn}
 use Rattle.world_model.specs.Sound.{IsSound}
+use Rattle.dimension_ops.specs.Broken.{first_broken}
+use Rattle.dimension_ops.specs.SheetRequests.{NewSheetsOnce, new_place, sheet_added_broken}
 use Rattle.dimension_ops.specs.declared.rule.Rule.{Rule}
 use Rattle.values_api.specs.Laws.{WritesOnce}
 use Rattle.sheets_json.specs.declared.request.Request.{Request}
@@ -15,6 +18,7 @@ use Rattle.sheets_json.specs.declared.request.Step.TheVariants as step
 use Rattle.sheets_json.specs.declared.request.UpdatedArea.{UpdatedArea}
 use Rattle.sheets_json.specs.declared.request.UpdatedArea.TheVariants.{Start, Range}
 use Rattle.sheets_json.specs.declared.spreadsheet.Reply.{Reply}
+use Rattle.batch_engine.specs.AddSheet.{IsAddSheet, IsAdded, any_properties, sheet_reply}
 use Rattle.batch_engine.specs.Requests.{IsDoneAsAsked, IsRequested}
 use Rattle.batch_engine.specs.Rows.{AreRowsWritten, area_or_broken}
 use Rattle.batch_engine.specs.UpdateCells.{IsUpdateCells, area_emptied, area_from}
@@ -27,7 +31,21 @@ IsOne Is = (told told' : Result (Reply × List BookChange) Rule) → Is told →
 refused_once : (broken : Rule) → IsOne (λ told. told ≡ Err broken)
 refused_once broken told told' is is' = is ∙ sym is'
 
-module _ (writes : WritesOnce) (apart : ChangesApart) (turns : ChangesInTurn) (book : PlaceBook) (sound : IsSound book) where
+module _ (news : NewSheetsOnce) (book : PlaceBook) where
+  added_once : (properties : SheetProperties) (broken : Option Rule) → IsOne (IsAdded properties book.sheets broken)
+  added_once properties (Some broken) told told' is is' = is ∙ sym is'
+  added_once properties None told told' (new, is, tells) (new', is', tells') =
+      tells
+      ∙ ap (λ new. Ok (sheet_reply properties book.sheets new, BookChange.SheetAdded (new_place properties book.sheets) new ∷ []))
+      (news.once properties book.sheets new new' is is')
+      ∙ sym tells'
+
+  add_sheet_once : (given : Option SheetProperties) → IsOne (IsAddSheet given book)
+  add_sheet_once given =
+      let properties = unwrap_or given any_properties in
+      added_once properties (first_broken (sheet_added_broken properties book.sheets))
+
+module _ (news : NewSheetsOnce) (writes : WritesOnce) (apart : ChangesApart) (turns : ChangesInTurn) (book : PlaceBook) (sound : IsSound book) where
   update_cells_once : (rows : Block) (area : UpdatedArea) → IsOne (IsUpdateCells rows area book)
   update_cells_once rows (Start cell) =
       on_area_once (AreRowsWritten [] rows true book)
@@ -40,9 +58,9 @@ module _ (writes : WritesOnce) (apart : ChangesApart) (turns : ChangesInTurn) (b
 
   asked_once : (asked : Request) → IsOne (IsDoneAsAsked book asked)
   asked_once (request.UpdateCells rows area) = update_cells_once rows area
-  asked_once (request.AddSheet properties) = refused_once _
+  asked_once (request.AddSheet properties) = add_sheet_once news book properties
   asked_once (request.DeleteSheet sheet) = λ told told' is is'. is ∙ sym is'
-  asked_once (request.UpdateSheetProperties sheet properties) = refused_once _
+  asked_once (request.UpdateSheetProperties sheet properties) = λ told told' is is'. is ∙ sym is'
   asked_once (request.AppendCells sheet rows) = refused_once _
   asked_once (request.InsertDimension range inherit) = λ told told' is is'. is ∙ sym is'
   asked_once (request.DeleteDimension range) = λ told told' is is'. is ∙ sym is'

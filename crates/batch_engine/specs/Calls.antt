@@ -1,5 +1,5 @@
 -- What a call is answered, and what it makes of the spreadsheets (Google Sheets API v4 reference,
--- spreadsheets.get, spreadsheets.values.get, batchGet, update, batchUpdate, clear and batchClear).
+-- spreadsheets.get, spreadsheets.values.get, batchGet, update, batchUpdate, append, clear and batchClear).
 use Rattle.std.specs.Prelude.{◌≡◌, ℕ, Bool, ◌==◌, ◌&&◌, List, map, flat_map, Option, None, Result, Ok, Err}
 use Rattle.std.specs.Prelude.{IsSomeAnd, ⊤}
 use Rattle.std.specs.List.{sum_by}
@@ -22,6 +22,7 @@ use Rattle.sheets_json.specs.declared.answer.Answer.TheVariants as answer
 use Rattle.sheets_json.specs.declared.answer.ShownRange.{ShownRange}
 use Rattle.sheets_json.specs.declared.call.Call.{Call}
 use Rattle.sheets_json.specs.declared.call.Call.TheVariants as call
+use Rattle.sheets_json.specs.declared.call.InsertData.{InsertData}
 use Rattle.sheets_json.specs.declared.call.RangeBlock.{RangeBlock}
 use Rattle.sheets_json.specs.declared.call.ValueRange.{ValueRange}
 use Rattle.sheets_json.specs.declared.place.Place.{Place}
@@ -33,7 +34,7 @@ use Rattle.batch_engine.specs.Effects.Effect.{Nothing, Changes}
 use Rattle.batch_engine.specs.Looks.{looked}
 use Rattle.batch_engine.specs.Members.{InOrder, InTurn, Told}
 use Rattle.batch_engine.specs.Requests.{IsRequested}
-use Rattle.batch_engine.specs.Values.{IsCleared, IsShown, IsUpdated, IsWritten, Wrote}
+use Rattle.batch_engine.specs.Values.{IsAppended, IsCleared, IsShown, IsUpdated, IsWritten, Wrote, inserts}
 use Rattle.batch_engine.specs.declared.calls.Outcome.{Outcome}
 use Rattle.batch_engine.specs.declared.calls.Outcome.TheVariants as outcome
 
@@ -91,6 +92,10 @@ IsReadOf range dimension render book = IsSeen (IsShown dimension render book ran
 
 abbrev pub IsWriteOf : List ℕ → Reading ValueRange → PlaceBook → Result Answer Rule → Effect → Type 0
 IsWriteOf range values book = IsMade (IsWritten range book values) (λ wrote. answer.Write wrote.0) book
+
+abbrev pub IsAppendOf : List ℕ → Option InsertData → Reading ValueRange → PlaceBook → Result Answer Rule → Effect → Type 0
+IsAppendOf range option values book =
+    IsMade (IsAppended range (inserts option) book values) (λ made. answer.Append book.id made.0 made.1) book
 
 abbrev pub IsClearOf : List ℕ → PlaceBook → Result Answer Rule → Effect → Type 0
 IsClearOf range book = IsMade (IsCleared book (Ok range)) (λ text. answer.Clear text book.id) book
@@ -175,6 +180,8 @@ IsAnswered (call.Read id range dimension render) books told effect =
     OnBook id books (λ book. IsAlone (IsReadOf range dimension render book) told effect)
 IsAnswered (call.Write id range mode values) books told effect =
     OnBook id books (λ book. IsAlone (IsWriteOf range values book) told effect)
+IsAnswered (call.Append id range mode option values) books told effect =
+    OnBook id books (λ book. IsAlone (IsAppendOf range option values book) told effect)
 IsAnswered (call.Clear id range) books told effect =
     OnBook id books (λ book. IsAlone (IsClearOf range book) told effect)
 IsAnswered (call.ReadMany id ranges dimension render) books told effect =
@@ -191,6 +198,7 @@ HasItsBook (call.Get id grids) books = IsSome (book_with id books)
 HasItsBook (call.Batch id requests) books = IsSome (book_with id books)
 HasItsBook (call.Read id range dimension render) books = IsSome (book_with id books)
 HasItsBook (call.Write id range mode values) books = IsSome (book_with id books)
+HasItsBook (call.Append id range mode option values) books = IsSome (book_with id books)
 HasItsBook (call.Clear id range) books = IsSome (book_with id books)
 HasItsBook (call.ReadMany id ranges dimension render) books = IsSome (book_with id books)
 HasItsBook (call.WriteMany id mode blocks) books = IsSome (book_with id books)

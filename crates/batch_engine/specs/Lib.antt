@@ -4,9 +4,11 @@ pub mod Members
 pub mod Values
 pub mod Rows
 pub mod UpdateCells
+pub mod Looks
+pub mod AddSheet
 pub mod DeleteSheet
+pub mod UpdateSheetProperties
 pub mod Dimensions
 pub mod Requests
-pub mod Looks
 pub mod Calls
 pub mod Laws

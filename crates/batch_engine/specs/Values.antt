@@ -1,7 +1,7 @@
--- What is done on the cells of a range: they are shown, emptied or written, and what is told of it (Google Sheets API
--- v4 reference, ValueRange and UpdateValuesResponse).
+-- What is done on the cells of a range: they are shown, emptied or written, or values are appended to its table, and
+-- what is told of it (Google Sheets API v4 reference, ValueRange, UpdateValuesResponse and AppendValuesResponse).
 use Rattle.std.specs.Prelude.{◌≡◌, ℕ, Bool, true, false, List, [], ◌∷◌, length, Option, Some, None, unwrap_or, Result, Ok, Err}
-use Rattle.std.specs.Prelude.{MatchResult}
+use Rattle.std.specs.Prelude.{IsSomeAnd, MatchResult, option_map}
 use Rattle.grid_range.specs.declared.area.Area.{Area}
 use Rattle.grid_range.specs.declared.axis.Axis.{Axis}
 use Rattle.grid_range.specs.declared.axis.Axis.TheVariants.{Rows, Columns}
@@ -15,6 +15,7 @@ use Rattle.world_model.specs.Sheet.{PlaceSheet}
 use Rattle.world_model.specs.Sound.{place_sheet_with}
 use Rattle.dimension_ops.specs.declared.rule.Rule.{Rule}
 use Rattle.dimension_ops.specs.declared.rule.Rule.TheVariants as rule
+use Rattle.values_api.specs.Appends.{IsAppend}
 use Rattle.values_api.specs.Blocks.{IsWrite, contents_of}
 use Rattle.values_api.specs.Ranges.{FoundArea, Resolves, area_text}
 use Rattle.values_api.specs.Sheets.{formula_sheets}
@@ -24,6 +25,8 @@ use Rattle.values_api.specs.declared.writing.Written.{Written}
 use Rattle.sheets_json.specs.Reading.{Reading}
 use Rattle.sheets_json.specs.declared.answer.ShownRange.{ShownRange}
 use Rattle.sheets_json.specs.declared.answer.Update.{Update as UpdateAnswer}
+use Rattle.sheets_json.specs.declared.call.InsertData.{InsertData}
+use Rattle.sheets_json.specs.declared.call.InsertData.TheVariants.{InsertRows}
 use Rattle.sheets_json.specs.declared.call.RangeBlock.{RangeBlock}
 use Rattle.sheets_json.specs.declared.call.ValueRange.{ValueRange}
 use Rattle.sheets_json.specs.declared.fault.ShapeFault.{ShapeFault}
@@ -128,3 +131,43 @@ abbrev pub IsUpdated : PlaceBook → Reading RangeBlock → Result (Wrote × Lis
 IsUpdated book (Ok values) told =
     OnRange (Resolves values.range book.sheets) book.sheets (IsUpdate book values.block) told
 IsUpdated book (Err shape) told = told ≡ Err (rule_of shape)
+
+-- ---- appends
+
+-- rows are inserted for the values where that is asked for
+abbrev pub inserts : Option InsertData → Bool
+inserts (Some InsertRows) = true
+inserts _ = false
+
+-- what an append did, as it is told: the range of the table, if there was one, and what was written
+abbrev pub Appended : Type 0
+Appended = Option (List ℕ) × UpdateAnswer
+
+abbrev pub appended_of : PlaceBook → PlaceSheet → Option Area × Written → Appended
+appended_of book sheet (table, counts) = (option_map (area_text sheet) table, update_of book sheet counts)
+
+-- the values are appended to the table of the area, or a rule is broken; it is told by the sheet as it is then
+pub record IsAppendOn (book : PlaceBook) (insert : Bool) (block : Block) (area : Area) (sheet : PlaceSheet)
+    (told : Result (Appended × List BookChange) Rule) : Type 0 where
+  pub after : PlaceBook
+  pub appended : Result (Option Area × Written) Rule
+  pub appends : IsAppend insert area block sheet book after appended
+  pub tells : MatchResult appended
+      (λ made. (own : PlaceSheet) × (place_sheet_with area.sheet after.sheets ≡ Some own)
+      × (told ≡ Ok (appended_of after own made, appends.changes)))
+      (λ broken. told ≡ Err broken)
+
+-- values for a range are appended; those whose shape is broken are refused whatever the range is
+abbrev pub IsAppended : List ℕ → Bool → PlaceBook → Reading ValueRange → Result (Appended × List BookChange) Rule → Type 0
+IsAppended range insert book (Ok values) told =
+    OnRange (IsTarget range values.range book.sheets) book.sheets
+    (λ found. IsAppendOn book insert values.block found.0) told
+IsAppended range insert book (Err shape) told = told ≡ Err (rule_of shape)
+
+-- ---- what the private functions hand to one another
+
+-- the area, if there is one, as text
+abbrev pub IsTextOf : Option Area → List PlaceSheet → Option (List ℕ) → Type 0
+IsTextOf None sheets text = text ≡ None
+IsTextOf (Some area) sheets text =
+    IsSomeAnd (place_sheet_with area.sheet sheets) (λ sheet. text ≡ Some (area_text sheet area))

@@ -13,7 +13,9 @@ use dimension_ops::{Book, Rule, RuleOr};
 use grid_range::{Area, Axis};
 use sheets_json::{Answer, RangeBlock, ShapeFault, ShownRange, Update, ValueRange};
 use std::alloc::Global;
-use values_api::{Written, clear_values, range_text, read_values, resolve, write_values};
+use values_api::{
+    Written, clear_values, range_text, read_values, resolve, updates_once, write_values,
+};
 use world_model::updates_are_changes;
 
 /// What a read of a range is answered.
@@ -156,12 +158,13 @@ fn put(
         (IsDoneTo (IsUpdate book.old block.now (area.now, one_cell) sheet) book.old book.new) result) }
 {
     updates_are_changes();
+    updates_once();
     let written = write_values(alloc, book, user, area, one_cell, block)?;
     Ok((update_of(alloc, book, &written)?, written))
 }
 
 /// What a write did, as it is told.
-fn update_of(alloc: Global, book: &Book, written: &Written) -> Result<Update, NoMemory>
+pub(crate) fn update_of(alloc: Global, book: &Book, written: &Written) -> Result<Update, NoMemory>
     requires { IsThere book.now.sheets written.now.area }
     ensures { IfOk result (λ update. IsSomeAnd (place_sheet_with written.now.area.sheet book.now.sheets)
         (λ sheet. update ≡ update_of book.now sheet written.now)) }

@@ -5,6 +5,7 @@ ghost use Rattle.dimension_ops.specs.World.{book_with};
 ghost use Rattle.batch_engine.specs.Calls.{HasItsBook, IsApplied, IsInstalled, alone, told_as, as_told};
 
 use crate::answers::{clear, read, write};
+use crate::appends::append;
 use crate::batch::batch;
 use crate::lists::{Refusal, clear_many, read_many, write_many};
 use crate::looks::look;
@@ -47,8 +48,8 @@ pub struct Applied {
 }
 
 /// Makes a call on the spreadsheets, which stay as they are: what they are after it is told. Looks at
-/// a spreadsheet, batches of requests, and reads, writes and clears of one range and of a list of them are
-/// done (Sheets API v4 reference, spreadsheets.get, spreadsheets.batchUpdate and spreadsheets.values); any
+/// a spreadsheet, batches of requests, appends, and reads, writes and clears of one range and of a list of them
+/// are done (Sheets API v4 reference, spreadsheets.get, spreadsheets.batchUpdate and spreadsheets.values); any
 /// other call is refused as [`Rule::Unsupported`], and so is a request of a kind that isn't done. A batch
 /// and a list are done in their order, each member on what those before it leave, and the first member that
 /// breaks a rule refuses the call.
@@ -103,6 +104,19 @@ pub fn apply(
             let book = book_of(world, id.as_str());
             let user = caller.user.as_str();
             changed(world, write_many(alloc, book, user, data.as_slice())?)
+        }
+        Call::Append {
+            id,
+            range,
+            insert_data_option,
+            values,
+            ..
+        } => {
+            let book = book_of(world, id.as_str());
+            let user = caller.user.as_str();
+            let option = *insert_data_option;
+            let told = judged(append(alloc, book, user, range.as_str(), option, values))?;
+            changed(world, alone(told))
         }
         Call::Clear { id, range } => {
             let book = book_of(world, id.as_str());

@@ -2,17 +2,21 @@ ghost use Rattle.dimension_ops.specs.Rules.{IsUnlessNoMemory};
 ghost use Rattle.batch_engine.specs.Members.{IsDoneTo};
 ghost use Rattle.batch_engine.specs.Requests.{IsDoneAsAsked};
 
+mod add_sheet;
 mod areas;
 mod delete_sheet;
 mod dimensions;
 mod update_cells;
+mod update_sheet_properties;
 
+use add_sheet::add_sheet;
 use delete_sheet::delete_sheet;
 use dimension_ops::{Book, Rule, RuleOr};
 use dimensions::{append_dimension, delete_dimension, insert_dimension, move_dimension};
 use sheets_json::{Reply, Request};
 use std::alloc::Global;
 use update_cells::update_cells;
+use update_sheet_properties::update_sheet_properties;
 
 /// Does what a request asks for, by its kind: its reply.
 pub(crate) fn done(
@@ -25,7 +29,12 @@ pub(crate) fn done(
 {
     match request {
         Request::UpdateCells { rows, area } => update_cells(alloc, book, user, rows, *area),
+        Request::AddSheet { properties } => add_sheet(book, properties),
         Request::DeleteSheet { sheet_id } => delete_sheet(book, *sheet_id),
+        Request::UpdateSheetProperties {
+            sheet_id,
+            properties,
+        } => update_sheet_properties(book, *sheet_id, properties),
         Request::InsertDimension {
             range,
             inherit_from_before,

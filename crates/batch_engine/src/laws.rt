@@ -3,7 +3,8 @@
 ghost use Rattle.batch_engine.specs.Laws.{CallsAnsweredOnce};
 
 use a1_notation::a1_laws;
-use values_api::writes_once;
+use dimension_ops::new_sheets_once;
+use values_api::{appends_once, writes_once};
 use world_model::{changes_apart, changes_in_turn};
 
 /// A call has one answer and one effect on given spreadsheets.
@@ -11,7 +12,9 @@ pub fn calls_answered_once()
     ensures { CallsAnsweredOnce }
 {
     a1_laws();
+    new_sheets_once();
     writes_once();
+    appends_once();
     changes_apart();
     changes_in_turn();
 }

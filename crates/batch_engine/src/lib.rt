@@ -3,6 +3,7 @@
 #![tactic(auto)]
 
 mod answers;
+mod appends;
 mod batch;
 mod calls;
 mod kinds;

@@ -62,7 +62,7 @@ fn sheet_at(book: &Book, at: usize) -> &Sheet
 }
 
 /// The sheet as it is shown at its place among the sheets.
-fn shown_sheet(index: u32, sheet: &Sheet) -> Result<ShownSheet, NoMemory>
+pub(crate) fn shown_sheet(index: u32, sheet: &Sheet) -> Result<ShownSheet, NoMemory>
     ensures { IfOk result (λ shown. shown ≡ shown_sheet index sheet.now) }
 {
     Ok(ShownSheet {

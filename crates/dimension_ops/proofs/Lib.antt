@@ -7,10 +7,14 @@ pub mod OpeningNames
 pub mod Totals
 pub mod Inserting
 pub mod Judging
+pub mod NewSheets
 pub mod SheetRoom
+pub mod Making
 pub mod Marking
 pub mod Places
 pub mod Formulas
+pub mod Unmoved
 pub mod Changed
 pub mod PastLines
 pub mod LostReferences
+pub mod Setting

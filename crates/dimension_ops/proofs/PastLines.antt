@@ -45,7 +45,7 @@ some_lines lines some = false_from_ne_true (lines == 0) (λ is. absurd (omega (a
 
 -- ---- the sheet that is found is one of them
 
-found_holds : (P : PlaceSheet → Type 0) (id : ℕ) (sheets : List PlaceSheet) → All P sheets
+pub found_holds : (P : PlaceSheet → Type 0) (id : ℕ) (sheets : List PlaceSheet) → All P sheets
     → IfSome (place_sheet_with id sheets) P
 found_holds P id [] all = tt
 found_holds P id (sheet ∷ sheets) all =

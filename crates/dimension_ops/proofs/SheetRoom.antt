@@ -53,13 +53,13 @@ numbered_has_bytes number =
     let some : 0 < length (codes "Sheet") = omega arith in
     omega (arith, long, some)
 
-new_id : (sheets : List PlaceSheet) (given : Option ℕ) (id : ℕ) → is_taken (has_id sheets) given ≡ false
+pub new_id : (sheets : List PlaceSheet) (given : Option ℕ) (id : ℕ) → is_taken (has_id sheets) given ≡ false
     → IsNewId (IsLeastId sheets) given id → place_sheet_with id sheets ≡ None
 new_id sheets None id free is = is_none_of (place_sheet_with id sheets) is.unused
 new_id sheets (Some one) id free is =
     is_none_of (place_sheet_with id sheets) (ap (has_id sheets) is ∙ free)
 
-new_title : (sheets : List PlaceSheet) (given : Option (List ℕ)) (title : List ℕ) → is_bad_title given ≡ false
+pub new_title : (sheets : List PlaceSheet) (given : Option (List ℕ)) (title : List ℕ) → is_bad_title given ≡ false
     → is_taken (has_title sheets) given ≡ false → IsNewId (IsFirstTitle sheets) given title
     → (0 < length title) × IsTitleFree title sheets
 new_title sheets None title good free (number, is, first) = (
@@ -71,7 +71,7 @@ new_title sheets (Some one) title good free is = (
   subst (λ text. IsTitleFree text sheets) (sym is) (title_free one sheets free),
 )
 
-above_zero : (n : ℕ) → (n == 0) ≡ false → 0 < n
+pub above_zero : (n : ℕ) → (n == 0) ≡ false → 0 < n
 above_zero n is = let apart = eqb-false n 0 is in more n apart
   where
     more : (n : ℕ) → (n ≡ 0 → ⊥) → 0 < n

@@ -5,6 +5,7 @@ use Rattle.cell_store.specs.Table.{Table, table_code}
 use Rattle.ref_rewrite.specs.contracts.cell_content.Content as content
 use Rattle.ref_rewrite.specs.declared.cell_content.Content.{Content}
 use Rattle.world_model.specs.Book.{PlaceBook}
+use Rattle.world_model.specs.Making.{Placed}
 use Rattle.world_model.specs.Sheet.{PlaceSheet}
 
 abbrev pub sheet_code : Coded PlaceSheet
@@ -20,3 +21,11 @@ book_code =
     (coded× (coded_list coded_ℕ) (coded× (coded_list coded_ℕ) (coded× (coded_list coded_ℕ) (coded_list sheet_code))))
     (λ b. (b.id, (b.title, (b.owner, b.sheets))))
     (λ p. record { id = p.0; title = p.1.0; owner = p.1.1.0; sheets = p.1.1.1 }) (λ _. refl)
+
+abbrev pub placed_code : Coded Placed
+placed_code =
+    code_by (ℕ × (ℕ × (List ℕ × (Bool × (ℕ × ℕ)))))
+    (coded× coded_ℕ (coded× coded_ℕ (coded× (coded_list coded_ℕ) (coded× coded_bool (coded× coded_ℕ coded_ℕ)))))
+    (λ s. (s.0, (s.1.id, (s.1.title, (s.1.hidden, (s.1.rows, s.1.cols))))))
+    (λ p. (p.0, record { id = p.1.0; title = p.1.1.0; hidden = p.1.1.1.0; rows = p.1.1.1.1.0; cols = p.1.1.1.1.1 }))
+    (λ _. refl)

@@ -3,9 +3,11 @@ pub mod Found
 pub mod Titles
 pub mod ByName
 pub mod World
+pub mod Creating
 pub mod Rules
 pub mod Broken
 pub mod SheetRequests
 pub mod References
 pub mod Lines
 pub mod Losing
+pub mod SetProperties

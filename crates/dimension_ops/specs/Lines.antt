@@ -1,13 +1,14 @@
 -- Which rules a change of the lines of a sheet breaks, and what it makes of sizes (InsertDimensionRequest,
 -- DeleteDimensionRequest, MoveDimensionRequest and AppendDimensionRequest of the Google Sheets API v4 reference).
-use Rattle.std.specs.Prelude.{◌≡◌, ◌≤◌, ◌*◌, ◌∷◌, [], ℕ, false, List, None, Result, IsSomeAnd, OnErr, OnOk}
-use Rattle.std.specs.Prelude.{◌==◌, nat_lt, if◌then◌else◌}
+use Rattle.std.specs.Prelude.{◌≡◌, ◌≤◌, ◌*◌, ◌∷◌, [], ℕ, Bool, false, List, None, Result, IsSomeAnd, OnErr, OnOk}
+use Rattle.std.specs.Prelude.{◌==◌, ◌&&◌, nat_le, nat_lt, if◌then◌else◌}
 use Rattle.std.specs.List.{sum_by}
 use Rattle.std.specs.Option.{option_map, option_map_or}
 use Rattle.grid_range.specs.Change.{Fits, count_after}
 use Rattle.grid_range.specs.declared.axis.Axis.{Axis}
 use Rattle.grid_range.specs.declared.axis.Axis.TheVariants.{Rows, Columns}
 use Rattle.grid_range.specs.declared.change.Change.{Change}
+use Rattle.grid_range.specs.declared.change.Change.TheVariants.{Insert, Delete, Move}
 use Rattle.cell_store.specs.Moved.{GoesWithLines, lines_on, size_after}
 use Rattle.world_model.specs.Book.{PlaceBook}
 use Rattle.world_model.specs.BookChange.{BookChange, AreChanges}
@@ -23,6 +24,13 @@ use Rattle.dimension_ops.specs.declared.rule.Rule.{Rule}
 -- the lines of the sheet on the axis
 abbrev pub lines_of_sheet : Axis → PlaceSheet → ℕ
 lines_of_sheet axis sheet = lines_on axis sheet.table.rows sheet.table.cols
+
+-- where there are `count` lines, each stays where it is: lines come behind the last one, or some are moved to where
+-- they stand
+abbrev pub keeps_places : Change → ℕ → Bool
+keeps_places (Insert at inserted) count = at == count
+keeps_places (Delete start end) count = false
+keeps_places (Move start end to) count = nat_le start to && nat_le to end
 
 -- the limit of the lines on the axis
 abbrev pub limit_on : Axis → Limit

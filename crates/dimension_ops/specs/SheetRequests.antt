@@ -14,7 +14,7 @@ use Rattle.world_model.specs.Book.{PlaceBook}
 use Rattle.world_model.specs.BookChange.{AreChanges, BookChange, NewSheet}
 use Rattle.world_model.specs.Counts.{grid_places}
 use Rattle.world_model.specs.Sheet.{PlaceSheet}
-use Rattle.world_model.specs.SheetChange.{other_sheets}
+use Rattle.world_model.specs.SheetChange.{new_place_sheet, other_sheets}
 use Rattle.world_model.specs.Sound.{most_on, most_places, most_sheets, place_sheet_with}
 use Rattle.dimension_ops.specs.Broken.{Broken, Passes, first_broken, first_passed, unbroken}
 use Rattle.dimension_ops.specs.Titles.{sheet_titled}
@@ -108,10 +108,16 @@ sheet_added_broken properties sheets = record (size_added_broken (new_rows prope
   name_taken = is_taken (has_title sheets) properties.title;
 }
 
--- the spreadsheet has got the sheet with the id
+-- no other sheet can be the one that is added
+pub record NewSheetsOnce : Type 0 where
+  pub once : (properties : SheetProperties) (sheets : List PlaceSheet) (one other : NewSheet)
+      → IsNewSheet properties sheets one → IsNewSheet properties sheets other → one ≡ other
+
+-- the spreadsheet has got the sheet with the id, which is found by it
 abbrev pub IsSheetAdded : SheetProperties → PlaceBook → PlaceBook → ℕ → Type 0
 IsSheetAdded properties before after id =
     (new : NewSheet) × IsNewSheet properties before.sheets new × (id ≡ new.id)
+    × (place_sheet_with id after.sheets ≡ Some (new_place_sheet new))
     × AreChanges (BookChange.SheetAdded (new_place properties before.sheets) new ∷ []) before after
 
 -- ---- a sheet is deleted

@@ -10,6 +10,7 @@ ghost use Rattle.std.specs.Arc.{arc_value};
 ghost use Rattle.dimension_ops.specs.Found.{ArePlacesOf, content_at};
 ghost use Rattle.dimension_ops.specs.ByName.{WritesByName};
 ghost use Rattle.dimension_ops.specs.Titles.{sheet_titled, first_visible};
+ghost use Rattle.dimension_ops.specs.SheetRequests.{has_title};
 ghost use Rattle.dimension_ops.specs.World.{opening_book};
 ghost use Rattle.grid_range.specs.Change.{Fits, count_after};
 ghost use Rattle.world_model.specs.PlaceChange.{BookChanged};
@@ -77,7 +78,8 @@ impl Book {
         ensures { IfOk result (λ book. book ≡ opening_book) }
     {
         let title = Text::of(String::from_str(alloc, "Sheet1")?);
-        let sheets = only(alloc, Sheet::empty(alloc, 0, title, 1_000, 26))?;
+        let sheet = Sheet::empty(alloc, 0, title, 1_000, 26)?;
+        let sheets = only(alloc, sheet)?;
         let mut ids = Vec::new(alloc);
         ids.push(0)?;
         Ok(Book {
@@ -85,6 +87,38 @@ impl Book {
             id: Text::of(String::from_str(alloc, "book1")?),
             title: Text::of(String::from_str(alloc, "book1")?),
             owner: Text::of(String::from_str(alloc, "owner")?),
+            sheets,
+            ids: Items::of(ids),
+            names: Names::new(alloc),
+            protections: Protections::new(alloc),
+            metadata: Metadata::new(alloc),
+        })
+    }
+
+    /// The spreadsheet with these sheets.
+    ///
+    /// # Errors
+    ///
+    /// [`NoMemory`] where memory runs out.
+    pub(crate) fn with_sheets(
+        alloc: Global,
+        id: Text,
+        title: Text,
+        owner: Text,
+        sheets: Vec<Arc<Sheet>>,
+    ) -> Result<Book, NoMemory>
+        requires { IsSound (record { id = id; title = title; owner = owner; sheets = map arc_value sheets.items }) }
+        ensures { IfOk result (λ book. book ≡ record { id = id; title = title; owner = owner; sheets = map arc_value sheets.items }) }
+    {
+        let mut ids = Vec::new(alloc);
+        for sheet in &sheets {
+            ids.push(sheet.id())?;
+        }
+        Ok(Book {
+            alloc,
+            id,
+            title,
+            owner,
             sheets,
             ids: Items::of(ids),
             names: Names::new(alloc),
@@ -212,6 +246,15 @@ impl Book {
         self.sheets
             .iter()
             .all(|other| other.id() == sheet || other.hidden())
+    }
+
+    /// Whether a sheet but the one with the id has the title, whatever the case of its ASCII letters.
+    pub(crate) fn others_titled(&self, sheet: u32, title: &str) -> bool
+        ensures { result ≡ has_title (other_sheets sheet self.now.sheets) title.now }
+    {
+        self.sheets.iter().any(|other| {
+            other.id() != sheet && other.title().as_str().eq_ignore_ascii_case(title)
+        })
     }
 
     /// Takes the sheet with the id out, with each reference to it. A sheet without one isn't copied. While

@@ -24,7 +24,7 @@ use world_model::formulas_counted;
 /// All filled places of the cells, by rows.
 fn filled_places(cells: &Cells) -> Result<Vec<(u32, u32)>, NoMemory>
     ensures { IfOk result
-        (λ places. AreFilledPlaces (record { sheet = 0; rows = Whole; cols = Whole }) cells.now places.items) }
+        (λ places. AreFilledPlaces (record { sheet = 0; rows = Whole; cols = Whole }) cells.now.table places.items) }
 {
     let places = cells.places(&Area {
         sheet: 0,
@@ -36,7 +36,7 @@ fn filled_places(cells: &Cells) -> Result<Vec<(u32, u32)>, NoMemory>
 
 /// How many formulas the cells hold.
 pub(crate) fn count_formulas(cells: &Cells) -> Result<u64, NoMemory>
-    ensures { IfOk result (λ count. count ≡ formulas_in cells.now) }
+    ensures { IfOk result (λ count. count ≡ formulas_in cells.now.table) }
 {
     formulas_counted();
     tables_by_items::<Content>();
@@ -46,7 +46,7 @@ pub(crate) fn count_formulas(cells: &Cells) -> Result<u64, NoMemory>
 
 /// At how many of the places a formula stands.
 fn formulas_among(cells: &Cells, places: &[(u32, u32)]) -> u64
-    ensures { result ≡ count_by (is_formula_at cells.now) places.now }
+    ensures { result ≡ count_by (is_formula_at cells.now.table) places.now }
 {
     places
         .iter()
@@ -56,7 +56,7 @@ fn formulas_among(cells: &Cells, places: &[(u32, u32)]) -> u64
 
 /// Whether a formula stands at the place.
 fn is_formula_at(cells: &Cells, row: u32, column: u32) -> bool
-    ensures { result ≡ is_formula_at cells.now (row, column) }
+    ensures { result ≡ is_formula_at cells.now.table (row, column) }
 {
     match cells.get(row, column) {
         Some(content) => is_formula(content),
@@ -75,7 +75,7 @@ fn is_formula(content: &Content) -> bool
 
 /// The places of the formulas with a reference to the sheet, by rows.
 pub(crate) fn references(cells: &Cells, sheet: u32) -> Result<Vec<(u32, u32)>, NoMemory>
-    ensures { IfOk result (λ places. AreReferring sheet cells.now places.items) }
+    ensures { IfOk result (λ places. AreReferring sheet cells.now.table places.items) }
 {
     let mut places = filled_places(cells)?;
     places.retain(|place| refers_at(cells, place.0, place.1, sheet));
@@ -84,7 +84,7 @@ pub(crate) fn references(cells: &Cells, sheet: u32) -> Result<Vec<(u32, u32)>, N
 
 /// Whether a formula with a reference to the sheet stands at the place.
 fn refers_at(cells: &Cells, row: u32, column: u32, sheet: u32) -> bool
-    ensures { result ≡ refers_at sheet cells.now (row, column) }
+    ensures { result ≡ refers_at sheet cells.now.table (row, column) }
 {
     match cells.get(row, column) {
         Some(content) => refers_to(content, sheet),
@@ -130,10 +130,10 @@ pub(crate) fn follow_places(
 ) -> Result<(), NoMemory>
     requires fits { Fits by.now.change.now by.now.count }
     requires in_order { IsStrictlySortedBy by_rows places.now }
-    requires within { AreWithinOn by.now.sheet by.now.axis by.now.count cells.old }
-    ensures followed { OnOk result (cells.new
-        ≡ fold (followed_at by.now.sheet by.now.axis by.now.count by.now.change.now) cells.old places.now) }
-    ensures formulas_stay { formulas_in cells.new ≡ formulas_in cells.old }
+    requires within { AreWithinOn by.now.sheet by.now.axis by.now.count cells.old.table }
+    ensures followed { OnOk result (cells.new.table
+        ≡ fold (followed_at by.now.sheet by.now.axis by.now.count by.now.change.now) cells.old.table places.now) }
+    ensures formulas_stay { formulas_in cells.new.table ≡ formulas_in cells.old.table }
 {
     for place in places {
         follow_at(cells, place.0, place.1, by)?;
@@ -142,18 +142,28 @@ pub(crate) fn follow_places(
 }
 
 /// Has what stands at the place follow the change there.
+///
+/// # Errors
+///
+/// [`NoMemory`] where memory runs out; the cells are as they were.
 fn follow_at(cells: &mut Cells, row: u32, column: u32, by: &SheetChange) -> Result<(), NoMemory>
     requires fits { Fits by.now.change.now by.now.count }
-    requires within { IfSome (item_at cells.old row column) (IsContentWithinOn by.now.sheet by.now.axis by.now.count) }
-    ensures followed { OnOk result (cells.new
-        ≡ followed_at by.now.sheet by.now.axis by.now.count by.now.change.now cells.old (row, column)) }
-    ensures formulas_stay { formulas_in cells.new ≡ formulas_in cells.old }
+    requires within { IfSome (item_at cells.old.table row column) (IsContentWithinOn by.now.sheet by.now.axis by.now.count) }
+    ensures followed { OnOk result (cells.new.table
+        ≡ followed_at by.now.sheet by.now.axis by.now.count by.now.change.now cells.old.table (row, column)) }
+    ensures formulas_stay { formulas_in cells.new.table ≡ formulas_in cells.old.table }
 {
     formulas_counted();
-    if let Some(content) = cell_store::Grid::get_mut(cells, row, column) {
-        follow_content(content, by);
+    if cells.get(row, column).is_none() {
+        return Ok(());
     }
-    Ok(())
+    match cells.get_mut(row, column) {
+        Ok(content) => {
+            follow_content(content, by);
+            Ok(())
+        }
+        Err(no_memory) => Err(no_memory),
+    }
 }
 
 /// Has the references of a formula follow the change.

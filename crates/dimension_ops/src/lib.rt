@@ -2,18 +2,21 @@
 #![tactic(auto)]
 
 mod book;
+mod creating;
 mod following;
 mod laws;
 mod lines;
 mod losing;
+mod properties;
 mod rule;
 mod sheet;
 mod sheets;
 mod world;
 
 pub use book::Book;
-pub use laws::opening_stands;
+pub use laws::{new_sheets_once, opening_stands};
 pub use lines::{append_lines, change_sheet, insert_lines};
+pub use properties::set_properties;
 pub use rule::{Limit, Rule, RuleOr};
 pub use sheet::Sheet;
 pub use sheets::{add_sheet, drop_sheet};

@@ -11,7 +11,7 @@ ghost use Rattle.world_model.specs.PlaceChange.{SheetChanged};
 ghost use Rattle.world_model.specs.Sound.{place_sheet_with};
 ghost use Rattle.dimension_ops.specs.Broken.{first_broken, first_passed};
 ghost use Rattle.dimension_ops.specs.Lines.{IsLinesAnswer, IsUnbroken, SheetFollows};
-ghost use Rattle.dimension_ops.specs.Lines.{limit_on, lines_broken, lines_of_sheet, passes_size, places_changed};
+ghost use Rattle.dimension_ops.specs.Lines.{keeps_places, limit_on, lines_broken, lines_of_sheet, passes_size, places_changed};
 ghost use Rattle.dimension_ops.specs.References.{AreWithinOn, CanChange};
 ghost use Rattle.dimension_ops.specs.Rules.{IsUnlessNoMemory};
 ghost use Rattle.dimension_ops.specs.declared.rule.Rule.TheVariants.{PastLimit};
@@ -151,7 +151,7 @@ fn judge(book: &Book, sheet: u32, axis: Axis, change: &Change) -> Result<u32, Ru
 }
 
 /// The first limit that a sheet of that size passes, beside others with that many places in all.
-fn first_past(rows: u32, cols: u32, places: u64) -> Option<Limit>
+pub(crate) fn first_past(rows: u32, cols: u32, places: u64) -> Option<Limit>
     ensures { result ≡ first_passed (passes_size (rows, cols) places) }
 {
     if rows > MOST_ROWS {
@@ -230,7 +230,7 @@ fn sheet_changed(alloc: Global, sheet: Arc<Sheet>, by: &SheetChange) -> Result<A
 }
 
 /// The sheet whose lines are changed, after the change: its items went with their lines, and its formulas
-/// followed.
+/// followed, unless none changes.
 fn own_changed(alloc: Global, sheet: Sheet, by: &SheetChange) -> Result<Sheet, NoMemory>
     requires fits { Fits by.now.change.now by.now.count }
     requires own { sheet.id ≡ by.now.sheet }
@@ -238,6 +238,9 @@ fn own_changed(alloc: Global, sheet: Sheet, by: &SheetChange) -> Result<Sheet, N
     ensures { IfOk result (SheetChanged by.now.sheet by.now.axis by.now.count by.now.change.now sheet) }
 {
     let mut moved = sheet.moved(by.axis, by.change)?;
+    if keeps_places(by.change, by.count) {
+        return Ok(moved);
+    }
     let places = moved.references(alloc, by.sheet)?;
     moved.follow(&places, by)?;
     Ok(moved)
@@ -255,6 +258,9 @@ fn another_followed(
     ensures { IfOk result (λ followed.
         SheetFollows by.now.sheet by.now.axis by.now.count by.now.change.now (arc_value sheet) (arc_value followed)) }
 {
+    if keeps_places(by.change, by.count) {
+        return Ok(sheet);
+    }
     let places = sheet.references(alloc, by.sheet)?;
     if places.as_slice().is_empty() {
         return Ok(sheet);
@@ -262,6 +268,18 @@ fn another_followed(
     let mut own = owned(sheet)?;
     own.follow(&places, by)?;
     shared(alloc, own)
+}
+
+/// Whether each of so many lines stays where it is: lines come behind the last one, or some are moved to where
+/// they stand. No reference to them changes then.
+fn keeps_places(change: &Change, count: u32) -> bool
+    ensures { result ≡ keeps_places change.now count }
+{
+    match *change {
+        Change::Insert { at, .. } => at == count,
+        Change::Delete { .. } => false,
+        Change::Move { start, end, to } => start <= to && to <= end,
+    }
 }
 
 /// The sheet, or a copy of it where others share it.

@@ -1,6 +1,6 @@
 //! The references of formulas to a sheet that is deleted.
 
-ghost use Rattle.std.specs.Prelude.{◌≡◌, IfOk, map};
+ghost use Rattle.std.specs.Prelude.{◌≡◌, IfOk, OnOk, map};
 ghost use Rattle.std.specs.Arc.{arc_value};
 ghost use Rattle.std.specs.List.{AllZip, fold};
 ghost use Rattle.world_model.specs.Counts.{formulas_in};
@@ -8,7 +8,7 @@ ghost use Rattle.world_model.specs.SheetChange.{LosesReferences, content_without
 ghost use Rattle.dimension_ops.specs.Losing.{lost_at};
 
 use crate::sheet::{Cells, Sheet};
-use cell_store::Grid;
+use cell_store::CellStore;
 use cell_value::NoMemory;
 use ref_rewrite::{Content, lose_sheet};
 use std::alloc::Global;
@@ -47,28 +47,48 @@ fn sheet_left(alloc: Global, sheet: Arc<Sheet>, deleted: u32) -> Result<Arc<Shee
         return Ok(sheet);
     }
     let mut own = Arc::unwrap_or_clone(sheet)?;
-    own.lose(&places, deleted);
+    own.lose(&places, deleted)?;
     Ok(Arc::new(alloc, own)?)
 }
 
 /// Has the references to the sheet be lost that stand at the places.
-pub(crate) fn lose_places(cells: &mut Cells, places: &[(u32, u32)], sheet: u32)
-    ensures lost { cells.new ≡ fold (lost_at sheet) cells.old places.now }
-    ensures formulas_stay { formulas_in cells.new ≡ formulas_in cells.old }
+///
+/// # Errors
+///
+/// [`NoMemory`] where memory runs out; some of them are lost then.
+pub(crate) fn lose_places(
+    cells: &mut Cells,
+    places: &[(u32, u32)],
+    sheet: u32,
+) -> Result<(), NoMemory>
+    ensures lost { OnOk result (cells.new.table ≡ fold (lost_at sheet) cells.old.table places.now) }
+    ensures formulas_stay { formulas_in cells.new.table ≡ formulas_in cells.old.table }
 {
     for place in places {
-        lose_at(cells, place.0, place.1, sheet);
+        lose_at(cells, place.0, place.1, sheet)?;
     }
+    Ok(())
 }
 
 /// Has the references to the sheet be lost that stand at the place.
-fn lose_at(cells: &mut Cells, row: u32, column: u32, sheet: u32)
-    ensures lost { cells.new ≡ lost_at sheet cells.old (row, column) }
-    ensures formulas_stay { formulas_in cells.new ≡ formulas_in cells.old }
+///
+/// # Errors
+///
+/// [`NoMemory`] where memory runs out; the cells are as they were.
+fn lose_at(cells: &mut Cells, row: u32, column: u32, sheet: u32) -> Result<(), NoMemory>
+    ensures lost { OnOk result (cells.new.table ≡ lost_at sheet cells.old.table (row, column)) }
+    ensures formulas_stay { formulas_in cells.new.table ≡ formulas_in cells.old.table }
 {
     formulas_counted();
-    if let Some(content) = cells.get_mut(row, column) {
-        lose_in(content, sheet);
+    if cells.get(row, column).is_none() {
+        return Ok(());
+    }
+    match cells.get_mut(row, column) {
+        Ok(content) => {
+            lose_in(content, sheet);
+            Ok(())
+        }
+        Err(no_memory) => Err(no_memory),
     }
 }
 

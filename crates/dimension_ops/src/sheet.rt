@@ -13,17 +13,18 @@ ghost use Rattle.dimension_ops.specs.Lines.{SheetFollows, SheetMoves};
 use crate::following::{count_formulas, follow_places, references};
 use crate::losing::lose_places;
 use basic_filter::Filter;
-use cell_store::{CellStore, TreeGrid, tables_by_items};
+use cell_store::{CellStore, tables_by_items};
 use cell_value::{Duplicate, Items, NoMemory, Text};
 use grid_range::{Area, Axis, Change, SheetChange};
 use merge_ranges::Merges;
 use ref_rewrite::Content;
+use shared_grid::SharedGrid;
 use std::alloc::{AllocError, Global};
 use std::marker::Model;
 use world_model::formulas_counted;
 
 /// What the cells of a sheet stand in.
-pub(crate) type Cells = TreeGrid<Content>;
+pub(crate) type Cells = SharedGrid<Content>;
 
 /// A sheet of a spreadsheet (Sheets API v4 reference, Sheet).
 #[derive(Drop)]
@@ -47,27 +48,38 @@ impl Model for Sheet {
 
     ghost coded = { sheet_code };
 
-    ghost view = { λ s. record { id = s.id; title = s.title; hidden = s.hidden; table = s.cells } };
+    ghost view = { λ s. record { id = s.id; title = s.title; hidden = s.hidden; table = s.cells.table } };
 
-    ghost invariant = { λ s. (s.formulas ≡ formulas_in s.cells) × (s.merges ≡ []) × (s.filter ≡ None) };
+    ghost invariant = { λ s. (s.formulas ≡ formulas_in s.cells.table) × (s.merges ≡ []) × (s.filter ≡ None) };
 }
 
 impl Sheet {
-    /// An empty sheet of that size. It takes no memory.
-    pub(crate) fn empty(alloc: Global, id: u32, title: Text, rows: u32, cols: u32) -> Sheet
+    /// An empty sheet of that size.
+    ///
+    /// # Errors
+    ///
+    /// [`NoMemory`] where memory runs out.
+    pub(crate) fn empty(
+        alloc: Global,
+        id: u32,
+        title: Text,
+        rows: u32,
+        cols: u32,
+    ) -> Result<Sheet, NoMemory>
         requires { rows + cols ≤ most_lines }
-        ensures { result ≡ record { id = id; title = title; hidden = Rattle.std.specs.Prelude.false; table = empty_table rows cols } }
+        ensures { IfOk result (λ sheet. sheet
+            ≡ record { id = id; title = title; hidden = Rattle.std.specs.Prelude.false; table = empty_table rows cols }) }
     {
         formulas_counted();
-        Sheet {
+        Ok(Sheet {
             id,
             title,
             hidden: false,
-            cells: TreeGrid::new(alloc, rows, cols),
+            cells: SharedGrid::new(alloc, rows, cols)?,
             formulas: 0,
             merges: Merges::new(alloc),
             filter: None,
-        }
+        })
     }
 
     /// The sheet's id.
@@ -249,18 +261,23 @@ impl Sheet {
     }
 
     /// Has the references of those formulas to the sheet with the id be lost.
-    pub(crate) fn lose(&mut self, places: &[(u32, u32)], sheet: u32)
+    ///
+    /// # Errors
+    ///
+    /// [`NoMemory`] where memory runs out; the sheet is to be given up then.
+    pub(crate) fn lose(&mut self, places: &[(u32, u32)], sheet: u32) -> Result<(), NoMemory>
         requires places { AreReferring sheet self.old.table places.now }
-        ensures { LosesReferences sheet self.old self.new }
+        ensures { OnOk result (LosesReferences sheet self.old self.new) }
     {
-        lose_places(&mut self.cells, places, sheet);
+        lose_places(&mut self.cells, places, sheet)?;
+        Ok(())
     }
 }
 
 /// How many formulas the cells hold, of which they held that many before; without any they aren't walked.
 fn counted_again(cells: &Cells, before: u64) -> Result<u64, NoMemory>
-    requires { before ≡ 0 → formulas_in cells.now ≡ 0 }
-    ensures { IfOk result (λ count. count ≡ formulas_in cells.now) }
+    requires { before ≡ 0 → formulas_in cells.now.table ≡ 0 }
+    ensures { IfOk result (λ count. count ≡ formulas_in cells.now.table) }
 {
     if before == 0 {
         return Ok(0);
@@ -288,11 +305,11 @@ fn exchange(
     column: u32,
     content: Option<Content>,
 ) -> Result<Option<Content>, NoMemory>
-    requires inside { HasPlace cells.old row column }
-    requires room { filled_places cells.old < most_filled }
-    ensures old { IfOk result (λ old. old ≡ item_at cells.old row column) }
-    ensures put { OnOk result (cells.new ≡ table_written row column content cells.old) }
-    ensures unchanged { OnErr result (cells.new ≡ cells.old) }
+    requires inside { HasPlace cells.old.table row column }
+    requires room { filled_places cells.old.table < most_filled }
+    ensures old { IfOk result (λ old. old ≡ item_at cells.old.table row column) }
+    ensures put { OnOk result (cells.new.table ≡ table_written row column content cells.old.table) }
+    ensures unchanged { OnErr result (cells.new.table ≡ cells.old.table) }
 {
     match content {
         Some(content) => match cells.put(row, column, content) {

@@ -24,7 +24,7 @@ use cell_value::{Duplicate, NoMemory, SheetProperties, Text};
 use world_model::{sheets_added, sheets_deleted};
 
 /// How many sheets a spreadsheet can have.
-const MOST_SHEETS: u32 = 200;
+pub(crate) const MOST_SHEETS: u32 = 200;
 
 /// How many rows a sheet can have.
 pub(crate) const MOST_ROWS: u32 = 1_000_000;
@@ -171,14 +171,14 @@ fn first_passed(sheets: u32, rows: u32, cols: u32, places: u64) -> Option<Limit>
 }
 
 /// How many rows a new sheet has.
-fn new_rows(properties: &SheetProperties) -> u32
+pub(crate) fn new_rows(properties: &SheetProperties) -> u32
     ensures { result ≡ new_rows properties.now }
 {
     properties.rows.unwrap_or(1_000)
 }
 
 /// How many columns a new sheet has.
-fn new_cols(properties: &SheetProperties) -> u32
+pub(crate) fn new_cols(properties: &SheetProperties) -> u32
     ensures { result ≡ new_cols properties.now }
 {
     properties.cols.unwrap_or(26)
@@ -226,7 +226,7 @@ fn has_title(book: &Book, title: &str) -> bool
 }
 
 /// Whether a given title may not be one.
-fn is_bad_title(given: &Option<Text>) -> bool
+pub(crate) fn is_bad_title(given: &Option<Text>) -> bool
     ensures { result ≡ is_bad_title given.now }
 {
     match given {
@@ -263,7 +263,7 @@ fn new_sheet(book: &Book, properties: &SheetProperties) -> Result<Sheet, NoMemor
     let title = new_title(book, &properties.title)?;
     let rows = new_rows(properties);
     let cols = new_cols(properties);
-    let mut sheet = Sheet::empty(book.allocator(), id, title, rows, cols);
+    let mut sheet = Sheet::empty(book.allocator(), id, title, rows, cols)?;
     sheet.set_hidden(properties.hidden.unwrap_or(false));
     Ok(sheet)
 }
@@ -282,7 +282,7 @@ fn new_id(book: &Book, given: Option<u32>) -> Result<u32, NoMemory>
 fn least_id(book: &Book) -> Result<u32, NoMemory>
     ensures { IfOk result (IsLeastId book.now.sheets) }
 {
-    for id in 0..u32::MAX {
+    for id in 0..=MOST_SHEETS {
         if !has_id(book, id) {
             return Ok(id);
         }
@@ -305,7 +305,7 @@ fn new_title(book: &Book, given: &Option<Text>) -> Result<Text, NoMemory>
 fn first_title(book: &Book) -> Result<Text, NoMemory>
     ensures { IfOk result (IsFirstTitle book.now.sheets) }
 {
-    for number in 1..u64::MAX {
+    for number in 1..=MOST_SHEETS + 1 {
         let title = format!(in book.allocator(); "Sheet{number}")?;
         if !has_title(book, title.as_str()) {
             return Ok(Text::of(title));

@@ -1,3 +1,4 @@
+use crate::appends::{APPENDS, NO_APPENDS};
 use crate::batches::{
     A_HUNDRED, AFTER_A_HUNDRED, FIFTH_BATCHES, FIRST_BATCHES, FOURTH_BATCHES, LAST_OF_A_HUNDRED,
     SECOND_BATCHES, SEVENTH_BATCHES, SIXTH_BATCHES, THIRD_BATCHES,
@@ -8,6 +9,7 @@ use crate::rows::{
     BAD_REQUEST, CHANGES, CONVERSATIONS, Conversation, Exchange, FORMULAS, LIMITS, LISTS,
     LONG_HEADS, LOOKS, LongHead, NO_CALLS, OK, RANGES, TYPED, USERS, WRITES, WRITES_TO_LISTS,
 };
+use crate::sheets::{ADDED_SHEETS, PROPERTIES, REFUSED_PROPERTIES, REFUSED_SHEETS};
 use cell_value::{Bytes, Items};
 use sheets_cli::{cut_off_laws, reply_laws, sheets_main};
 use sheets_http::{MemorySink, MemorySource};
@@ -137,6 +139,20 @@ fn reads_and_clears_several_ranges(rt: HostRuntime) {
 }
 
 #[test]
+fn appends_values(rt: HostRuntime) {
+    for row in &APPENDS {
+        check(&rt, &row.3, is_answered(&rt, row));
+    }
+}
+
+#[test]
+fn refuses_appends(rt: HostRuntime) {
+    for row in &NO_APPENDS {
+        check(&rt, &row.3, is_answered(&rt, row));
+    }
+}
+
+#[test]
 fn shows_spreadsheets(rt: HostRuntime) {
     for row in &LOOKS {
         check(&rt, &row.3, is_answered(&rt, row));
@@ -237,6 +253,34 @@ fn follows_columns(rt: HostRuntime) {
 #[test]
 fn changes_rows_and_columns(rt: HostRuntime) {
     for row in &LINES {
+        check(&rt, &row.3, is_answered(&rt, row));
+    }
+}
+
+#[test]
+fn adds_sheets(rt: HostRuntime) {
+    for row in &ADDED_SHEETS {
+        check(&rt, &row.3, is_answered(&rt, row));
+    }
+}
+
+#[test]
+fn refuses_sheets(rt: HostRuntime) {
+    for row in &REFUSED_SHEETS {
+        check(&rt, &row.3, is_answered(&rt, row));
+    }
+}
+
+#[test]
+fn sets_properties(rt: HostRuntime) {
+    for row in &PROPERTIES {
+        check(&rt, &row.3, is_answered(&rt, row));
+    }
+}
+
+#[test]
+fn refuses_properties(rt: HostRuntime) {
+    for row in &REFUSED_PROPERTIES {
         check(&rt, &row.3, is_answered(&rt, row));
     }
 }

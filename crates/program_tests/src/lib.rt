@@ -7,6 +7,8 @@
 #![tactic(auto)]
 
 #[cfg(test)]
+mod appends;
+#[cfg(test)]
 mod batches;
 #[cfg(test)]
 mod common;
@@ -16,5 +18,7 @@ mod conversations;
 mod lines;
 #[cfg(test)]
 mod rows;
+#[cfg(test)]
+mod sheets;
 #[cfg(test)]
 mod system;

@@ -47,7 +47,7 @@ module _ (books : List PlaceBook) (route : Route) (there : IsSome (book_with rou
   by_verb_on verb.Batch body = said (calls.many_asked route) _ (λ steps. each steps (calls.batch_call route steps) there)
   by_verb_on verb.Read body = bare body (Ok (calls.read_call route)) there
   by_verb_on verb.Write body = said (λ values. Ok (calls.write_call route values)) _ (λ _. there)
-  by_verb_on verb.Append body = said (λ values. Ok (calls.append_call route values)) _ (λ _. tt)
+  by_verb_on verb.Append body = said (λ values. Ok (calls.append_call route values)) _ (λ _. there)
   by_verb_on verb.Clear body = cleared body
   by_verb_on verb.ReadMany body =
       bare body (calls.many_read route (calls.ranges_of route))

@@ -45,6 +45,7 @@ is_served verb.Batch = true
 is_served verb.Read = true
 is_served verb.ReadMany = true
 is_served verb.Write = true
+is_served verb.Append = true
 is_served verb.WriteMany = true
 is_served verb.Clear = true
 is_served verb.ClearMany = true

@@ -145,6 +145,7 @@ fn is_served(verb: Verb) -> bool
             | Verb::Read
             | Verb::ReadMany
             | Verb::Write
+            | Verb::Append
             | Verb::WriteMany
             | Verb::Clear
             | Verb::ClearMany

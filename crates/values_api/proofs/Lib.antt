@@ -18,7 +18,9 @@ pub mod WriteEnds
 pub mod AreaText
 pub mod Told
 pub mod SameLines
+pub mod Kept
 pub mod WriteOnce
+pub mod AppendOnce
 pub mod Between
 pub mod Growing
 pub mod Stored

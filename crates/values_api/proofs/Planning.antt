@@ -1,6 +1,7 @@
 -- What an append is judged by before anything is changed, and what becomes of it.
-use Rattle.std.proofs.Common.{◌≡◌, ℕ, ◌+◌, ◌<◌, ◌≤◌, List, [], ◌∷◌, refl, sym, subst, ap, ◌∙◌, Bool, true, false, arith}
-use Rattle.std.specs.Prelude.{Option, Some, None, Result, Ok, Err, IsSomeAnd}
+use Rattle.std.proofs.Common.{◌≡◌, ℕ, ◌+◌, ◌++◌, ◌<◌, ◌≤◌, List, [], ◌∷◌, refl, sym, subst, ap, ◌∙◌, Bool, true, false, arith}
+use Rattle.std.specs.Prelude.{Option, Some, None, Result, Ok, Err, IfSome, IsSomeAnd, OnOk}
+use Rattle.std.specs.List.{AllZip}
 use Rattle.std.specs.Option.{option_map}
 use Rattle.cell_value.specs.declared.cell.Block.{Block}
 use Rattle.grid_range.specs.Area.{AreaWithin}
@@ -11,11 +12,12 @@ use Rattle.grid_range.specs.declared.band.Band.{Band}
 use Rattle.grid_range.specs.declared.band.Band.TheVariants.{Whole, From, Span}
 use Rattle.cell_store.specs.Table.{HasItemsInside, most_lines}
 use Rattle.world_model.specs.Book.{PlaceBook}
-use Rattle.world_model.specs.BookChange.{BookChange}
+use Rattle.world_model.specs.BookChange.{AreChanges, BookChange}
 use Rattle.world_model.specs.ChangingLaws.{ChangesInTurn, UpdatesAreChanges}
 use Rattle.world_model.specs.Laws.{size_of}
 use Rattle.world_model.specs.Sheet.{PlaceSheet}
 use Rattle.world_model.specs.Sound.{IsSheetSound, IsSound, most_on, most_places, place_sheet_with}
+use Rattle.world_model.specs.Updating.{SheetUpdated, Updates}
 use Rattle.dimension_ops.specs.Rules.{IsUnlessNoMemory}
 use Rattle.dimension_ops.specs.declared.rule.Limit.{Limit}
 use Rattle.dimension_ops.specs.declared.rule.Rule.{Rule}
@@ -30,8 +32,9 @@ use Rattle.values_api.specs.Appending.{AreAdded, CanAdd, IsPlan, IsPlanOf, Start
 use Rattle.values_api.specs.Appends.{IsAppend, IsAppendUnless, IsAppended, answer_with, cell_area, changes_of, limit_passed, lines_added, places_added, size_added, start_of, table_area}
 use Rattle.values_api.specs.Blocks.{IsWrite, contents_of}
 use Rattle.values_api.specs.Ranges.{IsThere}
-use Rattle.values_api.specs.Tables.{IsTableIn}
+use Rattle.values_api.specs.Tables.{IsLastOf, IsStored, IsTable, IsTableIn, LiesWithin}
 use Rattle.values_api.proofs.Finding.{some_and, sound_sheet}
+use Rattle.values_api.proofs.Kept.{stays_there}
 use Rattle.values_api.proofs.Sizes.{all_within, found_id}
 
 -- ---- where the values begin
@@ -41,6 +44,38 @@ first_within Whole count some within = some
 first_within (From start) count some within = within
 first_within (Span start end) count some within = omega arith
 
+abbrev whole_of : PlaceSheet → Rectangle
+whole_of sheet = record { top = 0; bottom = sheet.table.rows; left = 0; right = sheet.table.cols }
+
+-- a table lies in its sheet
+least_inside : (area : Area) (sheet : PlaceSheet) → HasItemsInside sheet.table → (row col : ℕ)
+    → IsLastOf area sheet.table row col → (table : Rectangle) → IsTable (IsStored sheet.table) row col table
+    → LiesWithin table (whole_of sheet)
+least_inside area sheet inside row col last table is =
+    let its = inside row col last.stored in
+    is.least (whole_of sheet) (record { top = omega arith; bottom = its.0; left = omega arith; right = its.1 })
+    (λ r c stored near. record {
+      top = omega arith;
+      bottom = (inside r c stored).0;
+      left = omega arith;
+      right = (inside r c stored).1;
+    })
+
+-- the table of a sheet that isn't greater lies in the one with the id
+table_within : (id : ℕ) (sheets : List PlaceSheet) (own : PlaceSheet) → place_sheet_with id sheets ≡ Some own
+    → (table : Option Rectangle) (area : Area) (sheet : PlaceSheet) → HasItemsInside sheet.table
+    → IsTableIn area sheet.table table → sheet.table.rows ≤ own.table.rows → sheet.table.cols ≤ own.table.cols
+    → IfSome (option_map (table_area id) table) (IsThere sheets)
+table_within id sheets own there None area sheet inside found rows cols = tt
+table_within id sheets own there (Some table) area sheet inside (row, col, last, is) rows cols =
+    let least = least_inside area sheet inside row col last table is in
+    let has = is.has_cell in
+    subst (λ o. IsSomeAnd o (λ (one : PlaceSheet). AreaWithin (table_area id table) one.table.rows one.table.cols))
+    (sym there) (
+      (omega (arith, has.top, has.bottom), omega (arith, least.bottom, rows)),
+      (omega (arith, has.left, has.right), omega (arith, least.right, cols)),
+    )
+
 starts_inside : (table : Option Rectangle) (area : Area) (sheet : PlaceSheet) → 0 < sheet.table.rows → 0 < sheet.table.cols
     → HasItemsInside sheet.table → AreaWithin area sheet.table.rows sheet.table.cols → IsTableIn area sheet.table table
     → StartsInside (start_of table area) sheet
@@ -49,14 +84,7 @@ starts_inside None area sheet rows cols inside within found =
     record { row = omega (arith, row); col = first_within area.cols sheet.table.cols cols within.1 }
 starts_inside (Some table) area sheet rows cols inside within (row, col, last, is) =
     let its = inside row col last.stored in
-    let whole : Rectangle = record { top = 0; bottom = sheet.table.rows; left = 0; right = sheet.table.cols } in
-    let least = is.least whole (record { top = omega arith; bottom = its.0; left = omega arith; right = its.1 })
-    (λ r c stored near. record {
-      top = omega arith;
-      bottom = (inside r c stored).0;
-      left = omega arith;
-      right = (inside r c stored).1;
-    }) in
+    let least = least_inside area sheet inside row col last table is in
     let has = is.has_cell in
     record { row = least.bottom; col = omega (arith, has.left, its.1) }
 
@@ -168,14 +196,26 @@ module _ (insert : Bool) (area : Area) (block : Block) (sheets : List PlaceSheet
   pub few_cols : plan.start.1 < most_on Columns
   few_cols = let can = can_add in let col = is_of.inside.col in omega (arith, col, can.cols)
 
+  -- so is the table
+  pub table_there : (before between : PlaceBook) → IsSheetSound sheets sheet
+      → AreAdded area.sheet plan.added sheet before between
+      → IfSome (option_map (table_area area.sheet) plan.table) (IsThere between.sheets)
+  table_there before between sound added =
+      let (own, found, size) = some_and (λ (one : PlaceSheet). size_of one ≡ size_added plan.added sheet)
+      (place_sheet_with area.sheet between.sheets) added.size in
+      let rows : own.table.rows ≡ sheet.table.rows + plan.added.rows = ap (λ (s : ℕ × ℕ). s.0) size in
+      let cols : own.table.cols ≡ sheet.table.cols + plan.added.cols = ap (λ (s : ℕ × ℕ). s.1) size in
+      table_within area.sheet between.sheets own found plan.table area sheet sound.inside is_of.found
+      (omega (arith, rows)) (omega (arith, cols))
+
   -- ---- the append
 
   module _ (turn : ChangesInTurn) (updates : UpdatesAreChanges) (before between after : PlaceBook)
       (same : before.sheets ≡ sheets) (added : AreAdded area.sheet plan.added sheet before between) where
-    planned_with : (answer : Result (Option Area × Written) Rule)
-        → IsAppended area.sheet plan.added plan.start block plan.table before after answer
-        → IsAppend insert area block sheet before after answer
-    planned_with answer done =
+    planned_with : (changes : List BookChange) (answer : Result (Option Area × Written) Rule)
+        → IsAppended area.sheet plan.added plan.start block plan.table changes before after answer
+        → OnOk answer (AreChanges changes before after) → IsAppend insert area block sheet before after answer
+    planned_with changes answer done made =
         let is = is_of in
         let start : plan.start ≡ start_of plan.table area = is.start in
         let lines : plan.added ≡ lines_added insert (start_of plan.table area) block sheet =
@@ -183,18 +223,26 @@ module _ (insert : Bool) (area : Area) (block : Block) (sheets : List PlaceSheet
         record {
           table = plan.table;
           found = is.found;
+          changes = changes;
           appended =
               subst (λ (a : Added). IsAppendUnless (limit_passed a sheet before.sheets)
-              (IsAppended area.sheet a (start_of plan.table area) block plan.table before after answer) answer) lines
+              (IsAppended area.sheet a (start_of plan.table area) block plan.table changes before after answer) changes answer) lines
               (subst (λ limit. IsAppendUnless limit
-              (IsAppended area.sheet plan.added (start_of plan.table area) block plan.table before after answer) answer)
+              (IsAppended area.sheet plan.added (start_of plan.table area) block plan.table changes before after answer) changes answer)
               (sym (ap (λ (list : List PlaceSheet). limit_passed plan.added sheet list) same ∙ no_limit))
-              (subst (λ (s : ℕ × ℕ). IsAppended area.sheet plan.added s block plan.table before after answer) start done));
+              (subst (λ (s : ℕ × ℕ). IsAppended area.sheet plan.added s block plan.table changes before after answer) start done));
+          made = made;
         }
 
     module _ (own : PlaceSheet) (found : place_sheet_with area.sheet between.sheets ≡ Some own) where
-      wrote : (written : Written) → IsWrite true (cell_area area.sheet plan.start) block own between after (Ok written)
-          → IsAppended area.sheet plan.added plan.start block plan.table before after
+      abbrev made_of : {told : Result Written Rule}
+          → IsWrite true (cell_area area.sheet plan.start) block own between after told → List BookChange
+      made_of write = changes_of area.sheet plan.added
+          ++ BookChange.CellsUpdated area.sheet (contents_of write.entries) ∷ []
+
+      wrote : (written : Written)
+          → (write : IsWrite true (cell_area area.sheet plan.start) block own between after (Ok written))
+          → IsAppended area.sheet plan.added plan.start block plan.table (made_of write) before after
           (Ok (answer_with area.sheet plan.table written))
       wrote written write = record {
         between = between;
@@ -204,13 +252,12 @@ module _ (insert : Bool) (area : Area) (block : Block) (sheets : List PlaceSheet
         told = Ok written;
         write = write;
         answered = refl;
-        changes = turn.both (changes_of area.sheet plan.added)
-            (BookChange.CellsUpdated area.sheet (contents_of write.entries) ∷ []) before between after added.changes
-            (updates.changes between after area.sheet (contents_of write.entries) write.updated.places.id write.updated.names);
+        changes_are = refl;
       }
 
-      refused : (rule : Rule) → IsWrite true (cell_area area.sheet plan.start) block own between after (Err rule)
-          → IsAppended area.sheet plan.added plan.start block plan.table before after (Err rule)
+      refused : (rule : Rule)
+          → (write : IsWrite true (cell_area area.sheet plan.start) block own between after (Err rule))
+          → IsAppended area.sheet plan.added plan.start block plan.table (made_of write) before after (Err rule)
       refused rule write = record {
         between = between;
         lines = added.changes;
@@ -219,7 +266,7 @@ module _ (insert : Bool) (area : Area) (block : Block) (sheets : List PlaceSheet
         told = Err rule;
         write = write;
         answered = refl;
-        changes = tt;
+        changes_are = refl;
       }
 
     pub append_told : (written : Written)
@@ -230,7 +277,11 @@ module _ (insert : Bool) (area : Area) (block : Block) (sheets : List PlaceSheet
         let (own, found, its) = some_and
         (λ own. IsWrite true (cell_area area.sheet plan.start) block own between after (Ok written))
         (place_sheet_with area.sheet between.sheets) write in
-        planned_with (Ok (answer_with area.sheet plan.table written)) (wrote own found written its)
+        planned_with (made_of own found its) (Ok (answer_with area.sheet plan.table written))
+        (wrote own found written its)
+        (turn.both (changes_of area.sheet plan.added)
+        (BookChange.CellsUpdated area.sheet (contents_of its.entries) ∷ []) before between after added.changes
+        (updates.changes between after area.sheet (contents_of its.entries) its.updated.places.id its.updated.names))
 
     pub append_refused : (fault : RuleOr)
         → IsSomeAnd (place_sheet_with area.sheet between.sheets)
@@ -240,10 +291,17 @@ module _ (insert : Bool) (area : Area) (block : Block) (sheets : List PlaceSheet
         let (own, found, its) = some_and
         (λ own. IsWrite true (cell_area area.sheet plan.start) block own between after (Err rule))
         (place_sheet_with area.sheet between.sheets) write in
-        planned_with (Err rule) (refused own found rule its)
+        planned_with (made_of own found its) (Err rule) (refused own found rule its) tt
     append_refused refusal.NoMemory write = tt
 
 -- ---- from what is found
+
+stays_if : (number : ℕ) (updates : Updates) (before after : List PlaceSheet)
+    → AllZip (SheetUpdated number updates) before after → (area : Option Area) → IfSome area (IsThere before)
+    → IfSome area (IsThere after)
+stays_if number updates before after updated None there = tt
+stays_if number updates before after updated (Some area) there =
+    stays_there number updates area before after updated there
 
 module _ (insert : Bool) (area : Area) (block : Block) (before : PlaceBook) (plan : Plan)
     (made : IsSomeAnd (place_sheet_with area.sheet before.sheets)
@@ -274,6 +332,23 @@ module _ (insert : Bool) (area : Area) (block : Block) (before : PlaceBook) (pla
         let (sheet, there, its) = the_sheet in
         cell_there insert area block before.sheets plan sheet there its before between
         (subst (λ o. IsSomeAnd o (λ own. AreAdded area.sheet plan.added own before between)) there added)
+
+    -- the table stays where it is when the values are written
+    pub table_stays : IsSound before → (after : PlaceBook) (written : Written) (table : Option Area)
+        → table ≡ option_map (table_area area.sheet) plan.table
+        → IsSomeAnd (place_sheet_with area.sheet between.sheets)
+        (λ own. IsWrite true (cell_area area.sheet plan.start) block own between after (Ok written))
+        → IfSome table (IsThere after.sheets)
+    table_stays sound after written table is write =
+        let (sheet, there, its) = the_sheet in
+        let (own, found, wrote) = some_and
+        (λ own. IsWrite true (cell_area area.sheet plan.start) block own between after (Ok written))
+        (place_sheet_with area.sheet between.sheets) write in
+        stays_if area.sheet (contents_of wrote.entries) between.sheets after.sheets wrote.updated.places.sheets table
+        (subst (λ (t : Option Area). IfSome t (IsThere between.sheets)) (sym is)
+        (table_there insert area block before.sheets plan sheet there its before between
+        (sound_sheet before sound area.sheet sheet there)
+        (subst (λ o. IsSomeAnd o (λ own. AreAdded area.sheet plan.added own before between)) there added)))
 
     module _ (turn : ChangesInTurn) (updates : UpdatesAreChanges) (after : PlaceBook) where
       pub done_told : (written : Written) (table : Option Area) → table ≡ option_map (table_area area.sheet) plan.table

@@ -19,7 +19,7 @@ use Rattle.dimension_ops.specs.declared.rule.Rule.TheVariants.{PastLimit, Values
 use Rattle.dimension_ops.specs.declared.rule.RuleOr.{RuleOr}
 use Rattle.dimension_ops.specs.declared.rule.RuleOr.TheVariants as refusal
 use Rattle.values_api.specs.Blocks.{Entry, AreEntries, end_row, end_col, given_value, input_at, lies_in, rows_needed, cols_needed, area_written}
-use Rattle.values_api.specs.Blocks.{broken_by_formulas, broken_by_write, most_formulas, most_stored, rule_of_limit, IsWrite, IsWritten}
+use Rattle.values_api.specs.Blocks.{broken_by_formulas, broken_by_write, contents_of, most_formulas, most_stored, rule_of_limit, IsWrite, IsWritten}
 use Rattle.values_api.specs.Given.{HasRoom, IsWithinSheet, IsDone, first_row, first_col, fits_by}
 use Rattle.values_api.specs.Ranges.{IsThere}
 use Rattle.values_api.specs.Sheets.{formula_sheets}
@@ -28,6 +28,7 @@ use Rattle.values_api.specs.declared.writing.Written.{Written}
 use Rattle.values_api.proofs.Ends.{end_small}
 use Rattle.values_api.proofs.Finding.{some_and, sound_sheet}
 use Rattle.values_api.proofs.GivenCount.{fit_parts}
+use Rattle.values_api.proofs.Kept.{stays_there}
 
 pub first_before : (band : Band) (count : ℕ) → Within band count → 0 < count → first_line band < end_line band count
 first_before Whole count within some = some
@@ -183,9 +184,9 @@ module _ (given : Given) (one_cell : Bool) (book : PlaceBook) where
         (unless (IsDone given book after) (IsWrite one_cell area given.block.now sheet book after) (write_done after) answer is)
 
     -- the rectangle of what is written is on the sheet
-    pub written_there : (after : PlaceBook) (answer : Result Written RuleOr)
+    was_there : (after : PlaceBook) (answer : Result Written RuleOr)
         → IsUnlessNoMemory (IsDone given book after) answer → IfOk answer (λ written. IsThere book.sheets written.area)
-    written_there after (Ok written) is =
+    was_there after (Ok written) is =
         let fit : fits_by given ≡ true =
         fits_from (nat_lt most_stored (filled_of after.sheets)) (nat_lt most_formulas (formulas_of after.sheets))
         (fits_by given) is.limit is.answered.0 in
@@ -202,5 +203,13 @@ module _ (given : Given) (one_cell : Bool) (book : PlaceBook) where
         subst (IsThere book.sheets) (sym is.answered.1.area_is)
         (subst (λ found. IsSomeAnd found (λ (one : PlaceSheet). AreaWithin (area_written area given.block.now)
         one.table.rows one.table.cols)) (sym has_sheet.found) inside)
+    was_there after (Err (refusal.Rule rule)) is = tt
+    was_there after (Err refusal.NoMemory) is = tt
+
+    pub written_there : (after : PlaceBook) (answer : Result Written RuleOr)
+        → IsUnlessNoMemory (IsDone given book after) answer → IfOk answer (λ written. IsThere after.sheets written.area)
+    written_there after (Ok written) is =
+        stays_there area.sheet (contents_of is.put.entries) written.area book.sheets after.sheets
+        is.put.updated.places.sheets (was_there after (Ok written) is)
     written_there after (Err (refusal.Rule rule)) is = tt
     written_there after (Err refusal.NoMemory) is = tt

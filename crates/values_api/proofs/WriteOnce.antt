@@ -20,6 +20,7 @@ use Rattle.values_api.specs.Updates.{AreUpdated}
 use Rattle.values_api.specs.declared.writing.Written.{Written}
 use Rattle.values_api.proofs.Entering.{entries_once}
 use Rattle.values_api.proofs.FirstPassed.{first_once}
+use Rattle.values_api.proofs.Kept.{kept_sheet}
 use Rattle.values_api.proofs.SameLines.{same_lines}
 
 some_same : {A : Type 0} (one other : A) → Some one ≡ Some other → one ≡ other
@@ -74,7 +75,12 @@ module _ (some_names : StandsForSome) (apart : StandsForApart) where
       let (names, stands) = some_names.stands before sound in (is.names names stands).sound
 
   pub updates_once : UpdatesOnce
-  updates_once = record { once = updated_once; sound = updated_sound }
+  updates_once = record {
+    once = updated_once;
+    sound = updated_sound;
+    kept = λ sheet updates before after id own is found.
+        kept_sheet sheet updates id before.sheets after.sheets is.places.sheets own found;
+  }
 
 module _ (reads_once : IsReadOnce) (some_names : StandsForSome) (apart : StandsForApart) where
   write_once : (one_cell : Bool) (area : Area) (block : Block) (sheet : PlaceSheet) (before after after' : PlaceBook)

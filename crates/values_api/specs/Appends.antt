@@ -91,7 +91,7 @@ answer_with sheet table written = (option_map (table_area sheet) table, written)
 
 -- the lines are added, then the values are written as far as the sheet goes
 pub record IsAppended (sheet : ℕ) (added : Added) (start : ℕ × ℕ) (block : Block) (table : Option Rectangle)
-    (before after : PlaceBook) (answer : Result (Option Area × Written) Rule) : Type 0 where
+    (changes : List BookChange) (before after : PlaceBook) (answer : Result (Option Area × Written) Rule) : Type 0 where
   pub between : PlaceBook
   pub lines : AreChanges (changes_of sheet added) before between
   pub own : PlaceSheet
@@ -99,21 +99,22 @@ pub record IsAppended (sheet : ℕ) (added : Added) (start : ℕ × ℕ) (block 
   pub told : Result Written Rule
   pub write : IsWrite Rattle.std.specs.Prelude.true (cell_area sheet start) block own between after told
   pub answered : MatchResult told (λ written. answer ≡ Ok (answer_with sheet table written)) (λ rule. answer ≡ Err rule)
-  pub changes : OnOk answer (AreChanges (changes_of sheet added
-      ++ BookChange.CellsUpdated sheet (contents_of write.entries) ∷ []) before after)
+  pub changes_are : changes ≡ changes_of sheet added ++ BookChange.CellsUpdated sheet (contents_of write.entries) ∷ []
 
 -- unless the lines pass a limit, which is told before those that the write may pass
-abbrev pub IsAppendUnless : Option Limit → Type 0 → Result (Option Area × Written) Rule → Type 0
-IsAppendUnless None IsDone answer = IsDone
-IsAppendUnless (Some limit) IsDone answer = answer ≡ Err (PastLimit limit)
+abbrev pub IsAppendUnless : Option Limit → Type 0 → List BookChange → Result (Option Area × Written) Rule → Type 0
+IsAppendUnless None IsDone changes answer = IsDone
+IsAppendUnless (Some limit) IsDone changes answer = (changes ≡ []) × (answer ≡ Err (PastLimit limit))
 
 -- an append of the block to the table that the area of the sheet has makes that of the spreadsheet, and is answered so
 pub record IsAppend (insert : Bool) (area : Area) (block : Block) (sheet : PlaceSheet) (before after : PlaceBook)
     (answer : Result (Option Area × Written) Rule) : Type 0 where
   pub table : Option Rectangle
   pub found : IsTableIn area sheet.table table
+  pub changes : List BookChange
   pub appended : IsAppendUnless
       (limit_passed (lines_added insert (start_of table area) block sheet) sheet before.sheets)
       (IsAppended area.sheet (lines_added insert (start_of table area) block sheet) (start_of table area) block table
-      before after answer)
-      answer
+      changes before after answer)
+      changes answer
+  pub made : OnOk answer (AreChanges changes before after)

@@ -1,4 +1,4 @@
-ghost use Rattle.std.specs.Prelude.{◌≡◌, ◌<◌, ◌≤◌, IfErr, IfOk, IsSomeAnd, OnOk, None, Some};
+ghost use Rattle.std.specs.Prelude.{◌≡◌, ◌<◌, ◌≤◌, IfErr, IfOk, IfSome, IsSomeAnd, OnOk, None, Some};
 ghost use Rattle.std.specs.Option.{option_map};
 ghost use Rattle.world_model.specs.Sound.{IsSound, place_sheet_with};
 ghost use Rattle.dimension_ops.specs.Rules.{IsUnlessNoMemory};
@@ -70,6 +70,8 @@ pub fn append_values(
     requires { IsThere book.old.sheets area.now }
     ensures appended { IsSomeAnd (place_sheet_with area.now.sheet book.old.sheets)
         (λ sheet. IsUnlessNoMemory (IsAppend insert area.now block.now sheet book.old book.new) result) }
+    ensures table { IfOk result (λ done. IfSome done.0 (IsThere book.new.sheets)) }
+    ensures there { IfOk result (λ done. IsThere book.new.sheets done.1.area) }
 {
     changes_in_turn();
     updates_are_changes();

@@ -16,6 +16,7 @@ use world_model::{updates_are_writes, updates_follow};
 pub fn clear_values(book: &mut Book, _user: &str, area: &Area) -> Result<(), RuleOr>
     requires { IsThere book.old.sheets area.now }
     ensures cleared { OnOk result (AreUpdated area.now.sheet (cleared area.now) book.old book.new) }
+    ensures there { OnOk result (IsThere book.new.sheets area.now) }
     ensures refused { IfErr result (λ fault. fault ≡ RuleOr.NoMemory) }
 {
     empty_places(book, area)?;

@@ -1,9 +1,9 @@
-//! Laws of writes and updates: each function does nothing of its own, and its contract is the law.
+//! Laws of writes, appends and updates: each function does nothing of its own, and its contract is the law.
 
-ghost use Rattle.values_api.specs.Laws.{UpdatesOnce, WritesOnce};
+ghost use Rattle.values_api.specs.Laws.{AppendsOnce, UpdatesOnce, WritesOnce};
 
 use formula_reader::reads_once;
-use world_model::{stands_for_apart, stands_for_some};
+use world_model::{changes_apart, changes_in_turn, stands_for_apart, stands_for_some};
 
 /// A write makes one thing of the cells of a spreadsheet, and has one answer.
 pub fn writes_once()
@@ -12,6 +12,15 @@ pub fn writes_once()
     reads_once();
     stands_for_some();
     stands_for_apart();
+}
+
+/// An append changes a spreadsheet in one way, and has one answer.
+pub fn appends_once()
+    ensures { AppendsOnce }
+{
+    writes_once();
+    changes_apart();
+    changes_in_turn();
 }
 
 /// An update makes one spreadsheet of another.

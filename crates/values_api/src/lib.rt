@@ -17,7 +17,7 @@ mod writing;
 
 pub use appending::append_values;
 pub use clearing::clear_values;
-pub use laws::{updates_once, writes_once};
+pub use laws::{appends_once, updates_once, writes_once};
 pub use printed::range_text;
 pub use ranges::resolve;
 pub use sheets::BookCells;

@@ -54,7 +54,7 @@ pub fn write_values(
     requires { IsThere book.old.sheets area.now }
     ensures written { IsSomeAnd (place_sheet_with area.now.sheet book.old.sheets)
         (λ sheet. IsUnlessNoMemory (IsWrite one_cell area.now block.now sheet book.old book.new) result) }
-    ensures there { IfOk result (λ written. IsThere book.old.sheets written.area) }
+    ensures there { IfOk result (λ written. IsThere book.new.sheets written.area) }
 {
     book.stays_sound();
     let (end_row, end_col) = ends(book, area, one_cell);

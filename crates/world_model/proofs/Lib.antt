@@ -28,5 +28,6 @@ pub mod NewLines
 pub mod Inserted
 pub mod StillStands
 pub mod SheetAdded
+pub mod Made
 pub mod SheetDeleted
 pub mod SheetMarked

@@ -1,7 +1,7 @@
 -- A sheet that is added, by places and by names.
-use Rattle.std.proofs.Common.{◌≡◌, ◌≢◌, ℕ, zero, suc, ◌+◌, ◌*◌, ◌<◌, ◌≤◌, refl, sym, ap, subst, ◌∙◌, List, [], ◌∷◌, get_or, Bool, true, false, cond, arith}
+use Rattle.std.proofs.Common.{◌≡◌, ◌≢◌, ℕ, zero, suc, ◌+◌, ◌*◌, ◌<◌, ◌≤◌, refl, sym, ap, subst, ◌∙◌, List, [], ◌∷◌, get_or, length, Bool, true, false, cond, arith}
 use Rattle.std.specs.Prelude.{IfSome, IsSomeAnd, None, Option, Some, ◌==◌}
-use Rattle.std.specs.List.{All, AllZip, insert, range_with_len}
+use Rattle.std.specs.List.{All, AllPairs, AllZip, insert, list_all, range_with_len}
 use Rattle.std.specs.Option.{IsSome, option_map, option_map_or}
 use Rattle.std.specs.Str.{bytes_eq, str_eq_ignore_ascii_case, str_to_ascii_lowercase}
 use Rattle.std.proofs.Math.Path.{fun_ext}
@@ -15,13 +15,14 @@ use Rattle.grid_range.specs.Order.{IsOrder}
 use Rattle.grid_range.specs.declared.area.Area.{Area}
 use Rattle.cell_store.specs.Table.{empty_table, item_at}
 use Rattle.ref_rewrite.specs.declared.cell_content.Content.{Content}
-use Rattle.world_model.specs.Book.{PlaceBook, orders_of}
+use Rattle.world_model.specs.Book.{NameBook, PlaceBook, orders_of}
 use Rattle.world_model.specs.BookChange.{AreChanges, BookChange, Named, NewSheet, new_sheet, sheet_added}
 use Rattle.world_model.specs.Content.{content_named}
+use Rattle.world_model.specs.Counts.{grid_places}
 use Rattle.world_model.specs.Sheet.{NameSheet, PlaceSheet, lines_of}
 use Rattle.world_model.specs.SheetChange.{new_place_sheet, place_sheet_added}
 use Rattle.world_model.specs.SheetLaws.{IsRoomFor}
-use Rattle.world_model.specs.Sound.{IsAreaWithin, IsContentWithin, IsSheetSound, IsSound, place_sheet_with}
+use Rattle.world_model.specs.Sound.{IsAreaWithin, IsContentWithin, IsSheetSound, IsSound, most_places, most_sheets, place_sheet_with}
 use Rattle.world_model.specs.StandsFor.{BookStandsFor, SheetStandsFor}
 use Rattle.world_model.specs.World.{HasNamesBelow}
 use Rattle.world_model.proofs.Inserted.{All-inserted, AllPairs-inserted, AllZip-inserted, find-inserted, length-inserted, still_not_all}
@@ -73,6 +74,61 @@ apart_if_found : (P : PlaceSheet → Type 0) (sheets : List PlaceSheet) (id new 
 apart_if_found P sheets id new none found = false_from_ne_true (new == id) (λ same.
     subst (λ held. IsSomeAnd held P)
     (ap (λ n. place_sheet_with n sheets) (sym (eqb-true new id same)) ∙ none) found)
+
+-- ---- a spreadsheet all of whose sheets may be hidden still
+
+pub record IsNearlySound (book : PlaceBook) : Type 0 where
+  pub distinct : AllPairs (λ one other. one.id ≢ other.id) book.sheets
+  pub titles : AllPairs (λ one other. str_eq_ignore_ascii_case one.title other.title ≡ false) book.sheets
+  pub sheets : All (IsSheetSound book.sheets) book.sheets
+  pub few_sheets : length book.sheets ≤ most_sheets
+  pub few_places : grid_places book.sheets ≤ most_places
+
+pub record NearlyStands (book : PlaceBook) (names : NameBook) : Type 0 where
+  pub sound : IsNearlySound book
+  pub id : book.id ≡ names.id
+  pub title : book.title ≡ names.title
+  pub owner : book.owner ≡ names.owner
+  pub sheets : AllZip (SheetStandsFor names.sheets) book.sheets names.sheets
+
+nearly_sound : (book : PlaceBook) → IsSound book → IsNearlySound book
+nearly_sound book sound = record {
+  distinct = sound.distinct;
+  titles = sound.titles;
+  sheets = sound.sheets;
+  few_sheets = sound.few_sheets;
+  few_places = sound.few_places;
+}
+
+pub sound_visible : (book : PlaceBook) → IsNearlySound book → list_all (λ sheet. sheet.hidden) book.sheets ≡ false
+    → IsSound book
+sound_visible book sound visible = record {
+  distinct = sound.distinct;
+  titles = sound.titles;
+  visible = visible;
+  sheets = sound.sheets;
+  few_sheets = sound.few_sheets;
+  few_places = sound.few_places;
+}
+
+nearly_stands : (book : PlaceBook) (names : NameBook) → BookStandsFor book names → NearlyStands book names
+nearly_stands book names stands = record {
+  sound = nearly_sound book stands.sound;
+  id = stands.id;
+  title = stands.title;
+  owner = stands.owner;
+  sheets = stands.sheets;
+}
+
+pub stands_visible : (book : PlaceBook) (names : NameBook) → NearlyStands book names
+    → list_all (λ sheet. sheet.hidden) book.sheets ≡ false → BookStandsFor book names
+stands_visible book names stands visible = record {
+  sound = sound_visible book stands.sound visible;
+  id = stands.id;
+  title = stands.title;
+  owner = stands.owner;
+  sheets = stands.sheets;
+}
 
 module _ (empty : (rows cols row col : ℕ) → item_at (empty_table {T = Content} rows cols) row col ≡ None)
     (book : PlaceBook) (at : ℕ) (sheet : NewSheet) (room : IsRoomFor sheet book) where
@@ -128,8 +184,8 @@ module _ (empty : (rows cols row col : ℕ) → item_at (empty_table {T = Conten
         if_none (IsContentWithin after) (item_at new.table row col) (empty sheet.rows sheet.cols row col);
   }
 
-  pub added_sound : IsSound book → IsSound added
-  added_sound sound = record {
+  pub added_nearly : IsNearlySound book → IsNearlySound added
+  added_nearly sound = record {
     distinct = AllPairs-inserted (λ (one other : PlaceSheet). one.id ≢ other.id) at new book.sheets
         (λ k d there same. false≢true (sym (no_other k d there)
         ∙ eq-eqb (get_or book.sheets k d).id sheet.id (sym same)))
@@ -139,7 +195,6 @@ module _ (empty : (rows cols row col : ℕ) → item_at (empty_table {T = Conten
         (λ (one other : PlaceSheet). str_eq_ignore_ascii_case one.title other.title ≡ false) at new book.sheets
         (λ k d there. titles_apart (get_or book.sheets k d).title sheet.title (room.title k d there))
         room.title sound.titles;
-    visible = still_not_all (λ (one : PlaceSheet). one.hidden) at new book.sheets sound.visible;
     sheets = All-inserted (IsSheetSound after) at new book.sheets new_sound
         (λ k d there. old_sound (get_or book.sheets k d) (sound.sheets k d there));
     few_sheets = let long = length-inserted at new book.sheets in let few = room.few_sheets in
@@ -149,9 +204,15 @@ module _ (empty : (rows cols row col : ℕ) → item_at (empty_table {T = Conten
         omega (arith, places, few);
   }
 
+  still_visible : IsSound book → list_all (λ (one : PlaceSheet). one.hidden) after ≡ false
+  still_visible sound = still_not_all (λ (one : PlaceSheet). one.hidden) at new book.sheets sound.visible
+
+  pub added_sound : IsSound book → IsSound added
+  added_sound sound = sound_visible added (added_nearly (nearly_sound book sound)) (still_visible sound)
+
   -- ---- and stands for the one with a sheet of new lines
 
-  module _ (named : Named) (stands : BookStandsFor book named.book) (called : HasNamesBelow named.next named.book) where
+  module _ (named : Named) (stands : NearlyStands book named.book) (called : HasNamesBelow named.next named.book) where
     abbrev meant : NameSheet
     meant = new_sheet named.next sheet
 
@@ -201,9 +262,9 @@ module _ (empty : (rows cols row col : ℕ) → item_at (empty_table {T = Conten
       nowhere_else = λ r c out. refl;
     }
 
-    pub added_stands : BookStandsFor added (sheet_added at meant named.book)
+    pub added_stands : NearlyStands added (sheet_added at meant named.book)
     added_stands = record {
-      sound = added_sound stands.sound;
+      sound = added_nearly stands.sound;
       id = stands.id;
       title = stands.title;
       owner = stands.owner;
@@ -231,8 +292,11 @@ module _ (empty : (rows cols row col : ℕ) → item_at (empty_table {T = Conten
   pub added_changes : AreChanges (BookChange.SheetAdded at sheet ∷ []) book added
   added_changes = record {
     id = refl;
-    names = λ named is. record {
-      stands = added_stands named is.stands is.called;
-      called = added_called named is.stands is.called;
-    };
+    names = λ named is.
+        let nearly = nearly_stands book named.book is.stands in
+        record {
+          stands = stands_visible added (sheet_added at (new_sheet named.next sheet) named.book)
+              (added_stands named nearly is.called) (still_visible is.stands.sound);
+          called = added_called named nearly is.called;
+        };
   }

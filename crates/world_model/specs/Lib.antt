@@ -13,6 +13,7 @@ pub mod PlaceChange
 pub mod BookChange
 pub mod SheetChange
 pub mod SheetLaws
+pub mod Making
 pub mod Laws
 pub mod ChangingLaws
 pub mod Untouched

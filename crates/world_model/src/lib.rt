@@ -13,5 +13,5 @@ pub use laws::{
     replacements_follow, stands_for_apart, stands_for_some, updates_are_writes, updates_follow,
     writes_follow, writes_stay_sound,
 };
-pub use sheets::{sheets_added, sheets_deleted, sheets_hidden, sheets_titled};
+pub use sheets::{books_made, sheets_added, sheets_deleted, sheets_hidden, sheets_titled};
 pub use staying::untouched_cells_stay;

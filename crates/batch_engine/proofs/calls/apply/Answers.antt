@@ -4,9 +4,9 @@ use Rattle.std.specs.Option.{IsSome}
 use Rattle.dimension_ops.specs.World.{book_with}
 use Rattle.dimension_ops.specs.declared.rule.Rule.TheVariants as rule
 use Rattle.sheets_json.specs.declared.place.Place.TheVariants as place
-use Rattle.batch_engine.specs.Calls.{IsAnswered, IsApplied, IsBatchOf, IsClearManyOf, IsInstalled, IsWriteManyOf, told_as}
+use Rattle.batch_engine.specs.Calls.{IsAnswered, IsAppendOf, IsApplied, IsBatchOf, IsClearManyOf, IsInstalled, IsWriteManyOf, told_as}
 use Rattle.batch_engine.proofs.Installed.{applied_unchanged, if_ok, other_answered, read_applied, read_judged}
-use Rattle.batch_engine.proofs.Installed.{applied_change, change_there, look_applied, write_there, write_applied, clear_there, clear_applied}
+use Rattle.batch_engine.proofs.Installed.{applied_change, change_there, look_applied, write_there, write_applied, clear_there, clear_applied, lone_applied, lone_there}
 use Rattle.batch_engine.proofs.calls.apply.Goals as goal
 
 pub changed-requires : goal.changed-requires
@@ -51,6 +51,27 @@ returns-in_ok-told-in-Clear c =
     c.in_ok-told-in-Clear.told (rw c.as_str-in-Clear-2.ensures at c.clear.ensures) c.in_ok-told-in-Clear.ensures
     applied.outcome applied.next (subst (λ told. IsInstalled c.args.world.now told applied.outcome applied.next)
     c.alone-in-Clear.ensures installed)) c.changed-in-Clear.ensures
+
+pub changed-requires-in-Append : goal.changed-requires-in-Append
+changed-requires-in-Append c =
+    subst (λ told. IfOk told (λ done. IsSome (book_with done.1.id c.args.world.now))) (sym c.alone-in-Append.ensures)
+    (lone_there _ c.args.world.now c.book_of-book-in-Append.result.now c.args.call.now
+    (IsAppendOf c.in-Append.range c.in-Append.insert_data_option c.in-Append.values)
+    (λ answered effect holds. subst (λ one. IsAnswered one c.args.world.now answered effect) (sym c.in-Append.is) holds)
+    (rw c.as_str-in-Append.ensures at c.book_of-book-in-Append.ensures) c.append.result c.in_ok-told-in-Append.told
+    (rw c.as_str-in-Append-2.ensures at c.append.ensures) c.in_ok-told-in-Append.ensures)
+
+pub returns-in_ok-told-in-Append : goal.returns-in_ok-told-in-Append
+returns-in_ok-told-in-Append c =
+    if_ok (λ applied. IsInstalled c.args.world.now c.alone-in-Append.result applied.outcome applied.next)
+    (λ applied. IsApplied c.args.call.now c.args.world.now applied.outcome applied.next) c.changed-in-Append.result
+    (λ applied installed. lone_applied _ c.args.world.now c.book_of-book-in-Append.result.now c.args.call.now
+    (IsAppendOf c.in-Append.range c.in-Append.insert_data_option c.in-Append.values)
+    (λ answered effect holds. subst (λ one. IsAnswered one c.args.world.now answered effect) (sym c.in-Append.is) holds)
+    (rw c.as_str-in-Append.ensures at c.book_of-book-in-Append.ensures) c.append.result c.in_ok-told-in-Append.told
+    (rw c.as_str-in-Append-2.ensures at c.append.ensures) c.in_ok-told-in-Append.ensures
+    applied.outcome applied.next (subst (λ told. IsInstalled c.args.world.now told applied.outcome applied.next)
+    c.alone-in-Append.ensures installed)) c.changed-in-Append.ensures
 
 pub changed-requires-in-ClearMany : goal.changed-requires-in-ClearMany
 changed-requires-in-ClearMany c =
@@ -114,6 +135,6 @@ pub returns-in_default : goal.returns-in_default
 returns-in_default c =
     applied_unchanged c.args.call.now c.args.world.now (Err (place.Alone, rule.Unsupported))
     c.unchanged-in_default.result.outcome c.unchanged-in_default.result.next
-    (other_answered c.args.call.now c.args.world.now c.in_default.not-Get c.in_default.not-Batch c.in_default.not-Read c.in_default.not-Write c.in_default.not-Clear
+    (other_answered c.args.call.now c.args.world.now c.in_default.not-Get c.in_default.not-Batch c.in_default.not-Read c.in_default.not-Write c.in_default.not-Append c.in_default.not-Clear
     c.in_default.not-ReadMany c.in_default.not-WriteMany c.in_default.not-ClearMany)
     c.unchanged-in_default.ensures.outcome c.unchanged-in_default.ensures.next

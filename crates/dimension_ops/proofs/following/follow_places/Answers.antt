@@ -21,12 +21,12 @@ loop-place-preserved c =
     let at = followed_at c.args.by.now.sheet c.args.by.now.axis c.args.by.now.count c.args.by.now.change.now in
     record {
       followed = c.in_ok-follow_at.ensures.followed ∙ ap (λ table. at table place) c.loop-place.invariant.followed
-          ∙ sym (fold_more at c.args.cells.now c.args.places.now c.loop-place.place-index (0, 0) c.loop-place-test.true);
+          ∙ sym (fold_more at c.args.cells.now.table c.args.places.now c.loop-place.place-index (0, 0) c.loop-place-test.true);
       others = λ k d behind there.
           let other : ℕ × ℕ = get_or c.args.places.now k d in
-          let held = item_at c.loop-place.cells other.0 other.1 in
+          let held = item_at c.loop-place.cells.table other.0 other.1 in
           ap (λ table. item_at table other.0 other.1) c.in_ok-follow_at.ensures.followed
-          ∙ item_at_place after c.loop-place.cells place other
+          ∙ item_at_place after c.loop-place.cells.table place other
           ∙ ap (λ b. cond b (option_map after held) held)
           (apart_behind c.args.places.now c.loop-place.place-index k d (0, 0) c.requires.in_order (omega arith) there)
           ∙ c.loop-place.invariant.others k d (omega arith) there;

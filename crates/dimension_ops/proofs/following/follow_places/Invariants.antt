@@ -8,10 +8,10 @@ use Rattle.dimension_ops.proofs.following.follow_places.Given as goal
 -- what stands at the places so far has followed, and what stands at the others is as it was
 abbrev pub invariant-loop-place : goal.invariant-loop-place
 invariant-loop-place l = record {
-  followed : l.cells ≡ fold (followed_at l.by.sheet l.by.axis l.by.count l.by.change.now) l.initial.cells
+  followed : l.cells.table ≡ fold (followed_at l.by.sheet l.by.axis l.by.count l.by.change.now) l.initial.cells.table
       (take l.place-index l.places);
   others : (k : ℕ) (d : ℕ × ℕ) → l.place-index ≤ k → k < length l.places
-      → item_at l.cells (get_or l.places k d).0 (get_or l.places k d).1
-      ≡ item_at l.initial.cells (get_or l.places k d).0 (get_or l.places k d).1;
-  formulas : formulas_in l.cells ≡ formulas_in l.initial.cells;
+      → item_at l.cells.table (get_or l.places k d).0 (get_or l.places k d).1
+      ≡ item_at l.initial.cells.table (get_or l.places k d).0 (get_or l.places k d).1;
+  formulas : formulas_in l.cells.table ≡ formulas_in l.initial.cells.table;
 }

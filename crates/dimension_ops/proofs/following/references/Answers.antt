@@ -6,7 +6,7 @@ use Rattle.dimension_ops.proofs.following.references.Goals as goal
 
 pub returns : goal.returns
 returns c =
-    subst (AreReferring c.args.sheet c.args.cells.now)
-    (sym (filter_same _ (refers_at c.args.sheet c.args.cells.now) _ (λ x b f' k. (search rules, search rules)) _ _
+    subst (AreReferring c.args.sheet c.args.cells.now.table)
+    (sym (filter_same _ (refers_at c.args.sheet c.args.cells.now.table) _ (λ x b f' k. (search rules, search rules)) _ _
     c.retain.ensures.filtered))
-    (referring c.args.sheet c.args.cells.now c.in_ok-places.places.items c.in_ok-places.ensures)
+    (referring c.args.sheet c.args.cells.now.table c.in_ok-places.places.items c.in_ok-places.ensures)

@@ -1,11 +1,26 @@
-use Rattle.std.proofs.Common.{◌∙◌}
+use Rattle.std.proofs.Common.{sym, ◌∙◌}
 use Rattle.dimension_ops.proofs.Formulas.{moved_within}
+use Rattle.dimension_ops.proofs.Unmoved.{nothing_follows}
 use Rattle.dimension_ops.proofs.lines.own_changed.Goals as goal
 
 pub follow-requires-clause-within : goal.follow-requires-clause-within
 follow-requires-clause-within c =
     moved_within c.args.by.now.sheet c.args.by.now.axis c.args.by.now.count c.args.by.now.change.now c.args.sheet.table
     c.in_ok-moved.moved.table c.in_ok-moved.ensures.goes c.requires.ready.within
+
+pub returns-then-keeps_places : goal.returns-then-keeps_places
+returns-then-keeps_places c = record {
+  id = c.in_ok-moved.ensures.id;
+  title = c.in_ok-moved.ensures.title;
+  hidden = c.in_ok-moved.ensures.hidden;
+  moved = c.in_ok-moved.moved.table;
+  goes = λ _. c.in_ok-moved.ensures.goes;
+  stays = λ other. absurd (other c.requires.own);
+  followed = nothing_follows c.args.by.now.sheet c.args.by.now.axis c.args.by.now.count c.args.by.now.change.now
+      (sym c.keeps_places.ensures ∙ c.if-keeps_places.true) c.in_ok-moved.moved.table
+      (moved_within c.args.by.now.sheet c.args.by.now.axis c.args.by.now.count c.args.by.now.change.now
+      c.args.sheet.table c.in_ok-moved.moved.table c.in_ok-moved.ensures.goes c.requires.ready.within);
+}
 
 pub returns : goal.returns
 returns c = record {

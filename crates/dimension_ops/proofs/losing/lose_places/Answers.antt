@@ -7,8 +7,8 @@ pub loop-place-preserved : goal.loop-place-preserved
 loop-place-preserved c =
     let place : ℕ × ℕ = get_or c.args.places.now c.loop-place.place-index (0, 0) in
     record {
-      lost = c.lose_at.ensures.lost ∙ ap (λ table. lost_at c.args.sheet table place) c.loop-place.invariant.lost
-          ∙ sym (fold_more (lost_at c.args.sheet) c.args.cells.now c.args.places.now c.loop-place.place-index (0, 0)
+      lost = c.in_ok-lose_at.ensures.lost ∙ ap (λ table. lost_at c.args.sheet table place) c.loop-place.invariant.lost
+          ∙ sym (fold_more (lost_at c.args.sheet) c.args.cells.now.table c.args.places.now c.loop-place.place-index (0, 0)
           c.loop-place-test.true);
       formulas = c.lose_at.ensures.formulas_stay ∙ c.loop-place.invariant.formulas;
     }

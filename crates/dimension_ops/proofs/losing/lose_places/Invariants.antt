@@ -7,6 +7,6 @@ use Rattle.dimension_ops.proofs.losing.lose_places.Given as goal
 -- the references at the places so far are lost
 abbrev pub invariant-loop-place : goal.invariant-loop-place
 invariant-loop-place l = record {
-  lost : l.cells ≡ fold (lost_at l.sheet) l.initial.cells (take l.place-index l.places);
-  formulas : formulas_in l.cells ≡ formulas_in l.initial.cells;
+  lost : l.cells.table ≡ fold (lost_at l.sheet) l.initial.cells.table (take l.place-index l.places);
+  formulas : formulas_in l.cells.table ≡ formulas_in l.initial.cells.table;
 }

@@ -18,5 +18,5 @@ returns c = (
     rows = c.new_rows-rows.ensures;
     cols = c.new_cols-cols.ensures;
   },
-  c.set_hidden.ensures ∙ ap (place_marked_hidden c.unwrap_or.result) c.empty-sheet.ensures,
+  c.set_hidden.ensures ∙ ap (place_marked_hidden c.unwrap_or.result) c.in_ok-sheet.ensures,
 )

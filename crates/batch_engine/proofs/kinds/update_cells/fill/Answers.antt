@@ -2,14 +2,9 @@ use Rattle.std.proofs.Common.{false}
 use Rattle.std.proofs.lemmas.Result.{err_from_is_err_and}
 use Rattle.values_api.specs.Updates.{cleared}
 use Rattle.batch_engine.specs.UpdateCells.{area_emptied}
-use Rattle.batch_engine.proofs.Ranged.{stays_there, update_made}
+use Rattle.batch_engine.proofs.Ranged.{update_made}
 use Rattle.batch_engine.proofs.WritingRows.{rows_refused, rows_written}
 use Rattle.batch_engine.proofs.kinds.update_cells.fill.Goals as goal
-
-pub write_values-requires : goal.write_values-requires
-write_values-requires c =
-    stays_there c.args.area.now.sheet (cleared c.args.area.now) c.args.area.now c.args.book.now.sheets
-    c.clear_values.new.book.sheets c.in_ok-clear_values.ensures.cleared.places.sheets c.requires
 
 pub returns-in_err-write_values : goal.returns-in_err-write_values
 returns-in_err-write_values c =

@@ -16,7 +16,7 @@ pub invariant_of-result : goal.invariant_of-result
 invariant_of-result c =
     let one : map arc_value c.in_ok-sheets.sheets.items ≡ opening_sheet ∷ [] =
     c.in_ok-sheets.ensures
-    ∙ ap (λ (sheet : PlaceSheet). sheet ∷ []) (c.empty.ensures ∙ ap titled (c.of-title.ensures ∙ c.in_ok-from_str.ensures.ok)) in (
+    ∙ ap (λ (sheet : PlaceSheet). sheet ∷ []) (c.in_ok-sheet.ensures ∙ ap titled (c.of-title.ensures ∙ c.in_ok-from_str.ensures.ok)) in (
       subst (λ sheets. IsSound (record { id = c.of.result; title = c.of-2.result; owner = c.of-3.result; sheets = sheets })) (sym one)
           (opening_sound c.of.result c.of-2.result c.of-3.result),
       c.of-4.ensures ∙ c.in_ok-push.ensures.items ∙ ap (λ list. list ++ (0 ∷ [])) c.new-ids.ensures.items

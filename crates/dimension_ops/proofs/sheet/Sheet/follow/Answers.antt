@@ -11,11 +11,11 @@ returns c = record {
   title = ap (λ (sheet : PlaceSheet). sheet.title) c.self.view_is;
   hidden = ap (λ (sheet : PlaceSheet). sheet.hidden) c.self.view_is;
   followed = subst (λ (sheet : PlaceSheet). FollowsInPlace c.args.by.now.sheet c.args.by.now.axis c.args.by.now.count
-      c.args.by.now.change.now sheet.table c.follow_places.new.cells) c.self.view_is
+      c.args.by.now.change.now sheet.table c.follow_places.new.cells.table) c.self.view_is
       (subst (FollowsInPlace c.args.by.now.sheet c.args.by.now.axis c.args.by.now.count c.args.by.now.change.now
-      c.self.inside.cells) (sym c.in_ok-follow_places.ensures.followed)
+      c.self.inside.cells.table) (sym c.in_ok-follow_places.ensures.followed)
       (sheet_follows c.args.by.now.sheet c.args.by.now.axis c.args.by.now.count c.args.by.now.change.now
-      c.self.inside.cells c.args.places.now
+      c.self.inside.cells.table c.args.places.now
       (subst (λ (sheet : PlaceSheet). AreReferring c.args.by.now.sheet sheet.table c.args.places.now) (sym c.self.view_is)
       c.requires.places)));
 }

@@ -15,15 +15,15 @@ returns c =
       id = ap (λ (sheet : PlaceSheet). sheet.id) c.self.view_is;
       title = ap (λ (sheet : PlaceSheet). sheet.title) c.self.view_is;
       hidden = ap (λ (sheet : PlaceSheet). sheet.hidden) c.self.view_is;
-      rows = ap (λ table. table.rows) c.lose_places.ensures.lost
-          ∙ rows_stay c.args.sheet c.self.inside.cells c.args.places.now are
+      rows = ap (λ table. table.rows) c.in_ok-lose_places.ensures.lost
+          ∙ rows_stay c.args.sheet c.self.inside.cells.table c.args.places.now are
           ∙ ap (λ (sheet : PlaceSheet). sheet.table.rows) c.self.view_is;
-      cols = ap (λ table. table.cols) c.lose_places.ensures.lost
-          ∙ cols_stay c.args.sheet c.self.inside.cells c.args.places.now are
+      cols = ap (λ table. table.cols) c.in_ok-lose_places.ensures.lost
+          ∙ cols_stay c.args.sheet c.self.inside.cells.table c.args.places.now are
           ∙ ap (λ (sheet : PlaceSheet). sheet.table.cols) c.self.view_is;
       items = λ row col.
-          ap (λ table. item_at table row col) c.lose_places.ensures.lost
-          ∙ items_lost c.args.sheet c.self.inside.cells c.args.places.now are row col
+          ap (λ table. item_at table row col) c.in_ok-lose_places.ensures.lost
+          ∙ items_lost c.args.sheet c.self.inside.cells.table c.args.places.now are row col
           ∙ ap (λ (sheet : PlaceSheet). option_map (content_without c.args.sheet) (item_at sheet.table row col))
           c.self.view_is;
     }
