@@ -4,6 +4,7 @@ use crate::batches::{
     SECOND_BATCHES, SEVENTH_BATCHES, SIXTH_BATCHES, THIRD_BATCHES,
 };
 use crate::common::check;
+use crate::deletions::DELETED_SHEETS;
 use crate::lines::{COLUMNS, INSERTED_AND_DELETED, LINES, MOVED};
 use crate::rows::{
     BAD_REQUEST, CHANGES, CONVERSATIONS, Conversation, Exchange, FORMULAS, LIMITS, LISTS,
@@ -281,6 +282,13 @@ fn sets_properties(rt: HostRuntime) {
 #[test]
 fn refuses_properties(rt: HostRuntime) {
     for row in &REFUSED_PROPERTIES {
+        check(&rt, &row.3, is_answered(&rt, row));
+    }
+}
+
+#[test]
+fn deletes_sheets(rt: HostRuntime) {
+    for row in &DELETED_SHEETS {
         check(&rt, &row.3, is_answered(&rt, row));
     }
 }

@@ -7,6 +7,8 @@ mod books;
 #[cfg(test)]
 mod common;
 #[cfg(test)]
+mod creations;
+#[cfg(test)]
 mod ranges;
 #[cfg(test)]
 mod values;
