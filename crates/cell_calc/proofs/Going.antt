@@ -1,9 +1,9 @@
 -- What the functions of the walk do, by its steps.
-use Rattle.std.proofs.Common.{◌≡◌, ◌⊎◌, ℕ, List, [], ◌∷◌, ◌++◌, Contains, All, Option, Some, None, Result, refl, ap, sym, subst, ◌∙◌, inl, inr}
+use Rattle.std.proofs.Common.{◌≡◌, ◌⊎◌, ℕ, List, [], ◌∷◌, ◌++◌, Contains, Option, Some, None, Result, refl, ap, sym, subst, ◌∙◌, inl, inr}
 use Rattle.std.specs.Option.{IsSome}
 use Rattle.std.specs.Result.{OnOk}
 use Rattle.std.proofs.Math.Path.{fun_ext}
-use Rattle.std.proofs.lemmas.List.Elements.{All-contains, Contains-append_cases, Contains-append_left, Contains-append_right}
+use Rattle.std.proofs.lemmas.List.Elements.{Contains-append_cases, Contains-append_left, Contains-append_right}
 use Rattle.std.proofs.lemmas.Result.{on_ok_weaker}
 use Rattle.cell_value.specs.declared.cell.Kind.TheVariants as kind
 use Rattle.cell_value.specs.declared.cell.Value.{Value}
@@ -18,7 +18,7 @@ use Rattle.formula_reader.specs.declared.tree.Tree.{Tree}
 use Rattle.formula_reader.specs.Tree.{Expression, expression_of}
 use Rattle.cell_calc.specs.declared.mark.Mark.{Mark}
 use Rattle.cell_calc.specs.declared.mark.Mark.TheVariants.{Open, Endless, Known}
-use Rattle.cell_calc.specs.declared.mark.Found.TheVariants.{New, Circular, Settled}
+use Rattle.cell_calc.specs.declared.mark.Found.TheVariants.{Circular, Settled}
 use Rattle.cell_calc.specs.declared.walk.Frame.{Frame}
 use Rattle.cell_calc.specs.Book.{Book, Place, Cell, stored, formula, IsFormula, HoldsPlace}
 use Rattle.cell_calc.specs.Contents.{Contents, AreOf, AreStoredPlaces, IsCell, IsContentSound, KeepsItsLimits}
@@ -26,14 +26,14 @@ use Rattle.cell_calc.specs.CellValue.{areas_of, Reads}
 use Rattle.cell_calc.specs.FormulaValue.{value_of_cell}
 use Rattle.cell_calc.specs.Known.{book_read, value_read}
 use Rattle.cell_calc.specs.Marks.{place_of, IsMarked, IsKnown, value_told, found_by}
-use Rattle.cell_calc.specs.Walk.{HeldBy, place_at, Waits, IsReadBy, Holds, Stay, Goes, Meets, Closes, IsCut, IsTreeAt, IsKnownAs}
+use Rattle.cell_calc.specs.Walk.{HeldBy, place_at, Waits, Holds, Stay, Goes, Meets, Closes, IsCut, IsTreeAt, IsKnownAs, Learns}
 use Rattle.cell_calc.proofs.OneAnswer.{one_answer}
-use Rattle.cell_calc.proofs.Marking.{some_is, here, mark_stays, value_known_of}
-use Rattle.cell_calc.proofs.Steps.{learn, leave, wait_on, enter, value_by_marks}
+use Rattle.cell_calc.proofs.Marking.{some_is, here, mark_stays, known_stays, value_known_of}
+use Rattle.cell_calc.proofs.Steps.{learn, leave, wait_on, enter}
 use Rattle.cell_calc.proofs.Closing.{found_settled, found_circular, closed_cases, close}
 
 -- a cell without a formula is only one
-only_cell : (content : Content) (one : Cell) (value : Value) → IsCell (Some content) one
+pub only_cell : (content : Content) (one : Cell) (value : Value) → IsCell (Some content) one
     → IsCell (Some content) (stored value) → one ≡ stored value
 only_cell (Number number) one value is other = is ∙ sym other
 only_cell (Text text) one value is other = is ∙ sym other
@@ -107,6 +107,22 @@ module _ (contents : Contents) where
       (subst (λ t. value ≡ value_by before (formula (Some (expression_of t)))) (sym same) is) after
       (subst (λ k. IsMarked before (place_of k) (Known value) after) (sym at) marked)
 
+  -- a cell that reads nothing comes to be known, whatever the path is
+  pub learned : (place : Place) (before : Place → Option Mark) (cell : Cell) (value : Value)
+      → ((named : List ℕ → Option Area) (next : Place) → Reads named cell next → ⊥) → value ≡ value_by before cell
+      → ((book : Book) → AreOf contents book → book.cells place ≡ cell)
+      → (after : Place → Option Mark) → IsMarked before place (Known value) after → Learns contents before after
+  learned place before cell value alone is at after marked = record {
+    goes = λ path. record {
+      right = λ book are h.
+          learn contents book are before path h place value
+          (λ next read some. absurd (alone book.named next (subst (λ c. Reads book.named c next) (at book are) read)))
+          (is ∙ ap (value_by before) (sym (at book are))) after marked;
+      stay = mark_stays before place (Known value) after marked;
+    };
+    still = known_stays before place (Known value) after marked tt;
+  }
+
   -- a cell that reads nothing is known at once
   pub known_at_once : (place : Place) (before : Place → Option Mark) (path : List Frame) (cell : Cell) (value : Value)
       → ((named : List ℕ → Option Area) (next : Place) → Reads named cell next → ⊥) → value ≡ value_by before cell
@@ -114,10 +130,7 @@ module _ (contents : Contents) where
       → (after : Place → Option Mark) → IsMarked before place (Known value) after
       → Meets contents place before path after path
   known_at_once place before path cell value alone is at after marked = record {
-    right = λ book are reads h.
-        learn contents book are before path h place value
-        (λ next read some. absurd (alone book.named next (subst (λ c. Reads book.named c next) (at book are) read)))
-        (is ∙ ap (value_by before) (sym (at book are))) after marked;
+    right = λ book are reads h. ((learned place before cell value alone is at after marked).goes path).right book are h;
     stay = mark_stays before place (Known value) after marked;
     met = some_is (after place) (Known value) (here before place (Known value) after marked);
   }
@@ -171,13 +184,13 @@ module _ (contents : Contents) where
 
   pub entered : (before : Place → Option Mark) (path : List Frame) (frame : Frame)
       → IsTreeAt contents (place_at frame) (Some (expression_of frame.tree)) → before (place_at frame) ≡ None
-      → frame.rest.items ≡ areas_of contents.named (expression_of frame.tree)
+      → frame.rest.items ≡ areas_of contents.named (expression_of frame.tree) → frame.noted.items ≡ []
       → (after : Place → Option Mark) → IsMarked before (place_at frame) Open after
       → Meets contents (place_at frame) before path after (frame ∷ path)
-  entered before path frame at none all after marked = record {
+  entered before path frame at none all nothing after marked = record {
     right = λ book are reads h.
         enter contents book are before path h frame reads none (at book are)
-        (all ∙ same_areas book are (expression_of frame.tree)) after marked;
+        (all ∙ same_areas book are (expression_of frame.tree)) nothing after marked;
     stay = mark_stays before (place_at frame) Open after marked;
     met = some_is (after (place_at frame)) Open (here before (place_at frame) Open after marked);
   }
@@ -214,8 +227,10 @@ module _ (contents : Contents) where
       → ((place : Place) → HeldBy frame.rest.items place → HeldBy whole.rest.items place)
       → ((place : Place) → HeldBy whole.rest.items place → IsSome (contents.content place)
       → IsKnown (marks place) ⊎ HeldBy frame.rest.items place)
+      → ((key : ℕ × ℕ × ℕ) → Contains frame.noted.items key
+      → Reads book.named (book.cells (place_at whole)) (place_of key))
       → Waits contents book marks frame
-  waits_with book marks whole frame wait at tree fewer left = record {
+  waits_with book marks whole frame wait at tree fewer left notes = record {
     is = same ∙ wait.is ∙ ap (λ t. formula (Some (expression_of t))) (sym tree);
     within = λ place held. subst (λ cell. Reads book.named cell place) (sym same) (wait.within place (fewer place held));
     covers = λ place reads some.
@@ -223,6 +238,7 @@ module _ (contents : Contents) where
           | inl known ↦ inl known
           | inr held ↦ left place held some
         ];
+    noted = λ key has. subst (λ cell. Reads book.named cell (place_of key)) (sym same) (notes key has);
   }
     where
       same : book.cells (place_at frame) ≡ book.cells (place_at whole)
@@ -252,54 +268,94 @@ module _ (contents : Contents) where
         ]
 
     -- the formula waits no more for an area whose cells are known
-    pub dropped : (marks : Place → Option Mark) (below : List Frame)
+    pub dropped : (marks : Place → Option Mark) (below : List Frame) → whole.noted.items ≡ frame.noted.items
         → ((place : Place) → HoldsPlace area place → IsSome (contents.content place) → IsKnown (marks place))
         → Goes contents marks (whole ∷ below) marks (frame ∷ below)
-    dropped marks below known = record {
+    dropped marks below noted known = record {
       right = λ book are h.
           wait_on contents book are marks whole frame below h (ap place_of (sym cut.place))
           (waits_with book marks whole frame h.waits.0 (ap place_of (sym cut.place)) (sym cut.tree) held_more
           (λ place held some. elim (held_cases place held) [
             | inl holds ↦ inl (known place holds some)
             | inr left ↦ inr left
-          ]));
+          ])
+          (λ key has. h.waits.0.noted key (subst (λ l. Contains l key) (sym noted) has)));
       stay = λ place some. some;
     }
 
-    -- the formula goes on waiting, with a cell of the area
-    pub went_on : (same : Frame) → IsCut same frame area → (place : Place) → HoldsPlace area place
-        → (before : Place → Option Mark) (below : List Frame) (after : Place → Option Mark) (next : List Frame)
-        → Meets contents place before (same ∷ below) after next → Goes contents before (whole ∷ below) after next
-    went_on same other place holds before below after next meets = record {
-      right = right;
-      stay = meets.stay;
+    -- the formula goes on waiting, with cells of the area that it noted
+    pub put_back : (next : Frame) → IsCut next frame area
+        → ((key : ℕ × ℕ × ℕ) → Contains next.noted.items key → HoldsPlace area (place_of key))
+        → (marks : Place → Option Mark) (below : List Frame) → Goes contents marks (whole ∷ below) marks (next ∷ below)
+    put_back next other holds marks below = record {
+      right = λ book are h.
+          wait_on contents book are marks whole next below h at
+          (waits_with book marks whole next h.waits.0 at (other.tree ∙ sym cut.tree)
+          (λ place held. subst (λ l. HeldBy l place) rest held)
+          (λ place held some. inr (subst (λ l. HeldBy l place) (sym rest) held))
+          (λ key has. h.waits.0.within (place_of key) (held_last (place_of key) (holds key has))));
+      stay = λ place some. some;
     }
       where
-        at : place_at same ≡ place_at whole
+        at : place_at next ≡ place_at whole
         at = ap place_of (other.place ∙ sym cut.place)
 
-        rest : same.rest.items ≡ whole.rest.items
+        rest : next.rest.items ≡ whole.rest.items
         rest = other.rest ∙ sym cut.rest
 
-        right : (book : Book) → AreOf contents book → Holds contents book before (whole ∷ below) → Holds contents book after next
-        right book are h =
-            let wait = waits_with book before whole same h.waits.0 at (other.tree ∙ sym cut.tree)
-            (λ p held. subst (λ l. HeldBy l p) rest held)
-            (λ p held some. inr (subst (λ l. HeldBy l p) (sym rest) held)) in
-            meets.right book are
-            (wait.within place (subst (λ l. HeldBy l place) (sym rest) (held_last place holds)))
-            (wait_on contents book are before whole same below h at wait)
+  -- the formula goes on with the last cell that it noted
+  pub went_on : (whole frame : Frame) (key : ℕ × ℕ × ℕ) → frame.place ≡ whole.place → frame.tree ≡ whole.tree
+      → frame.rest.items ≡ whole.rest.items → whole.noted.items ≡ frame.noted.items ++ key ∷ []
+      → (before : Place → Option Mark) (below : List Frame) (after : Place → Option Mark) (next : List Frame)
+      → Meets contents (place_of key) before (frame ∷ below) after next → Goes contents before (whole ∷ below) after next
+  went_on whole frame key place tree rest noted before below after next meets = record {
+    right = right;
+    stay = meets.stay;
+  }
+    where
+      at : place_at frame ≡ place_at whole
+      at = ap place_of place
+
+      right : (book : Book) → AreOf contents book → Holds contents book before (whole ∷ below) → Holds contents book after next
+      right book are h =
+          let wait = waits_with book before whole frame h.waits.0 at tree
+          (λ p held. subst (λ l. HeldBy l p) rest held)
+          (λ p held some. inr (subst (λ l. HeldBy l p) (sym rest) held))
+          (λ k has. h.waits.0.noted k
+          (subst (λ l. Contains l k) (sym noted) (Contains-append_left frame.noted.items (key ∷ []) k has))) in
+          let reads = h.waits.0.noted key
+          (subst (λ l. Contains l key) (sym noted)
+          (Contains-append_right frame.noted.items (key ∷ []) key (Contains-head key []))) in
+          meets.right book are
+          (subst (λ p. Reads book.named (book.cells p) (place_of key)) (sym at) reads)
+          (wait_on contents book are before whole frame below h at wait)
+
+  -- the formula goes on with fewer cells noted
+  pub as_well : (whole frame : Frame) → frame.place ≡ whole.place → frame.tree ≡ whole.tree
+      → frame.rest.items ≡ whole.rest.items
+      → ((key : ℕ × ℕ × ℕ) → Contains frame.noted.items key → Contains whole.noted.items key)
+      → (before : Place → Option Mark) (below : List Frame) (after : Place → Option Mark) (next : List Frame)
+      → Goes contents before (frame ∷ below) after next → Goes contents before (whole ∷ below) after next
+  as_well whole frame place tree rest fewer before below after next goes = record {
+    right = λ book are h.
+        goes.right book are
+        (wait_on contents book are before whole frame below h (ap place_of place)
+        (waits_with book before whole frame h.waits.0 (ap place_of place) tree
+        (λ p held. subst (λ l. HeldBy l p) rest held)
+        (λ p held some. inr (subst (λ l. HeldBy l p) (sym rest) held))
+        (λ key has. h.waits.0.noted key (fewer key has))));
+    stay = goes.stay;
+  }
 
   -- where each stored cell of an area is known
   pub all_known : (marks : Place → Option Mark) (area : Area) (places : List (ℕ × ℕ)) → AreStoredPlaces contents area places
-      → All (λ cell. IsKnown (marks (place_of (area.sheet, cell.0, cell.1)))) places
+      → ((cell : ℕ × ℕ) → Contains places cell → IsKnown (marks (place_of (area.sheet, cell.0, cell.1))))
       → (place : Place) → HoldsPlace area place → IsSome (contents.content place) → IsKnown (marks place)
   all_known marks area places filled known place (sheet, holds) some =
       let at : place_of (area.sheet, place.row, place.column) ≡ place =
       ap (λ s. place_of (s, place.row, place.column)) sheet in
       let has = (filled.exactly place.row place.column).1 (holds, subst (λ p. IsSome (contents.content p)) (sym at) some) in
-      subst (λ p. IsKnown (marks p)) at
-      (All-contains (λ cell. IsKnown (marks (place_of (area.sheet, cell.0, cell.1)))) places (place.row, place.column) known has)
+      subst (λ p. IsKnown (marks p)) at (known (place.row, place.column) has)
 
   -- what is stored in an area lies in it
   pub held_place : (area : Area) (places : List (ℕ × ℕ)) → AreStoredPlaces contents area places

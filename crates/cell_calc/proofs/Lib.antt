@@ -21,3 +21,4 @@ pub mod Going
 pub mod Calculating
 pub mod AreasListed
 pub mod Popped
+pub mod Noting

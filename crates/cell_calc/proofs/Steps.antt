@@ -1,28 +1,27 @@
 -- The steps of the walk keep what holds of marks and path.
-use Rattle.std.proofs.Common.{◌≡◌, ◌⊎◌, ℕ, zero, suc, List, [], ◌∷◌, Contains, Option, Some, None, refl, ap, sym, subst, ◌∙◌, inl, inr, unwrap_or}
+use Rattle.std.proofs.Common.{◌≡◌, ℕ, zero, suc, List, [], ◌∷◌, Contains, Option, Some, None, refl, ap, sym, subst, ◌∙◌, inl, inr, unwrap_or}
 use Rattle.std.specs.Option.{IsSome, option_map_or}
 use Rattle.std.specs.List.{AllByRecursion}
 use Rattle.cell_value.specs.declared.cell.Value.{Value}
 use Rattle.cell_value.specs.declared.cell.Kind.TheVariants as kind
 use Rattle.cell_value.specs.declared.cell.Value.TheVariants.{Blank, Error}
 use Rattle.cell_value.specs.Elements.{nothing_in}
-use Rattle.grid_range.specs.declared.area.Area.{Area}
 use Rattle.ref_rewrite.specs.declared.cell_content.Content.{Content}
-use Rattle.formula_reader.specs.Tree.{Expression, expression_of}
+use Rattle.formula_reader.specs.Tree.{expression_of}
 use Rattle.cell_calc.specs.declared.mark.Mark.{Mark}
 use Rattle.cell_calc.specs.declared.mark.Mark.TheVariants.{Open, Endless, Known}
 use Rattle.cell_calc.specs.declared.walk.Frame.{Frame}
-use Rattle.cell_calc.specs.Book.{Book, Place, Cell, stored, formula, IsFormula, HoldsPlace}
+use Rattle.cell_calc.specs.Book.{Book, Place, stored, formula, IsFormula}
 use Rattle.cell_calc.specs.Contents.{Contents, AreOf, IsCell}
 use Rattle.cell_calc.specs.CellValue.{areas_of, Reads, Walks, value_in, IsValueOf}
 use Rattle.cell_calc.specs.FormulaValue.{value_of_cell}
 use Rattle.cell_calc.specs.Known.{book_read, value_known, value_read}
 use Rattle.cell_calc.specs.Marks.{IsMarked, IsKnown, value_told}
-use Rattle.cell_calc.specs.Walk.{HeldBy, place_at, OnPath, Waits, IsReadBy, IsLinked, Holds}
+use Rattle.cell_calc.specs.Walk.{HeldBy, place_at, OnPath, Waits, IsReadBy, Holds}
 use Rattle.cell_calc.proofs.Endless.{shorter}
 use Rattle.cell_calc.proofs.ReadsDecide.{reads_decide}
 use Rattle.cell_calc.proofs.Depth.{read_at, as_cell, same_at, known_is_value, endless_is_value}
-use Rattle.cell_calc.proofs.Marking.{some_is, here, cases, known_stays, known_apart, value_known_of}
+use Rattle.cell_calc.proofs.Marking.{some_is, cases, known_stays, known_apart, value_known_of}
 
 pub each_waits : (contents : Contents) (book : Book) (before after : Place → Option Mark)
     → ((place : Place) → IsKnown (before place) → IsKnown (after place)) → (path : List Frame)
@@ -36,6 +35,7 @@ each_waits contents book before after still (frame ∷ below) (wait, waits) = (
       | inl known ↦ inl (still place known)
       | inr held ↦ inr held
     ];
+    noted = wait.noted;
   },
   each_waits contents book before after still below waits,
 )
@@ -169,10 +169,10 @@ module _ (contents : Contents) (book : Book) (are : AreOf contents book) (marks 
   pub enter : (path : List Frame) → Holds contents book marks path → (frame : Frame)
       → IsReadBy book path (place_at frame) → marks (place_at frame) ≡ None
       → book.cells (place_at frame) ≡ formula (Some (expression_of frame.tree))
-      → frame.rest.items ≡ areas_of book.named (expression_of frame.tree)
+      → frame.rest.items ≡ areas_of book.named (expression_of frame.tree) → frame.noted.items ≡ []
       → (after : Place → Option Mark) → IsMarked marks (place_at frame) Open after
       → Holds contents book after (frame ∷ path)
-  enter path h frame reads none is all after marked = record {
+  enter path h frame reads none is all nothing after marked = record {
     depth = h.depth;
     known = λ other v now. elim (cases marks (place_at frame) Open after marked other) [
       | inl (same, new) ↦ let no : ⊥ = cc in absurd no
@@ -192,6 +192,7 @@ module _ (contents : Contents) (book : Book) (are : AreOf contents book) (marks 
         is = is;
         within = λ place held. subst (λ cell. Reads book.named cell place) (sym is) (subst (λ l. HeldBy l place) all held);
         covers = λ place read some. inr (subst (λ l. HeldBy l place) (sym all) (subst (λ cell. Reads book.named cell place) is read));
+        noted = λ key has. absurd (nothing_in key (subst (λ l. Contains l key) nothing has));
       },
       each_waits contents book marks after (known_apart marks (place_at frame) Open after marked none) path h.waits,
     );

@@ -1,6 +1,6 @@
 -- The walk that finds values: a path of formulas, each of which waits for cells that it reads, the first one above
 -- the others.
-use Rattle.std.specs.Prelude.{◌≡◌, ◌⊎◌, ℕ, ⊤, List, [], ◌∷◌, ◌++◌, Contains, Option, Some, None}
+use Rattle.std.specs.Prelude.{◌≡◌, ◌≢◌, ◌⊎◌, ℕ, ⊤, List, [], ◌∷◌, ◌++◌, Contains, Option, Some}
 use Rattle.std.specs.Option.{IsSome}
 use Rattle.std.specs.List.{AllByRecursion}
 use Rattle.cell_value.specs.declared.cell.Value.{Value}
@@ -28,13 +28,15 @@ abbrev pub OnPath : List Frame → Place → Type 0
 OnPath [] place = ⊥
 OnPath (frame ∷ below) place = (place_at frame ≡ place) ⊎ OnPath below place
 
--- a formula waits with the areas that it has left: it reads the cells that they hold, and what else it reads of
--- what is stored is known
+-- a formula waits with the areas that it has left: it reads the cells that they hold, and those that it noted, and
+-- what else it reads of what is stored is known
 pub record Waits (contents : Contents) (book : Book) (marks : Place → Option Mark) (frame : Frame) : Type 0 where
   pub is : book.cells (place_at frame) ≡ formula (Some (expression_of frame.tree))
   pub within : (place : Place) → HeldBy frame.rest.items place → Reads book.named (book.cells (place_at frame)) place
   pub covers : (place : Place) → Reads book.named (book.cells (place_at frame)) place
       → IsSome (contents.content place) → IsKnown (marks place) ⊎ HeldBy frame.rest.items place
+  pub noted : (key : ℕ × ℕ × ℕ) → Contains frame.noted.items key
+      → Reads book.named (book.cells (place_at frame)) (place_of key)
 
 -- the first formula of the path, where there is one, reads the place
 abbrev pub IsReadBy : Book → List Frame → Place → Type 0
@@ -97,3 +99,25 @@ IsKnownAs contents before place cell after =
     × (value ≡ value_of_cell (book_read contents (λ other. value_told (before other)))
     (value_read contents (λ other. value_told (before other))) cell)
     × IsMarked before place (Known value) after
+
+-- a place is noted behind others, or there is no room for it among them
+abbrev pub IsNoted : ℕ × ℕ × ℕ → List (ℕ × ℕ × ℕ) → List (ℕ × ℕ × ℕ) → Type 0
+IsNoted key before after = (after ≡ before ++ key ∷ []) ⊎ ((after ≢ []) × (after ≡ before))
+
+-- marks come to others, whatever the path is, and what was known stays known
+pub record Learns (contents : Contents) (before after : Place → Option Mark) : Type 0 where
+  pub goes : (path : List Frame) → Goes contents before path after path
+  pub still : (place : Place) → IsKnown (before place) → IsKnown (after place)
+
+-- a cell comes to be known, or is noted
+pub record LooksAt (contents : Contents) (key : ℕ × ℕ × ℕ) (before : Place → Option Mark) (noted : List (ℕ × ℕ × ℕ))
+    (after : Place → Option Mark) (next : List (ℕ × ℕ × ℕ)) : Type 0 where
+  pub learns : Learns contents before after
+  pub met : (IsKnown (after (place_of key)) × (next ≡ noted)) ⊎ IsNoted key noted next
+
+-- of cells of a sheet some are noted; if none is, those in these first rows and columns are known
+pub record Notes (contents : Contents) (sheet : ℕ) (cells first : List (ℕ × ℕ)) (before : Place → Option Mark)
+    (noted : List (ℕ × ℕ × ℕ)) (after : Place → Option Mark) : Type 0 where
+  pub learns : Learns contents before after
+  pub known : noted ≡ [] → (cell : ℕ × ℕ) → Contains first cell → IsKnown (after (place_of (sheet, cell.0, cell.1)))
+  pub among : (key : ℕ × ℕ × ℕ) → Contains noted key → (key.0 ≡ sheet) × Contains cells (key.1, key.2)

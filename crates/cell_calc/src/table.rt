@@ -1,4 +1,4 @@
-ghost use Rattle.std.specs.Prelude.{◌≡◌, ◌↔◌, IfOk, OnOk, IsTrue, Some, None};
+ghost use Rattle.std.specs.Prelude.{◌≡◌, OnOk, Some, None};
 ghost use Rattle.std.specs.Option.{option_copied};
 ghost use Rattle.cell_value.specs.declared.cell.Kind.TheVariants as kind;
 ghost use Rattle.cell_value.specs.declared.cell.Value.TheVariants as value;
@@ -22,7 +22,7 @@ pub struct Table {
 impl Table {
     ghost use Rattle.cell_calc.specs.Book.{Place};
     ghost use Rattle.cell_calc.specs.Known.{value_known};
-    ghost use Rattle.cell_calc.specs.Marks.{place_of, marks_of, IsMarked, IsKnown, value_told, values_of, found_by};
+    ghost use Rattle.cell_calc.specs.Marks.{place_of, marks_of, IsMarked, value_told, values_of, found_by};
 
     /// A table of no values.
     pub(crate) fn new(alloc: Global) -> Table
@@ -71,16 +71,6 @@ impl Table {
         match self.marks.get(&key) {
             Some(mark) => mark.found(),
             None => Found::New,
-        }
-    }
-
-    pub(crate) fn is_known(&self, key: Key) -> bool
-        ensures { IsTrue result ↔ IsKnown (marks_of self.now (place_of key)) }
-    {
-        match self.found(key) {
-            Found::New => false,
-            Found::Circular => false,
-            Found::Settled => true,
         }
     }
 

@@ -1,5 +1,4 @@
-ghost use Rattle.std.specs.Prelude.{◌≡◌, [], ◌∷◌, List, IfOk, OnOk, Some, None, Contains, MatchOption, option_map};
-ghost use Rattle.std.specs.List.{All};
+ghost use Rattle.std.specs.Prelude.{◌≡◌, [], ◌∷◌, List, IfOk, OnOk, Some, None, option_map};
 ghost use Rattle.ref_rewrite.specs.declared.cell_content.Content.TheVariants as content;
 ghost use Rattle.formula_reader.specs.Symbols.{KeepsLimits};
 ghost use Rattle.formula_reader.specs.Tree.{expression_of};
@@ -8,8 +7,8 @@ ghost use Rattle.cell_calc.specs.Book.{Cell, formula};
 ghost use Rattle.cell_calc.specs.Contents.{IsCell, KeepsItsLimits};
 ghost use Rattle.cell_calc.specs.FormulaValue.{value_of_cell};
 ghost use Rattle.cell_calc.specs.Known.{book_read, value_read};
-ghost use Rattle.cell_calc.specs.Marks.{place_of, marks_of, values_of, IsKnown};
-ghost use Rattle.cell_calc.specs.Walk.{Goes, Meets, Closes, IsCut, IsTreeAt, IsKnownAs};
+ghost use Rattle.cell_calc.specs.Marks.{place_of, marks_of, values_of};
+ghost use Rattle.cell_calc.specs.Walk.{Goes, Meets, Closes, IsCut, IsTreeAt, IsKnownAs, LooksAt, IsNoted, Notes};
 
 use crate::areas::add_areas;
 use crate::cells::CellsOf;
@@ -25,6 +24,9 @@ use ref_rewrite::{Content, Formula};
 use std::alloc::Global;
 use std::collections::VecDeque;
 
+/// How many cells a formula notes at once: those for which it waits, of one of its areas.
+const MOST_NOTED: usize = 1_000;
+
 /// A formula that waits for cells that it reads.
 #[derive(Drop)]
 pub(crate) struct Frame {
@@ -32,6 +34,8 @@ pub(crate) struct Frame {
     tree: Tree,
     /// Areas that hold all cells that it still waits for.
     rest: Vec<Area>,
+    /// Cells that it reads, for which it waits first.
+    noted: Vec<Key>,
 }
 
 /// Comes to know the value of the cell, and of the cells that it reads and those that they read.
@@ -79,6 +83,26 @@ fn step<C: CellsOf>(
     ensures { OnOk result (Goes (C.contents cells.now) (marks_of table.old) (frame ∷ path.old.items)
         (marks_of table.new) path.new.items) }
 {
+    match frame.noted.pop() {
+        Some(place) => {
+            path.push_front(frame)?;
+            meet(alloc, cells, table, path, place)
+        }
+        None => look_on(alloc, cells, table, path, frame),
+    }
+}
+
+/// Goes on with an area of the first formula, which was taken from the path.
+fn look_on<C: CellsOf>(
+    alloc: Global,
+    cells: &C,
+    table: &mut Table,
+    path: &mut VecDeque<Frame>,
+    mut frame: Frame,
+) -> Result<(), NoMemory>
+    ensures { OnOk result (Goes (C.contents cells.now) (marks_of table.old) (frame ∷ path.old.items)
+        (marks_of table.new) path.new.items) }
+{
     match frame.rest.pop() {
         Some(area) => wait_for(alloc, cells, table, path, frame, area),
         None => finish(alloc, cells, table, frame.place, &frame.tree),
@@ -115,7 +139,7 @@ fn known_value<C: CellsOf>(
     value_of_tree(alloc, &KnownCells { cells, values }, tree)
 }
 
-/// Goes on with the first cell in the area that isn't known, or without the area where each is.
+/// Notes formulas in the area that aren't known, or goes on without the area where each cell is known.
 fn wait_for<C: CellsOf>(
     alloc: Global,
     cells: &C,
@@ -124,42 +148,118 @@ fn wait_for<C: CellsOf>(
     frame: Frame,
     area: Area,
 ) -> Result<(), NoMemory>
-    ensures { (whole : Frame) → IsCut whole frame area
+    ensures { (whole : Frame) → IsCut whole frame area → whole.noted.items ≡ frame.noted.items
         → OnOk result (Goes (C.contents cells.now) (marks_of table.old) (whole ∷ path.old.items)
         (marks_of table.new) path.new.items) }
 {
     let places = cells.places(&area)?;
-    match first_unknown(table, area.sheet, places.as_slice()) {
-        Some(place) => {
-            put_back(path, frame, area)?;
-            meet(alloc, cells, table, path, place)
-        }
-        None => Ok(path.push_front(frame)?),
+    let noted = all_noted(alloc, cells, table, area.sheet, places.as_slice())?;
+    if noted.is_empty() {
+        Ok(path.push_front(frame)?)
+    } else {
+        put_back(path, frame, area, noted)
     }
 }
 
-/// Puts the formula on the path with one more area.
-fn put_back(path: &mut VecDeque<Frame>, mut frame: Frame, area: Area) -> Result<(), NoMemory>
-    ensures { OnOk result ((whole : Frame) × IsCut whole frame area × (path.new.items ≡ whole ∷ path.old.items)) }
+/// Puts the formula on the path with one more area, and the cells in it for which it waits first.
+fn put_back(
+    path: &mut VecDeque<Frame>,
+    mut frame: Frame,
+    area: Area,
+    noted: Vec<Key>,
+) -> Result<(), NoMemory>
+    ensures { OnOk result ((next : Frame) × IsCut next frame area × (next.noted.items ≡ noted.items)
+        × (path.new.items ≡ next ∷ path.old.items)) }
 {
     frame.rest.push(area)?;
+    frame.noted = noted;
     path.push_front(frame)?;
     Ok(())
 }
 
-/// The first of these cells of the sheet that isn't known.
-fn first_unknown(table: &Table, sheet: u32, places: &[(u32, u32)]) -> Option<Key>
-    ensures { MatchOption result
-        (All (λ cell. IsKnown (marks_of table.now (place_of (sheet, cell.0, cell.1)))) places.now)
-        (λ key. (key.0 ≡ sheet) × Contains places.now (key.1, key.2)) }
+/// Some of the formulas among these cells of the sheet that aren't known; none where each cell is. The values of
+/// cells without a formula come to be known.
+fn all_noted<C: CellsOf>(
+    alloc: Global,
+    cells: &C,
+    table: &mut Table,
+    sheet: u32,
+    places: &[(u32, u32)],
+) -> Result<Vec<Key>, NoMemory>
+    ensures { IfOk result (λ noted. Notes (C.contents cells.now) sheet places.now places.now (marks_of table.old)
+        noted.items (marks_of table.new)) }
 {
+    let mut noted = Vec::new(alloc);
     for cell in places {
-        let place = (sheet, cell.0, cell.1);
-        if !table.is_known(place) {
-            return Some(place);
-        }
+        look_at(alloc, cells, table, &mut noted, (sheet, cell.0, cell.1))?;
     }
-    None
+    Ok(noted)
+}
+
+/// Notes a formula that isn't known, if there is room; the value of a cell without a formula comes to be known.
+fn look_at<C: CellsOf>(
+    alloc: Global,
+    cells: &C,
+    table: &mut Table,
+    noted: &mut Vec<Key>,
+    place: Key,
+) -> Result<(), NoMemory>
+    ensures { OnOk result (LooksAt (C.contents cells.now) place (marks_of table.old) noted.old.items
+        (marks_of table.new) noted.new.items) }
+{
+    match table.found(place) {
+        Found::New => look_at_new(alloc, cells, table, noted, place),
+        Found::Circular => note(noted, place),
+        Found::Settled => Ok(()),
+    }
+}
+
+fn look_at_new<C: CellsOf>(
+    alloc: Global,
+    cells: &C,
+    table: &mut Table,
+    noted: &mut Vec<Key>,
+    place: Key,
+) -> Result<(), NoMemory>
+    ensures { OnOk result (LooksAt (C.contents cells.now) place (marks_of table.old) noted.old.items
+        (marks_of table.new) noted.new.items) }
+{
+    cells.stay_sound();
+    match cells.content(place.0, place.1, place.2) {
+        Some(content) => look_at_content(alloc, cells, table, noted, place, content),
+        None => table.set(place, Mark::Known(Value::Blank)),
+    }
+}
+
+fn look_at_content<C: CellsOf>(
+    alloc: Global,
+    cells: &C,
+    table: &mut Table,
+    noted: &mut Vec<Key>,
+    place: Key,
+    content: &Content,
+) -> Result<(), NoMemory>
+    requires { KeepsItsLimits content.now }
+    ensures { (C.contents cells.now).content (place_of place) ≡ Some content.now
+        → OnOk result (LooksAt (C.contents cells.now) place (marks_of table.old) noted.old.items
+        (marks_of table.new) noted.new.items) }
+{
+    match content {
+        Content::Number(_) => begin_stored(alloc, cells, table, place, content),
+        Content::Text(_) => begin_stored(alloc, cells, table, place, content),
+        Content::Truth(_) => begin_stored(alloc, cells, table, place, content),
+        Content::Formula(_) => note(noted, place),
+    }
+}
+
+/// Puts the place behind others, if there is room.
+fn note(noted: &mut Vec<Key>, place: Key) -> Result<(), NoMemory>
+    ensures { OnOk result (IsNoted place noted.old.items noted.new.items) }
+{
+    if noted.len() < MOST_NOTED {
+        noted.push(place)?;
+    }
+    Ok(())
 }
 
 /// The first formula of the path, where it has one, reads the cell.
@@ -318,7 +418,13 @@ fn enter<C: CellsOf>(
 {
     let mut rest = Vec::new(alloc);
     add_areas(cells, &tree, &mut rest)?;
+    let noted = Vec::new(alloc);
     table.set(place, Mark::Open)?;
-    path.push_front(Frame { place, tree, rest })?;
+    path.push_front(Frame {
+        place,
+        tree,
+        rest,
+        noted,
+    })?;
     Ok(())
 }

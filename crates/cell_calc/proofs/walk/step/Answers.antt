@@ -1,13 +1,33 @@
-use Rattle.std.proofs.Common.{refl, arith}
-use Rattle.cell_calc.proofs.Popped.{cut_off, no_rest}
+use Rattle.std.proofs.Common.{◌++◌, [], Contains, refl, ap, subst, sym, ◌∙◌}
+use Rattle.std.specs.Option.{option_to_list}
+use Rattle.std.proofs.lemmas.List.Elements.{Contains-append_left}
+use Rattle.std.proofs.lemmas.Result.{on_ok_weaker}
+use Rattle.cell_calc.specs.declared.walk.Frame.{Frame}
+use Rattle.cell_calc.specs.Marks.{place_of, marks_of}
+use Rattle.cell_calc.specs.Walk.{Meets}
+use Rattle.cell_calc.proofs.Popped.{cut_off}
+use Rattle.cell_calc.proofs.Going.{went_on, as_well}
 use Rattle.cell_calc.proofs.walk.step.Goals as goal
 
-pub returns-in-Some : goal.returns-in-Some
-returns-in-Some g c =
-    c.wait_for.ensures c.args.frame
-    (record { place = refl; tree = refl; rest = cut_off _ _ c.pop.result c.in-Some.area c.pop.ensures.items c.in-Some.is })
+pub returns-in_ok-push_front-in-Some : goal.returns-in_ok-push_front-in-Some
+returns-in_ok-push_front-in-Some g c =
+    let contents = g.C.CellsOf.contents c.args.cells.now in
+    let key = c.in-Some.place in
+    let left : Frame = record { place = c.args.frame.place; tree = c.args.frame.tree; rest = c.args.frame.rest; noted = c.pop.new.self } in
+    on_ok_weaker c.meet.result
+    (λ meets. went_on contents c.args.frame left key refl refl refl (cut_off _ _ c.pop.result key c.pop.ensures.items c.in-Some.is)
+    (marks_of c.args.table.now) c.args.path.now.items (marks_of c.meet.new.table) c.meet.new.path.items
+    (subst (λ l. Meets contents (place_of key) (marks_of c.args.table.now) l (marks_of c.meet.new.table) c.meet.new.path.items)
+    c.in_ok-push_front-in-Some.ensures.items meets))
+    c.meet.ensures
 
 pub returns-in-None : goal.returns-in-None
 returns-in-None g c =
-    c.finish.ensures c.args.frame c.args.path.now.items refl refl
-    (no_rest c.args.frame.rest.items (omega (arith, c.args.frame.rest.ok, c.in-None.ensures.cases)))
+    let contents = g.C.CellsOf.contents c.args.cells.now in
+    let left : Frame = record { place = c.args.frame.place; tree = c.args.frame.tree; rest = c.args.frame.rest; noted = c.pop.new.self } in
+    let items = c.pop.ensures.items ∙ ap (λ o. c.pop.new.self.items ++ option_to_list o) c.in-None.is in
+    on_ok_weaker c.look_on.result
+    (λ goes. as_well contents c.args.frame left refl refl refl
+    (λ key has. subst (λ l. Contains l key) (sym items) (Contains-append_left c.pop.new.self.items [] key has))
+    (marks_of c.args.table.now) c.args.path.now.items (marks_of c.look_on.new.table) c.look_on.new.path.items goes)
+    c.look_on.ensures
