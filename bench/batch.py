@@ -16,6 +16,11 @@ DELETED = {
     "deleteDimension": {"range": {"sheetId": 0, "dimension": "ROWS", "startIndex": 0, "endIndex": 1}}
 }
 ROWS_MORE = {"appendDimension": {"sheetId": 0, "dimension": "ROWS", "length": 3_000}}
+UPDATES = 100_000
+CHANGES = 1_000
+FOLLOWED = 50
+
+
 def updated(number):
     """A request that writes a number to one cell of its own."""
     return {
@@ -31,7 +36,7 @@ def updates(long, short):
     """Prints what an update of one cell takes in a long batch and in a short one, in a sheet of 26,000 cells."""
     full = filled("A1:Z1000", 1_000)
     figures = [
-        seconds(full, batch(*map(updated, range(count))), 5) / 5 / count for count in (long, short)
+        seconds(full, batch(*map(updated, range(count))), UPDATES // count) / UPDATES for count in (long, short)
     ]
     print(
         f"an update of one cell: {figures[0] * 1e6:.1f} microseconds in a batch of {long}, {figures[1] * 1e6:.1f} in"
@@ -44,7 +49,7 @@ def insertions():
     deleted again."""
     few = filled("A1:Z38", 38)
     many = batch(ROWS_MORE) + filled("A1:Z3846", 3_846)
-    figures = [seconds(before, batch(INSERTED, DELETED), 10) / 10 for before in (few, many)]
+    figures = [seconds(before, batch(INSERTED, DELETED), CHANGES) / CHANGES for before in (few, many)]
     print(
         f"a row inserted and deleted: {figures[0] * 1e6:.0f} microseconds beside 988 cells, {figures[1] * 1e6:.0f}"
         f" beside 99996: ratio {figures[1] / figures[0]:.1f}"
@@ -58,7 +63,7 @@ def followed():
         end = "BCDEFGHIJK"[columns - 1]
         formulas = [[f"=A{row + 1}"] * columns for row in range(1_000)]
         before = put(f"B1:{end}1000", formulas, option="USER_ENTERED")
-        figures.append(seconds(before, batch(INSERTED, DELETED), 10) / 10)
+        figures.append(seconds(before, batch(INSERTED, DELETED), FOLLOWED) / FOLLOWED)
     print(
         f"the same: {figures[0] * 1e6:.0f} microseconds beside 1000 formulas, {figures[1] * 1e6:.0f} beside 10000:"
         f" ratio {figures[1] / figures[0]:.1f}"
