@@ -1,0 +1,4 @@
+pub mod ConversationLemmas
+pub mod ExchangeLemmas
+pub mod LeavingLemmas
+pub mod Sides

@@ -1,0 +1,6 @@
+pub mod Responses
+pub mod Written
+pub mod Conversation
+pub mod Exchanges
+pub mod Laws
+pub mod Idle
