@@ -28,6 +28,7 @@ use Rattle.sheets_json.specs.declared.place.Place.TheVariants as place
 use Rattle.batch_engine.specs.Calls.{OnBook, IsAlone, IsAnswered, IsApplied, IsChange, IsInstalled, Refusal, alone, as_told, told_as}
 use Rattle.batch_engine.specs.Looks.{looked}
 use Rattle.batch_engine.specs.Calls.{IsLookOf, IsClearOf, IsReadOf, IsReadManyOf, IsWriteOf}
+use Rattle.batch_engine.specs.declared.calls.Caller.{Caller}
 use Rattle.batch_engine.specs.declared.calls.Outcome.{Outcome}
 use Rattle.batch_engine.proofs.Becoming.{found_has_id, becomes_changed}
 use Rattle.batch_engine.proofs.Judged.{judged_so}
@@ -44,10 +45,10 @@ none_next : (books : List PlaceBook) (next : Option (List PlaceBook)) → next �
 none_next books next is = subst (IsNext books Nothing) (sym is) tt
 
 -- a call that makes nothing of the spreadsheets
-pub applied_unchanged : (called : Call) (books : List PlaceBook) (told : Result Answer Refusal) (outcome : Outcome)
-    (next : Option (List PlaceBook)) → IsAnswered called books told Nothing → outcome ≡ told_as told → next ≡ None
-    → IsApplied called books outcome next
-applied_unchanged called books told outcome next answered is none = record {
+pub applied_unchanged : (caller : Caller) (called : Call) (books : List PlaceBook) (told : Result Answer Refusal) (outcome : Outcome)
+    (next : Option (List PlaceBook)) → IsAnswered caller called books told Nothing → outcome ≡ told_as told → next ≡ None
+    → IsApplied caller called books outcome next
+applied_unchanged caller called books told outcome next answered is none = record {
   judged = told;
   effect = Nothing;
   answered = answered;
@@ -55,13 +56,13 @@ applied_unchanged called books told outcome next answered is none = record {
   next_is = none_next books next none;
 }
 
-module _ (called : Call) (id : List ℕ) (books : List PlaceBook)
+module _ (caller : Caller) (called : Call) (id : List ℕ) (books : List PlaceBook)
     (Answered : PlaceBook → Result Answer Refusal → Effect → Type 0)
     (is_answered : (told : Result Answer Refusal) (effect : Effect)
-    → OnBook id books (λ book. Answered book told effect) → IsAnswered called books told effect)
+    → OnBook id books (λ book. Answered book told effect) → IsAnswered caller called books told effect)
     (book : PlaceBook) (found : book_with id books ≡ Some book) where
   on_book : (told : Result Answer Refusal) (effect : Effect) → Answered book told effect
-      → IsAnswered called books told effect
+      → IsAnswered caller called books told effect
   on_book told effect holds =
       is_answered told effect (subst (λ one. IsSomeAnd one (λ (b : PlaceBook). Answered b told effect)) (sym found) holds)
 
@@ -77,7 +78,7 @@ module _ (called : Call) (id : List ℕ) (books : List PlaceBook)
 
   pub applied_change : (judged : Result (Answer × PlaceBook) Refusal) (outcome : Outcome) (next : Option (List PlaceBook))
       → IsChange (Answered book) book judged → IsInstalled books judged outcome next
-      → IsApplied called books outcome next
+      → IsApplied caller called books outcome next
   applied_change (Ok (told, after)) outcome next change installed =
       let (changes, answered, changed) = change in
       record {
@@ -100,9 +101,9 @@ module _ (called : Call) (id : List ℕ) (books : List PlaceBook)
   }
 
   pub applied_read : (told : Result Answer Refusal) (outcome : Outcome) (next : Option (List PlaceBook))
-      → Answered book told Nothing → outcome ≡ told_as told → next ≡ None → IsApplied called books outcome next
+      → Answered book told Nothing → outcome ≡ told_as told → next ≡ None → IsApplied caller called books outcome next
   applied_read told outcome next holds is none =
-      applied_unchanged called books told outcome next (on_book told Nothing holds) is none
+      applied_unchanged caller called books told outcome next (on_book told Nothing holds) is none
 
 -- a call without members
 alone_change : (Answered : Result Answer Rule → Effect → Type 0) (book : PlaceBook)
@@ -122,7 +123,7 @@ if_ok P Q (Err error) then holds = tt
 -- ---- a write and a clear
 
 module _ (id range : List ℕ) (mode : Mode) (values : Reading ValueRange) (books : List PlaceBook) (book : PlaceBook)
-    (called : Call) (called_is : called ≡ call.Write id range mode values) (found : book_with id books ≡ Some book)
+    (caller : Caller) (called : Call) (called_is : called ≡ call.Write id range mode values) (found : book_with id books ≡ Some book)
     (told : Result (Answer × PlaceBook) RuleOr) (judged : Result (Answer × PlaceBook) Rule)
     (change : IsUnlessNoMemory (IsChange (IsWriteOf range values book) book) told) (told_is : told ≡ as_told judged)
   where
@@ -135,19 +136,19 @@ module _ (id range : List ℕ) (mode : Mode) (values : Reading ValueRange) (book
         (subst (IsUnlessNoMemory (IsChange (IsWriteOf range values book) book)) told_is change))
 
     write_answered : (answered : Result Answer Refusal) (effect : Effect)
-        → OnBook id books (λ book. Writes book answered effect) → IsAnswered called books answered effect
+        → OnBook id books (λ book. Writes book answered effect) → IsAnswered caller called books answered effect
     write_answered answered effect holds =
-        subst (λ one. IsAnswered one books answered effect) (sym called_is) holds
+        subst (λ one. IsAnswered caller one books answered effect) (sym called_is) holds
 
     pub write_there : IfOk (alone judged) (λ done. IsSome (book_with done.1.id books))
-    write_there = change_there called id books Writes write_answered book found (alone judged) write_change
+    write_there = change_there caller called id books Writes write_answered book found (alone judged) write_change
 
     pub write_applied : (outcome : Outcome) (next : Option (List PlaceBook)) → IsInstalled books (alone judged) outcome next
-        → IsApplied called books outcome next
+        → IsApplied caller called books outcome next
     write_applied outcome next installed =
-        applied_change called id books Writes write_answered book found (alone judged) outcome next write_change installed
+        applied_change caller called id books Writes write_answered book found (alone judged) outcome next write_change installed
 
-module _ (id range : List ℕ) (books : List PlaceBook) (book : PlaceBook) (called : Call)
+module _ (id range : List ℕ) (books : List PlaceBook) (book : PlaceBook) (caller : Caller) (called : Call)
     (called_is : called ≡ call.Clear id range) (found : book_with id books ≡ Some book)
     (told : Result (Answer × PlaceBook) RuleOr) (judged : Result (Answer × PlaceBook) Rule)
     (change : IsUnlessNoMemory (IsChange (IsClearOf range book) book) told) (told_is : told ≡ as_told judged) where
@@ -160,24 +161,24 @@ module _ (id range : List ℕ) (books : List PlaceBook) (book : PlaceBook) (call
       (subst (IsUnlessNoMemory (IsChange (IsClearOf range book) book)) told_is change))
 
   clear_answered : (answered : Result Answer Refusal) (effect : Effect)
-      → OnBook id books (λ book. Clears book answered effect) → IsAnswered called books answered effect
+      → OnBook id books (λ book. Clears book answered effect) → IsAnswered caller called books answered effect
   clear_answered answered effect holds =
-      subst (λ one. IsAnswered one books answered effect) (sym called_is) holds
+      subst (λ one. IsAnswered caller one books answered effect) (sym called_is) holds
 
   pub clear_there : IfOk (alone judged) (λ done. IsSome (book_with done.1.id books))
-  clear_there = change_there called id books Clears clear_answered book found (alone judged) clear_change
+  clear_there = change_there caller called id books Clears clear_answered book found (alone judged) clear_change
 
   pub clear_applied : (outcome : Outcome) (next : Option (List PlaceBook)) → IsInstalled books (alone judged) outcome next
-      → IsApplied called books outcome next
+      → IsApplied caller called books outcome next
   clear_applied outcome next installed =
-      applied_change called id books Clears clear_answered book found (alone judged) outcome next clear_change installed
+      applied_change caller called id books Clears clear_answered book found (alone judged) outcome next clear_change installed
 
 -- ---- another change that has no members
 
-module _ (id : List ℕ) (books : List PlaceBook) (book : PlaceBook) (called : Call)
+module _ (id : List ℕ) (books : List PlaceBook) (book : PlaceBook) (caller : Caller) (called : Call)
     (Answered : PlaceBook → Result Answer Rule → Effect → Type 0)
     (is_answered : (told : Result Answer Refusal) (effect : Effect)
-    → OnBook id books (λ one. IsAlone (Answered one) told effect) → IsAnswered called books told effect)
+    → OnBook id books (λ one. IsAlone (Answered one) told effect) → IsAnswered caller called books told effect)
     (found : book_with id books ≡ Some book) (told : Result (Answer × PlaceBook) RuleOr)
     (judged : Result (Answer × PlaceBook) Rule) (change : IsUnlessNoMemory (IsChange (Answered book) book) told)
     (told_is : told ≡ as_told judged) where
@@ -188,12 +189,12 @@ module _ (id : List ℕ) (books : List PlaceBook) (book : PlaceBook) (called : C
 
   pub lone_there : IfOk (alone judged) (λ done. IsSome (book_with done.1.id books))
   lone_there =
-      change_there called id books (λ one. IsAlone (Answered one)) is_answered book found (alone judged) lone_change
+      change_there caller called id books (λ one. IsAlone (Answered one)) is_answered book found (alone judged) lone_change
 
   pub lone_applied : (outcome : Outcome) (next : Option (List PlaceBook)) → IsInstalled books (alone judged) outcome next
-      → IsApplied called books outcome next
+      → IsApplied caller called books outcome next
   lone_applied outcome next installed =
-      applied_change called id books (λ one. IsAlone (Answered one)) is_answered book found (alone judged) outcome next
+      applied_change caller called id books (λ one. IsAlone (Answered one)) is_answered book found (alone judged) outcome next
       lone_change installed
 
 -- ---- reads
@@ -206,38 +207,38 @@ read_judged range dimension render book told judged is told_is =
     judged_so (λ told. IsReadOf range dimension render book told Nothing) judged
     (subst (IsUnlessNoMemory (λ told. IsReadOf range dimension render book told Nothing)) told_is is)
 
-module _ (books : List PlaceBook) (book : PlaceBook) (called : Call) (outcome : Outcome) (next : Option (List PlaceBook))
+module _ (books : List PlaceBook) (book : PlaceBook) (caller : Caller) (called : Call) (outcome : Outcome) (next : Option (List PlaceBook))
     (none : next ≡ None) where
   pub read_applied : (id range : List ℕ) (dimension : Option Axis) (render : Option Render)
       → called ≡ call.Read id range dimension render → book_with id books ≡ Some book → (told : Result Answer Rule)
       → IsReadOf range dimension render book told Nothing → outcome ≡ told_as (alone told)
-      → IsApplied called books outcome next
+      → IsApplied caller called books outcome next
   read_applied id range dimension render called_is found told holds is =
-      applied_read called id books (λ one. IsAlone (IsReadOf range dimension render one))
-      (λ answered effect on. subst (λ one. IsAnswered one books answered effect) (sym called_is) on) book found (alone told)
+      applied_read caller called id books (λ one. IsAlone (IsReadOf range dimension render one))
+      (λ answered effect on. subst (λ one. IsAnswered caller one books answered effect) (sym called_is) on) book found (alone told)
       outcome next (record { judged = told; answered = holds; told_is = refl }) is none
 
   pub look_applied : (id : List ℕ) (grids : Option Bool) → called ≡ call.Get id grids
       → book_with id books ≡ Some book → (told : Result Answer Refusal) → told ≡ looked grids book
-      → outcome ≡ told_as told → IsApplied called books outcome next
+      → outcome ≡ told_as told → IsApplied caller called books outcome next
   look_applied id grids called_is found told holds is =
-      applied_read called id books (IsLookOf grids)
-      (λ answered effect on. subst (λ one. IsAnswered one books answered effect) (sym called_is) on) book found told outcome
+      applied_read caller called id books (IsLookOf grids)
+      (λ answered effect on. subst (λ one. IsAnswered caller one books answered effect) (sym called_is) on) book found told outcome
       next (holds, refl) is none
 
   pub read_many_applied : (id : List ℕ) (ranges : List (List ℕ)) (dimension : Option Axis) (render : Option Render)
       → called ≡ call.ReadMany id ranges dimension render → book_with id books ≡ Some book
       → (told : Result Answer Refusal) → IsReadManyOf ranges dimension render book told Nothing → outcome ≡ told_as told
-      → IsApplied called books outcome next
+      → IsApplied caller called books outcome next
   read_many_applied id ranges dimension render called_is found told holds is =
-      applied_unchanged called books told outcome next
-      (subst (λ one. IsAnswered one books told Nothing) (sym called_is)
+      applied_unchanged caller called books told outcome next
+      (subst (λ one. IsAnswered caller one books told Nothing) (sym called_is)
       (subst (λ one. IsSomeAnd one (λ (b : PlaceBook). IsReadManyOf ranges dimension render b told Nothing)) (sym found)
       holds)) is none
 
 -- ---- a call that isn't done yet
 
-pub other_answered : (called : Call) (books : List PlaceBook)
+pub other_answered : (caller : Caller) (called : Call) (books : List PlaceBook)
     → ((id : Text) (grids : Option Bool) → called ≡ call.Get id grids → ⊥)
     → ((id : Text) (requests : List Step) → called ≡ call.Batch id requests → ⊥)
     → ((id range : Text) (dimension : Option Axis) (render : Option Render) → called ≡ call.Read id range dimension render → ⊥)
@@ -249,24 +250,24 @@ pub other_answered : (called : Call) (books : List PlaceBook)
     → called ≡ call.ReadMany id ranges dimension render → ⊥)
     → ((id : Text) (mode : Mode) (blocks : List (Reading RangeBlock)) → called ≡ call.WriteMany id mode blocks → ⊥)
     → ((id : Text) (ranges : List (Reading Text)) → called ≡ call.ClearMany id ranges → ⊥)
-    → IsAnswered called books (Err (place.Alone, rule.Unsupported)) Nothing
-other_answered (call.Read id range dimension render) books no_look no_batch no_read no_write no_append no_clear no_list no_writes no_clears =
+    → IsAnswered caller called books (Err (place.Alone, rule.Unsupported)) Nothing
+other_answered caller (call.Read id range dimension render) books no_look no_batch no_read no_write no_append no_clear no_list no_writes no_clears =
     absurd (no_read id range dimension render refl)
-other_answered (call.Write id range mode values) books no_look no_batch no_read no_write no_append no_clear no_list no_writes no_clears =
+other_answered caller (call.Write id range mode values) books no_look no_batch no_read no_write no_append no_clear no_list no_writes no_clears =
     absurd (no_write id range mode values refl)
-other_answered (call.Clear id range) books no_look no_batch no_read no_write no_append no_clear no_list no_writes no_clears =
+other_answered caller (call.Clear id range) books no_look no_batch no_read no_write no_append no_clear no_list no_writes no_clears =
     absurd (no_clear id range refl)
-other_answered (call.Create spreadsheet) books no_look no_batch no_read no_write no_append no_clear no_list no_writes no_clears =
+other_answered caller (call.Create spreadsheet) books no_look no_batch no_read no_write no_append no_clear no_list no_writes no_clears =
     (refl, refl)
-other_answered (call.Get id grids) books no_look no_batch no_read no_write no_append no_clear no_list no_writes no_clears =
+other_answered caller (call.Get id grids) books no_look no_batch no_read no_write no_append no_clear no_list no_writes no_clears =
     absurd (no_look id grids refl)
-other_answered (call.Batch id requests) books no_look no_batch no_read no_write no_append no_clear no_list no_writes no_clears =
+other_answered caller (call.Batch id requests) books no_look no_batch no_read no_write no_append no_clear no_list no_writes no_clears =
     absurd (no_batch id requests refl)
-other_answered (call.Append id range mode option values) books no_look no_batch no_read no_write no_append no_clear no_list no_writes no_clears =
+other_answered caller (call.Append id range mode option values) books no_look no_batch no_read no_write no_append no_clear no_list no_writes no_clears =
     absurd (no_append id range mode option values refl)
-other_answered (call.ReadMany id ranges dimension render) books no_look no_batch no_read no_write no_append no_clear no_list no_writes no_clears =
+other_answered caller (call.ReadMany id ranges dimension render) books no_look no_batch no_read no_write no_append no_clear no_list no_writes no_clears =
     absurd (no_list id ranges dimension render refl)
-other_answered (call.WriteMany id mode blocks) books no_look no_batch no_read no_write no_append no_clear no_list no_writes no_clears =
+other_answered caller (call.WriteMany id mode blocks) books no_look no_batch no_read no_write no_append no_clear no_list no_writes no_clears =
     absurd (no_writes id mode blocks refl)
-other_answered (call.ClearMany id ranges) books no_look no_batch no_read no_write no_append no_clear no_list no_writes no_clears =
+other_answered caller (call.ClearMany id ranges) books no_look no_batch no_read no_write no_append no_clear no_list no_writes no_clears =
     absurd (no_clears id ranges refl)

@@ -29,6 +29,7 @@ use Rattle.sheets_json.specs.declared.call.Call.{Call}
 use Rattle.sheets_json.specs.declared.call.Call.TheVariants as call
 use Rattle.sheets_json.specs.declared.call.RangeBlock.{RangeBlock}
 use Rattle.sheets_json.specs.declared.call.ValueRange.{ValueRange}
+use Rattle.batch_engine.specs.declared.calls.Caller.{Caller}
 use Rattle.batch_engine.specs.Effects.{Effect, cells_updated}
 use Rattle.batch_engine.specs.Effects.Effect.{Nothing}
 use Rattle.batch_engine.specs.Ranges.{IsTarget, agreed}
@@ -308,37 +309,37 @@ module _ (one_reading : HasOneReading) (news : NewSheetsOnce) (writes : WritesOn
         → IsOnce (λ told effect. OnBook id books (λ book. Answered book told effect))
     on_book_once id Answered each = option_once Answered each (book_with id books) (found_sound id books sound)
 
-    pub answered_once : (called : Call) → IsOnce (IsAnswered called books)
-    answered_once (call.Read id range dimension render) =
+    pub answered_once : (caller : Caller) (called : Call) → IsOnce (IsAnswered caller called books)
+    answered_once caller (call.Read id range dimension render) =
         on_book_once id (λ book. IsAlone (IsReadOf range dimension render book))
         (λ book sound. alone_once (IsReadOf range dimension render book)
         (seen_once (IsShown dimension render book range) answer.Read (shown_once dimension render book range)))
-    answered_once (call.Write id range mode values) =
+    answered_once caller (call.Write id range mode values) =
         on_book_once id (λ book. IsAlone (IsWriteOf range values book))
         (λ book sound. alone_once (IsWriteOf range values book)
         (made_once (IsWritten range book values) (λ wrote. answer.Write wrote.0) book (written_once range book sound values)))
-    answered_once (call.Clear id range) =
+    answered_once caller (call.Clear id range) =
         on_book_once id (λ book. IsAlone (IsClearOf range book))
         (λ book sound. alone_once (IsClearOf range book)
         (made_once (IsCleared book (Ok range)) (λ text. answer.Clear text book.id) book (cleared_once book (Ok range))))
-    answered_once (call.ReadMany id ranges dimension render) =
+    answered_once caller (call.ReadMany id ranges dimension render) =
         on_book_once id (IsReadManyOf ranges dimension render)
         (λ book sound. read_many_once ranges dimension render book)
-    answered_once (call.WriteMany id mode blocks) =
+    answered_once caller (call.WriteMany id mode blocks) =
         on_book_once id (IsWriteManyOf blocks)
         (λ book sound. are_made_once IsUpdated updated_once blocks place.Data (written_answer book) book sound)
-    answered_once (call.ClearMany id ranges) =
+    answered_once caller (call.ClearMany id ranges) =
         on_book_once id (IsClearManyOf ranges)
         (λ book sound. are_made_once IsCleared (λ book sound. cleared_once book) ranges place.Ranges
         (λ texts. answer.ClearMany texts book.id) book sound)
-    answered_once (call.Create spreadsheet) = said_once (Err (place.Alone, rule.Unsupported)) Nothing
-    answered_once (call.Get id grids) =
+    answered_once caller (call.Create spreadsheet) = said_once (Err (place.Alone, rule.Unsupported)) Nothing
+    answered_once caller (call.Get id grids) =
         on_book_once id (IsLookOf grids) (λ book sound. said_once (looked grids book) Nothing)
-    answered_once (call.Batch id requests) =
+    answered_once caller (call.Batch id requests) =
         on_book_once id (IsBatchOf requests)
         (λ book sound. are_made_once IsRequested (requested_once news writes apart turns) requests place.Requests
         (λ replies. answer.Batch replies book.id) book sound)
-    answered_once (call.Append id range mode option values) =
+    answered_once caller (call.Append id range mode option values) =
         on_book_once id (λ book. IsAlone (IsAppendOf range option values book))
         (λ book sound. alone_once (IsAppendOf range option values book)
         (made_once (IsAppended range (inserts option) book values) (λ made. answer.Append book.id made.0 made.1) book

@@ -35,6 +35,7 @@ use Rattle.batch_engine.specs.Looks.{looked}
 use Rattle.batch_engine.specs.Members.{InOrder, InTurn, Told}
 use Rattle.batch_engine.specs.Requests.{IsRequested}
 use Rattle.batch_engine.specs.Values.{IsAppended, IsCleared, IsShown, IsUpdated, IsWritten, Wrote, inserts}
+use Rattle.batch_engine.specs.declared.calls.Caller.{Caller}
 use Rattle.batch_engine.specs.declared.calls.Outcome.{Outcome}
 use Rattle.batch_engine.specs.declared.calls.Outcome.TheVariants as outcome
 
@@ -171,26 +172,27 @@ OnBook id books Holds = IsSomeAnd (book_with id books) Holds
 abbrev pub IsLookOf : Option Bool → PlaceBook → Result Answer Refusal → Effect → Type 0
 IsLookOf grids book told effect = (told ≡ looked grids book) × (effect ≡ Nothing)
 
--- a call is answered so, or breaks that rule there, and makes that of the spreadsheets; no other call is done yet
-abbrev pub IsAnswered : Call → List PlaceBook → Result Answer Refusal → Effect → Type 0
-IsAnswered (call.Get id grids) books told effect = OnBook id books (λ book. IsLookOf grids book told effect)
-IsAnswered (call.Batch id requests) books told effect =
+-- the call of its caller is answered so, or breaks that rule there, and makes that of the spreadsheets; no other call is
+-- done yet
+abbrev pub IsAnswered : Caller → Call → List PlaceBook → Result Answer Refusal → Effect → Type 0
+IsAnswered caller (call.Get id grids) books told effect = OnBook id books (λ book. IsLookOf grids book told effect)
+IsAnswered caller (call.Batch id requests) books told effect =
     OnBook id books (λ book. IsBatchOf requests book told effect)
-IsAnswered (call.Read id range dimension render) books told effect =
+IsAnswered caller (call.Read id range dimension render) books told effect =
     OnBook id books (λ book. IsAlone (IsReadOf range dimension render book) told effect)
-IsAnswered (call.Write id range mode values) books told effect =
+IsAnswered caller (call.Write id range mode values) books told effect =
     OnBook id books (λ book. IsAlone (IsWriteOf range values book) told effect)
-IsAnswered (call.Append id range mode option values) books told effect =
+IsAnswered caller (call.Append id range mode option values) books told effect =
     OnBook id books (λ book. IsAlone (IsAppendOf range option values book) told effect)
-IsAnswered (call.Clear id range) books told effect =
+IsAnswered caller (call.Clear id range) books told effect =
     OnBook id books (λ book. IsAlone (IsClearOf range book) told effect)
-IsAnswered (call.ReadMany id ranges dimension render) books told effect =
+IsAnswered caller (call.ReadMany id ranges dimension render) books told effect =
     OnBook id books (λ book. IsReadManyOf ranges dimension render book told effect)
-IsAnswered (call.WriteMany id mode blocks) books told effect =
+IsAnswered caller (call.WriteMany id mode blocks) books told effect =
     OnBook id books (λ book. IsWriteManyOf blocks book told effect)
-IsAnswered (call.ClearMany id ranges) books told effect =
+IsAnswered caller (call.ClearMany id ranges) books told effect =
     OnBook id books (λ book. IsClearManyOf ranges book told effect)
-IsAnswered _ books told effect = (told ≡ Err (place.Alone, rule.Unsupported)) × (effect ≡ Nothing)
+IsAnswered caller _ books told effect = (told ≡ Err (place.Alone, rule.Unsupported)) × (effect ≡ Nothing)
 
 -- the spreadsheet that a call is on is there
 abbrev pub HasItsBook : Call → List PlaceBook → Type 0
@@ -210,13 +212,13 @@ told_as (Ok told) = outcome.Answered told
 told_as (Err (at, broken)) = outcome.Refused at broken
 
 -- the call is answered, and these are the spreadsheets after it, if it makes something of them
-pub record IsApplied (called : Call) (books : List PlaceBook) (told : Outcome) (next : Option (List PlaceBook)) : Type 0
-  where
-    pub judged : Result Answer Refusal
-    pub effect : Effect
-    pub answered : IsAnswered called books judged effect
-    pub told_is : told ≡ told_as judged
-    pub next_is : IsNext books effect next
+pub record IsApplied (caller : Caller) (called : Call) (books : List PlaceBook) (told : Outcome)
+    (next : Option (List PlaceBook)) : Type 0 where
+  pub judged : Result Answer Refusal
+  pub effect : Effect
+  pub answered : IsAnswered caller called books judged effect
+  pub told_is : told ≡ told_as judged
+  pub next_is : IsNext books effect next
 
 -- ---- what the private functions hand to one another
 

@@ -64,7 +64,7 @@ pub fn apply(
     call: &Call,
 ) -> Result<Applied, NoMemory>
     requires { HasItsBook call.now world.now }
-    ensures { IfOk result (λ applied. IsApplied call.now world.now applied.outcome applied.next) }
+    ensures { IfOk result (λ applied. IsApplied caller.now call.now world.now applied.outcome applied.next) }
 {
     match call {
         Call::Read {

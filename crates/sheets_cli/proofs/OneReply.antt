@@ -130,7 +130,7 @@ module _ (one_call : HasOneCall) (calls : CallsAnsweredOnce) (books : List Place
   ends_once : (asked : Result (Caller × Call) Fault) (told told' : Result Answer Fault) (effect effect' : Effect)
       → Ends books asked told effect → Ends books asked told' effect' → (told ≡ told') × (effect ≡ effect')
   ends_once (Ok (caller, call)) told told' effect effect' is is' =
-      let same = calls.once call books sound is.answer is'.answer effect effect' is.answered is'.answered in
+      let same = calls.once caller call books sound is.answer is'.answer effect effect' is.answered is'.answered in
       (is.told_is ∙ ap as_fault same.0 ∙ sym is'.told_is, same.1)
   ends_once (Err found) told told' effect effect' is is' = (is.0 ∙ sym is'.0, is.1 ∙ sym is'.1)
 

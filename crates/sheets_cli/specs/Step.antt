@@ -37,8 +37,8 @@ use Rattle.sheets_cli.specs.declared.fault.Fault.TheVariants as fault
 
 -- ---- what is served
 
--- looks at a spreadsheet, batches of requests, and reads, writes and clears of one range and of a list of them are
--- served
+-- looks at a spreadsheet, batches of requests, appends, and reads, writes and clears of one range and of a list of them
+-- are served
 abbrev pub is_served : Verb → Bool
 is_served verb.Get = true
 is_served verb.Batch = true
@@ -124,15 +124,16 @@ abbrev pub as_fault : Result Answer Refusal → Result Answer Fault
 as_fault (Ok answer) = Ok answer
 as_fault (Err (at, broken)) = Err (fault.Broken at broken)
 
--- the call is answered on the spreadsheets
-pub record IsCalled (books : List PlaceBook) (call : Call) (told : Result Answer Fault) (effect : Effect) : Type 0 where
+-- the call of its caller is answered on the spreadsheets
+pub record IsCalled (caller : Caller) (books : List PlaceBook) (call : Call) (told : Result Answer Fault)
+    (effect : Effect) : Type 0 where
   pub answer : Result Answer Refusal
-  pub answered : IsAnswered call books answer effect
+  pub answered : IsAnswered caller call books answer effect
   pub told_is : told ≡ as_fault answer
 
--- a request that is no call makes nothing of them; no call that is served yet goes by its caller
+-- a request that is no call makes nothing of them
 abbrev pub Ends : List PlaceBook → Result (Caller × Call) Fault → Result Answer Fault → Effect → Type 0
-Ends books (Ok (caller, call)) told effect = IsCalled books call told effect
+Ends books (Ok (caller, call)) told effect = IsCalled caller books call told effect
 Ends books (Err found) told effect = (told ≡ Err found) × (effect ≡ Effect.Nothing)
 
 -- the request is answered so, or has that fault, and makes that of the spreadsheets
@@ -155,10 +156,10 @@ told_by (outcome.Answered answer) = Ok answer
 told_by (outcome.Refused at broken) = Err (fault.Broken at broken)
 
 -- a call, likewise
-pub record Performs (books : List PlaceBook) (call : Call) (told : Result Answer Fault) (next : Option (List PlaceBook))
-    : Type 0 where
+pub record Performs (caller : Caller) (books : List PlaceBook) (call : Call) (told : Result Answer Fault)
+    (next : Option (List PlaceBook)) : Type 0 where
   pub effect : Effect
-  pub is_called : IsCalled books call told effect
+  pub is_called : IsCalled caller books call told effect
   pub is_next : IsNext books effect next
 
 -- ---- responses

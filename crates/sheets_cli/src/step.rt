@@ -155,7 +155,7 @@ fn is_served(verb: Verb) -> bool
 /// Makes a call on the spreadsheets, which stay as they are.
 fn called(alloc: Global, world: &World, caller: &Caller, call: &Call) -> Result<Stepped, NoMemory>
     requires { HasItsBook call.now world.now }
-    ensures { IfOk result (λ step. Performs world.now call.now step.told step.next) }
+    ensures { IfOk result (λ step. Performs caller.now world.now call.now step.told step.next) }
 {
     let Applied { next, outcome } = apply(alloc, world, caller, call)?;
     Ok(Stepped {
