@@ -11,7 +11,7 @@ use Rattle.grid_range.specs.Tracking.{place_of, span_moved, start_opened}
 use Rattle.grid_range.specs.TrackingLaws.{PlacesStayApart, PlacesStayBelow}
 use Rattle.cell_store.specs.Turning.{source}
 use Rattle.cell_store.specs.TurningLaws.{source_within, goes_below, deleted_place, moved_back, moved_on}
-use Rattle.shared_grid.specs.declared.order.Order.{Order}
+use Rattle.shared_grid.specs.Orders.{LineOrder}
 use Rattle.shared_grid.specs.Orders.{AreMoved, AreNumbers, IsOrder, number_of, parts_of}
 
 -- what stands at each place after the change, by the parts that changed places
@@ -138,10 +138,10 @@ module _ (apart : PlacesStayApart) (below : PlacesStayBelow) where
   turns (Move start end to) count fits parts is = turns_move start end to count fits parts is
 
 -- the lines with these numbers, of which those of the first part and of the second changed places
-module _ (change : Change) (before after : Order) (numbers : List ℕ) (start middle end : ℕ) (are : AreNumbers numbers)
+module _ (change : Change) (before after : LineOrder) (numbers : List ℕ) (start middle end : ℕ) (are : AreNumbers numbers)
     (is : IsOrder before) (turned : Turns change before.count start middle end)
-    (long : length before.numbers.items ≤ length numbers)
-    (first : (index : ℕ) → index < length before.numbers.items → get_or numbers index 0 ≡ number_of before index)
+    (long : length before.numbers ≤ length numbers)
+    (first : (index : ℕ) → index < length before.numbers → get_or numbers index 0 ≡ number_of before index)
     (room : count_after change before.count ≤ length numbers)
     (count : after.count ≡ count_after change before.count)
     (order : (index : ℕ) → index < length numbers

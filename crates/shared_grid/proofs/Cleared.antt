@@ -17,7 +17,7 @@ use Rattle.grid_range.specs.declared.change.Change.TheVariants.{Insert, Delete, 
 use Rattle.grid_range.specs.Change.{Fits}
 use Rattle.grid_range.specs.declared.axis.Axis.TheVariants.{Rows, Columns}
 use Rattle.shared_map.specs.Map.{AreKeysWithin}
-use Rattle.shared_grid.specs.declared.order.Order.{Order}
+use Rattle.shared_grid.specs.Orders.{LineOrder}
 use Rattle.shared_grid.specs.Orders.{number_of}
 use Rattle.shared_grid.specs.Cells.{numbers, key_of, line_in, across_in, HasMarks, HasFewer, AreKeysOnRow, AreMarksOnColumn, IsCleared}
 use Rattle.shared_grid.specs.Sheets.{AreCleared, AreOnAxis, deleted}
@@ -194,14 +194,14 @@ module _ {T : Type 0} where
     }
 
   -- the lines so far, and one more
-  pub no_lines : (axis : Axis) (order : Order) (first : ℕ) (old : map.FinMap nat_cmp T) → AreCleared axis order first first old old
+  pub no_lines : (axis : Axis) (order : LineOrder) (first : ℕ) (old : map.FinMap nat_cmp T) → AreCleared axis order first first old old
   no_lines axis order first old = record {
     fewer = none_fewer old;
     gone = λ line key low high small on. absurd (omega arith);
     kept = λ key off. refl;
   }
 
-  pub line_more : (axis : Axis) (order : Order) (first line number : ℕ) (old mid new : map.FinMap nat_cmp T)
+  pub line_more : (axis : Axis) (order : LineOrder) (first line number : ℕ) (old mid new : map.FinMap nat_cmp T)
       → first ≤ line → number ≡ number_of order line
       → AreCleared axis order first line old mid → IsCleared axis number mid new
       → AreCleared axis order first (line + 1) old new
@@ -250,7 +250,7 @@ module _ {T : Type 0} (items : map.FinMap nat_cmp T) (key : ℕ) where
       ∙ ap (λ b. cond b (map.len items - 1) (map.len items)) (ap is_some none)
 
 -- where all lines are deleted, no item is left
-pub all_cleared : {T : Type 0} (axis : Axis) (order : Order) (first end : ℕ) (old new : map.FinMap nat_cmp T)
+pub all_cleared : {T : Type 0} (axis : Axis) (order : LineOrder) (first end : ℕ) (old new : map.FinMap nat_cmp T)
     → AreOnAxis axis order old → first ≡ 0 → end ≡ order.count → new ≡ map.empty → AreCleared axis order first end old new
 all_cleared {T} axis order first end old new are low high is = record {
   fewer = record {

@@ -1,4 +1,5 @@
 pub mod Numbers
+pub mod Continued
 pub mod Turned
 pub mod Changed
 pub mod Marks

@@ -19,12 +19,13 @@ use Rattle.grid_range.specs.Band.{HasLine, first_line, end_line}
 use Rattle.cell_store.specs.Table.{Table, item_at, HasItemsInside}
 use Rattle.cell_store.specs.Places.{AreFilledPlaces}
 use Rattle.cell_store.specs.Laws.{TablesByItems}
-use Rattle.shared_grid.specs.declared.order.Order.{Order}
+use Rattle.shared_map.specs.Map.{AreKeysWithin}
+use Rattle.shared_grid.specs.Orders.{LineOrder}
 use Rattle.shared_grid.specs.Orders.{number_of, place_noted}
 use Rattle.shared_grid.specs.Cells.{numbers, key_of, line_in, across_in, AreKeysOnRow, AreMarksOnColumn}
 use Rattle.cell_store.specs.Kept.{KeptTable}
 use Rattle.shared_grid.specs.Sheets.{key_at, place_in, numbered_table, IsOnLines, IsSheet, AreOnColumns, AreOnRows}
-use Rattle.shared_grid.proofs.Numbers.{same_place, line-key, across-key, small, place-key, place-line}
+use Rattle.shared_grid.proofs.Numbers.{same_place, line-key, across-key, noted-line, small, place-key, place-line}
 use Rattle.shared_grid.proofs.Views.{item-view, inside-view}
 
 -- places that aren't one differ by the test
@@ -99,7 +100,7 @@ no_rows first table = record {
   all = λ row col low high some. absurd (omega arith);
 }
 
-module _ {X : Type 0} (laws : TablesByItems X) (rows columns : Order) (items : fin.FinMap nat_cmp X)
+module _ {X : Type 0} (laws : TablesByItems X) (rows columns : LineOrder) (items : fin.FinMap nat_cmp X)
     (is : IsSheet rows columns items) (sheet : KeptTable X) (view : numbered_table rows columns items ≡ sheet)
     (row number : ℕ) (row_there : row < rows.count) (number_is : number ≡ number_of rows row) (keys : List ℕ)
     (listed : AreKeysOnRow number items keys) where
@@ -112,7 +113,7 @@ module _ {X : Type 0} (laws : TablesByItems X) (rows columns : Order) (items : f
   place_is : (key : ℕ) → Contains keys key → place key ≡ place_in rows columns key
   place_is key has =
       let same : place_noted rows (line_in key) ≡ row =
-      ap (place_noted rows) (((listed.exactly key).0 has).0 ∙ number_is) ∙ is.rows_are.noted row row_there in
+      ap (place_noted rows) (((listed.exactly key).0 has).0 ∙ number_is) ∙ noted-line rows is.rows_are row row_there in
       ap (λ (r : ℕ). (r, place_noted columns (across_in key))) (sym same)
 
   stands : (key : ℕ) (has : Contains keys key) → place key ≡ ((on key has).row, (on key has).column)
@@ -125,7 +126,7 @@ module _ {X : Type 0} (laws : TablesByItems X) (rows columns : Order) (items : f
       ∙ sym (on other there).is
 
   -- the number of an item's column has a place
-  pub column_there : (key : ℕ) → Contains keys key → across_in key < length columns.places.items
+  pub column_there : (key : ℕ) → Contains keys key → across_in key < length columns.places
   column_there key has =
       let line = on key has in
       let fits = small columns is.columns_are line.column line.there.1 in
@@ -194,7 +195,7 @@ no_columns first table = record {
   all = λ row col low high some. absurd (omega arith);
 }
 
-module _ {X : Type 0} (laws : TablesByItems X) (rows columns : Order) (items : fin.FinMap nat_cmp X)
+module _ {X : Type 0} (laws : TablesByItems X) (rows columns : LineOrder) (items : fin.FinMap nat_cmp X)
     (is : IsSheet rows columns items) (sheet : KeptTable X) (view : numbered_table rows columns items ≡ sheet)
     (column number : ℕ) (column_there : column < columns.count) (number_is : number ≡ number_of columns column)
     (marks : List ℕ) (listed : AreMarksOnColumn number items marks) where
@@ -219,7 +220,7 @@ module _ {X : Type 0} (laws : TablesByItems X) (rows columns : Order) (items : f
       ap (place_noted rows) (row_of_key mark) in
       let col : place_noted columns (across_in (key mark)) ≡ column =
       ap (place_noted columns) (across-key (across_in mark) number fits_number ∙ number_is)
-      ∙ is.columns_are.noted column column_there in
+      ∙ noted-line columns is.columns_are column column_there in
       λ i. (sym row i, sym col i)
 
   marked_stands : (mark : ℕ) (has : Contains marks mark) → marked mark ≡ ((item_on mark has).row, (item_on mark has).column)
@@ -239,7 +240,7 @@ module _ {X : Type 0} (laws : TablesByItems X) (rows columns : Order) (items : f
       omega (arith, across, first, second)
 
   -- the number of an item's row has a place
-  pub row_is_there : (mark : ℕ) → Contains marks mark → across_in mark < length rows.places.items
+  pub row_is_there : (mark : ℕ) → Contains marks mark → across_in mark < length rows.places
   row_is_there mark has =
       let line = item_on mark has in
       let fits = small columns is.columns_are line.column line.there.1 in
@@ -296,12 +297,88 @@ module _ {X : Type 0} (laws : TablesByItems X) (rows columns : Order) (items : f
           let has = (listed.exactly mark).1 (line, subst (λ (k : ℕ). IsSome (fin.get items k)) same_key held) in
           let same : marked mark ≡ (r, c) =
           ap (λ (n : ℕ). (place_noted rows n, column)) across
-          ∙ ap (λ (n : ℕ). (n, column)) (is.rows_are.noted r there)
+          ∙ ap (λ (n : ℕ). (n, column)) (noted-line rows is.rows_are r there)
           ∙ ap (λ (n : ℕ). (r, n)) (sym at) in
           Contains-append_right before (map marked marks) (r, c)
           (subst (Contains (map marked marks)) same (in_map marked marks mark has))
     ];
   })
+
+module _ {X : Type 0} (laws : TablesByItems X) (rows columns : LineOrder) (items : fin.FinMap nat_cmp X)
+    (is : IsSheet rows columns items) (sheet : KeptTable X) (view : numbered_table rows columns items ≡ sheet)
+    (keys : List ℕ) (listed : AreKeysWithin 0 18446744073709551615 items keys) where
+  line_of : (key : ℕ) → Contains keys key → IsOnLines rows columns key
+  line_of key has = is.lines.each key ((listed.exactly key).0 has).2
+
+  place_of_key : (key : ℕ) (has : Contains keys key)
+      → place_in rows columns key ≡ ((line_of key has).row, (line_of key has).column)
+  place_of_key key has = place-line rows columns is.rows_are is.columns_are key (line_of key has)
+
+  keys_tell : (one other : ℕ) → Contains keys one → Contains keys other
+      → place_in rows columns one ≡ place_in rows columns other → one ≡ other
+  keys_tell one other here there same =
+      (line_of one here).is
+      ∙ ap (λ (p : ℕ × ℕ). key_at rows columns p.0 p.1) (sym (place_of_key one here) ∙ same ∙ place_of_key other there)
+      ∙ sym (line_of other there).is
+
+  -- the numbers of an item's row and column have a place
+  pub rows_noted : (key : ℕ) → Contains keys key → line_in key < length rows.places
+  rows_noted key has =
+      let line = line_of key has in
+      let same : line_in key ≡ number_of rows line.row =
+      ap line_in line.is ∙ line-key (number_of rows line.row) (number_of columns line.column)
+      (small columns is.columns_are line.column line.there.1) in
+      omega (
+        arith,
+        same,
+        is.rows_are.each.within line.row (omega (arith, line.there.0, is.rows_are.count)),
+        is.rows_are.long,
+      )
+
+  pub columns_noted : (key : ℕ) → Contains keys key → across_in key < length columns.places
+  columns_noted key has =
+      let line = line_of key has in
+      let same : across_in key ≡ number_of columns line.column =
+      ap across_in line.is ∙ across-key (number_of rows line.row) (number_of columns line.column)
+      (small columns is.columns_are line.column line.there.1) in
+      omega (
+        arith,
+        same,
+        is.columns_are.each.within line.column (omega (arith, line.there.1, is.columns_are.count)),
+        is.columns_are.long,
+      )
+
+  pub all_rows : AreOnRows 0 rows.count sheet.table (map (place_in rows columns) keys)
+  all_rows = record {
+    distinct = distinct_more (place_in rows columns) [] keys (IsDistinct-none (eq_by_cmp by_rows)) listed.in_order
+        (λ p key has held same. absurd (nothing_in p has)) keys_tell;
+    only = λ r c has.
+        let found = from_map (place_in rows columns) keys (r, c) has in
+        let line = line_of found.0 found.1 in
+        let same : (line.row, line.column) ≡ (r, c) = sym (place_of_key found.0 found.1) ∙ found.2 in (
+          omega (arith, line.there.0, ap (λ (q : ℕ × ℕ). q.0) same),
+          subst (λ (q : ℕ × ℕ). IsSome (item_at sheet.table q.0 q.1)) same
+              (subst IsSome (ap (fin.get items) line.is
+              ∙ item-view laws rows columns items is sheet view line.row line.column line.there.0 line.there.1)
+              ((listed.exactly found.0).0 found.1).2),
+        );
+    all = λ r c low high some.
+        let there : c < columns.count = omega (
+          arith,
+          (inside-view laws rows columns items is sheet view r c some).1,
+          ap (λ s. s.table.cols) view,
+        ) in
+        let fits = small rows is.rows_are r high in
+        let fits_across = small columns is.columns_are c there in
+        let has = (listed.exactly (key_at rows columns r c)).1 (
+          omega arith,
+          omega (arith, fits, fits_across),
+          subst IsSome (sym (item-view laws rows columns items is sheet view r c high there)) some,
+        ) in
+        subst (Contains (map (place_in rows columns) keys))
+        (place-key rows columns is.rows_are is.columns_are r c high there)
+        (in_map (place_in rows columns) keys (key_at rows columns r c) has);
+  }
 
 -- the lines of a band, among so many
 has_ends : (band : Band) (count line : ℕ) → line < count → HasLine band line

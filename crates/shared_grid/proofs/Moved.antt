@@ -16,7 +16,7 @@ use Rattle.grid_range.specs.TrackingLaws.{PlacesStayBelow}
 use Rattle.cell_store.specs.Table.{item_at, filled_places, most_lines}
 use Rattle.cell_store.specs.Moved.{GoesWithLines, CameFrom, IsRoomAfter}
 use Rattle.cell_store.specs.Laws.{TablesByItems}
-use Rattle.shared_grid.specs.declared.order.Order.{Order}
+use Rattle.shared_grid.specs.Orders.{LineOrder}
 use Rattle.shared_grid.specs.Orders.{AreMoved, IsOrder, number_of}
 use Rattle.shared_grid.specs.Cells.{numbers, key_of, line_in, across_in, number_on, HasFewer}
 use Rattle.cell_store.specs.Kept.{KeptTable, ReusesLines}
@@ -76,7 +76,7 @@ deleted_there (Insert at inserted) count line fits high = omega arith
 deleted_there (Delete start end) count line fits high = omega (arith, fits.1)
 deleted_there (Move start end to) count line fits high = omega arith
 
-module _ {X : Type 0} (change : Change) (before after : Order) (moved : AreMoved change before after)
+module _ {X : Type 0} (change : Change) (before after : LineOrder) (moved : AreMoved change before after)
     (old new : ℕ → Option X) where
   -- the item of a line after the change was that of a line that went there
   came : ((number : ℕ) → (new number ≡ None) ⊎ (new number ≡ old number)) → (place : ℕ) (item : X) → place < after.count
@@ -130,7 +130,7 @@ fits_key : (key line across : ℕ) → line < numbers → across < numbers → k
 fits_key key line across one two is = omega arith
 
 -- each item of a sheet is on a row, and on a column
-module _ {X : Type 0} (rows columns : Order) (items : fin.FinMap nat_cmp X) (is : IsSheet rows columns items) where
+module _ {X : Type 0} (rows columns : LineOrder) (items : fin.FinMap nat_cmp X) (is : IsSheet rows columns items) where
   pub on_rows : AreOnAxis Rows rows items
   on_rows = record {
     each = λ key some.
@@ -155,7 +155,7 @@ module _ {X : Type 0} (rows columns : Order) (items : fin.FinMap nat_cmp X) (is 
         };
   }
 
-module _ {X : Type 0} (laws : TablesByItems X) (below : PlacesStayBelow) (change : Change) (rows columns after : Order)
+module _ {X : Type 0} (laws : TablesByItems X) (below : PlacesStayBelow) (change : Change) (rows columns after : LineOrder)
     (items left : fin.FinMap nat_cmp X) (is : IsSheet rows columns items) (sheet : KeptTable X)
     (view : numbered_table rows columns items ≡ sheet) (after_is : IsOrder after) where
   rows_same : rows.count ≡ sheet.table.rows
@@ -171,7 +171,7 @@ module _ {X : Type 0} (laws : TablesByItems X) (below : PlacesStayBelow) (change
   col_small col there = small columns is.columns_are col there
 
   -- no item is left on a deleted line
-  none_deleted : (axis : Axis) (order : Order) → AreCleared axis order (deleted change).0 (deleted change).1 items left
+  none_deleted : (axis : Axis) (order : LineOrder) → AreCleared axis order (deleted change).0 (deleted change).1 items left
       → (key : ℕ) → IsOnLines rows columns key → (line : ℕ) → (deleted change).0 ≤ line → line < (deleted change).1
       → number_on axis key ≡ number_of order line → IsSome (fin.get left key) → ⊥
   none_deleted axis order cleared key on line low high same =
@@ -377,7 +377,7 @@ module _ {X : Type 0} (laws : TablesByItems X) (below : PlacesStayBelow) (change
         ))
 
 -- the change fits the lines, and there is room, as the sheet that callers see has it
-module _ {X : Type 0} (change : Change) (rows columns : Order) (items : fin.FinMap nat_cmp X) (sheet : KeptTable X)
+module _ {X : Type 0} (change : Change) (rows columns : LineOrder) (items : fin.FinMap nat_cmp X) (sheet : KeptTable X)
     (view : numbered_table rows columns items ≡ sheet) where
   pub rows_fit : Fits change sheet.table.rows → Fits change rows.count
   rows_fit fits = subst (Fits change) (sym (ap (λ s. s.table.rows) view)) fits
@@ -394,19 +394,19 @@ module _ {X : Type 0} (change : Change) (rows columns : Order) (items : fin.FinM
       (sym (ap (λ s. s.table.rows + count_after change s.table.cols) view)) room
 
   -- the numbers that there were, or those that the lines need
-  pub rows_reused : (after : Order) (left : fin.FinMap nat_cmp X) → length after.numbers.items ≤ max (length rows.numbers.items) (count_after change rows.count)
+  pub rows_reused : (after : LineOrder) (left : fin.FinMap nat_cmp X) → length after.numbers ≤ max (length rows.numbers) (count_after change rows.count)
       → ReusesLines Rows change sheet (numbered_table after columns left)
   rows_reused after left few = record {
-    rows = subst (λ (n : ℕ). length after.numbers.items ≤ n)
+    rows = subst (λ (n : ℕ). length after.numbers ≤ n)
         (ap (λ s. max s.kept_rows (count_after change s.table.rows)) view) few;
     columns = omega (arith, ap (λ s. s.kept_columns) view);
   }
 
-  pub columns_reused : (after : Order) (left : fin.FinMap nat_cmp X)
-      → length after.numbers.items ≤ max (length columns.numbers.items) (count_after change columns.count)
+  pub columns_reused : (after : LineOrder) (left : fin.FinMap nat_cmp X)
+      → length after.numbers ≤ max (length columns.numbers) (count_after change columns.count)
       → ReusesLines Columns change sheet (numbered_table rows after left)
   columns_reused after left few = record {
     rows = omega (arith, ap (λ s. s.kept_rows) view);
-    columns = subst (λ (n : ℕ). length after.numbers.items ≤ n)
+    columns = subst (λ (n : ℕ). length after.numbers ≤ n)
         (ap (λ s. max s.kept_columns (count_after change s.table.cols)) view) few;
   }

@@ -11,7 +11,7 @@ use Rattle.std.proofs.lemmas.Map.Lookups.{exact_pairs, exact_unsigned}
 use Rattle.std.proofs.lemmas.Map.Views.{tells_apart}
 use Rattle.std.proofs.lemmas.Nat.{div-mul-add, mod-mul-add}
 use Rattle.grid_range.specs.Area.{by_rows}
-use Rattle.shared_grid.specs.declared.order.Order.{Order}
+use Rattle.shared_grid.specs.Orders.{LineOrder}
 use Rattle.shared_grid.specs.Cells.{numbers, key_of, line_in, across_in}
 use Rattle.shared_grid.specs.Orders.{AreNumbers, IsOrder, number_of, place_noted}
 use Rattle.shared_grid.specs.Sheets.{key_at, place_in, IsOnLines}
@@ -51,18 +51,23 @@ pub across-key : (line across : ℕ) → across < numbers → across_in (key_of 
 across-key line across small = mod-mul-add line numbers across small
 
 -- a number of a line fits its half of a key
-pub small : (order : Order) → IsOrder order → (line : ℕ) → line < order.count → number_of order line < numbers
+pub small : (order : LineOrder) → IsOrder order → (line : ℕ) → line < order.count → number_of order line < numbers
 small order is line there = omega (arith, is.each.within line (omega (arith, is.count)), is.most, is.count)
 
-module _ (rows columns : Order) (rows_are : IsOrder rows) (columns_are : IsOrder columns) where
+-- the place of a line is noted at its number
+pub noted-line : (order : LineOrder) → IsOrder order → (line : ℕ) → line < order.count
+    → place_noted order (number_of order line) ≡ line
+noted-line order is line there = is.noted line (omega (arith, there, is.count))
+
+module _ (rows columns : LineOrder) (rows_are : IsOrder rows) (columns_are : IsOrder columns) where
   pub place-key : (row col : ℕ) → row < rows.count → col < columns.count
       → place_in rows columns (key_at rows columns row col) ≡ (row, col)
   place-key row col row_there col_there =
       let fits = small columns columns_are col col_there in
       let one = ap (place_noted rows) (line-key (number_of rows row) (number_of columns col) fits)
-      ∙ rows_are.noted row row_there in
+      ∙ noted-line rows rows_are row row_there in
       let two = ap (place_noted columns) (across-key (number_of rows row) (number_of columns col) fits)
-      ∙ columns_are.noted col col_there in
+      ∙ noted-line columns columns_are col col_there in
       λ i. (one i, two i)
 
   -- the place of a key with the numbers of a row and of a column

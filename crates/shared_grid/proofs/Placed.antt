@@ -18,7 +18,7 @@ use Rattle.cell_store.specs.Table.{Table, item_at, filled_places, HasItemsInside
 use Rattle.cell_store.specs.Entries.{entry_at}
 use Rattle.cell_store.specs.Laws.{TablesByItems}
 use Rattle.cell_value.specs.Elements.{IsDistinct-none}
-use Rattle.shared_grid.specs.declared.order.Order.{Order}
+use Rattle.shared_grid.specs.Orders.{LineOrder}
 use Rattle.shared_grid.specs.Orders.{IsOrder}
 use Rattle.shared_grid.specs.Sheets.{key_at, place_in, placed, sheet_of, IsOnLines, AreOnLines}
 use Rattle.shared_grid.proofs.Numbers.{key_itself, same_place, place-line, place_or_key, places_or_keys}
@@ -119,7 +119,7 @@ none_or : {X : Type 0} (item : Option X) → (IsSome item → ⊥) → item ≡ 
 none_or None never = refl
 none_or (Some item) never = absurd (never refl)
 
-module _ {X : Type 0} (laws : TablesByItems X) (rows columns : Order) (rows_are : IsOrder rows)
+module _ {X : Type 0} (laws : TablesByItems X) (rows columns : LineOrder) (rows_are : IsOrder rows)
     (columns_are : IsOrder columns) (items : map.FinMap nat_cmp X) (lines : AreOnLines rows columns items) where
   on : (key : ℕ) → IsSome (map.find nat_cmp key (map.entries items)) → IsOnLines rows columns key
   on key some = lines.each key (subst IsSome (sym (map.get-entries items key)) some)

@@ -6,7 +6,7 @@ use Rattle.std.specs.Ordering.{nat_cmp}
 use Rattle.std.specs.FinMap as map
 use Rattle.cell_store.specs.Table.{item_at, filled_places, HasItemsInside, with_item, without_item}
 use Rattle.cell_store.specs.Laws.{TablesByItems}
-use Rattle.shared_grid.specs.declared.order.Order.{Order}
+use Rattle.shared_grid.specs.Orders.{LineOrder}
 use Rattle.cell_store.specs.Kept.{KeptTable}
 use Rattle.shared_grid.specs.Sheets.{key_at, sheet_of, numbered_table, IsSheet}
 use Rattle.shared_grid.proofs.Placed.{item-place, inside, none_outside, filled}
@@ -22,7 +22,7 @@ pub always : {A E P : Type 0} (r : Result A E) → P → OnOk r P
 always (Ok value) p = p
 always (Err error) p = tt
 
-module _ {X : Type 0} (laws : TablesByItems X) (rows columns : Order) (items : map.FinMap nat_cmp X)
+module _ {X : Type 0} (laws : TablesByItems X) (rows columns : LineOrder) (items : map.FinMap nat_cmp X)
     (is : IsSheet rows columns items) (sheet : KeptTable X) (view : numbered_table rows columns items ≡ sheet) where
   pub item-view : (row col : ℕ) → row < rows.count → col < columns.count
       → map.get items (key_at rows columns row col) ≡ item_at sheet.table row col

@@ -9,13 +9,13 @@ use Rattle.std.proofs.lemmas.Bool.{false≢true}
 use Rattle.grid_range.specs.Area.{by_rows}
 use Rattle.cell_store.specs.Table.{item_at, empty_table, with_item, without_item}
 use Rattle.cell_store.specs.Laws.{TablesByItems}
-use Rattle.shared_grid.specs.declared.order.Order.{Order}
+use Rattle.shared_grid.specs.Orders.{LineOrder}
 use Rattle.shared_grid.specs.Orders.{IsOrder}
 use Rattle.shared_grid.specs.Sheets.{key_at, sheet_of, IsOnLines, AreOnLines}
 use Rattle.shared_grid.proofs.Numbers.{same_key, same_place, keys_turned, place-key, place_or_key}
 use Rattle.shared_grid.proofs.Placed.{item-place, none_outside, is_table}
 
-module _ {X : Type 0} (rows columns : Order) where
+module _ {X : Type 0} (rows columns : LineOrder) where
   -- no items are on lines
   pub none_on_lines : AreOnLines rows columns (map.empty {X = X} {R = nat_cmp})
   none_on_lines = record { each = λ key some. absurd (false≢true (ap is_some (sym (map.get-empty nat_cmp key)) ∙ some)) }
@@ -48,7 +48,7 @@ module _ {X : Type 0} (rows columns : Order) where
           ] (subst IsSome (map.get-remove nat_cmp_total items gone key) some);
     }
 
-module _ {X : Type 0} (laws : TablesByItems X) (rows columns : Order) (rows_are : IsOrder rows)
+module _ {X : Type 0} (laws : TablesByItems X) (rows columns : LineOrder) (rows_are : IsOrder rows)
     (columns_are : IsOrder columns) where
   pub empty_sheet : sheet_of rows columns (map.empty {X = X} {R = nat_cmp}) ≡ empty_table rows.count columns.count
   empty_sheet = is_table laws rows columns rows_are columns_are map.empty (none_on_lines rows columns)

@@ -3,7 +3,8 @@ ghost use Rattle.std.specs.Option.{option_copied, IsSome};
 ghost use Rattle.std.specs.Borrow.{sem, LendsSoOk};
 ghost use Rattle.std.specs.FinMap as map;
 ghost use Rattle.grid_range.specs.declared.axis.Axis.TheVariants.{Rows, Columns};
-ghost use Rattle.shared_grid.specs.Cells.{across_in, key_of, AreKeysOnRow, AreMarksOnColumn, IsCleared};
+ghost use Rattle.shared_grid.specs.Cells.{across_in, key_of, line_in, AreKeysOnRow, AreMarksOnColumn, IsCleared};
+ghost use Rattle.shared_map.specs.Map.{AreKeysWithin};
 ghost use Rattle.shared_grid.specs.Orders.{IsOrder};
 ghost use Rattle.shared_grid.specs.Sheets.{AreCleared};
 ghost use Rattle.shared_grid.specs.contracts.cells.Cells.{the_row};
@@ -17,9 +18,9 @@ use std::alloc::Global;
 use std::marker::Model;
 use std::sync::ledger::Ledger;
 
-/// Tells that the place of a column and a row holds an item.
+/// Marks a place, and tells nothing more of it.
 #[derive(Clone, Copy)]
-pub(crate) struct Mark;
+pub struct Mark;
 
 impl Duplicate for Mark {
     fn duplicate(&self) -> Result<Mark, NoMemory> {
@@ -129,6 +130,17 @@ impl<T: Duplicate + Drop> Cells<T> {
         let item = self.items.take(key(row, column))?;
         drop(self.marks.take(key(column, row)));
         Ok(item)
+    }
+
+    /// The keys of all items, in order.
+    ///
+    /// # Errors
+    ///
+    /// [`NoMemory`] where memory runs out.
+    pub(crate) fn keys(&self) -> Result<Items<u64>, NoMemory>
+        ensures { IfOk result (AreKeysWithin 0 18446744073709551615 self.now) }
+    {
+        self.items.keys(0, u64::MAX)
     }
 
     /// The keys of the items on the row, in order.
@@ -325,6 +337,13 @@ fn key(line: u32, across: u32) -> u64
     ensures { result ≡ key_of line across }
 {
     u64::from(line) * 4_294_967_296 + u64::from(across)
+}
+
+/// The number of the line, in the key of a place.
+pub(crate) fn line(key: u64) -> u32
+    ensures { result ≡ line_in key }
+{
+    (key / 4_294_967_296) as u32
 }
 
 /// The number of the line across, in the key of a place.

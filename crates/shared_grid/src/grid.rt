@@ -10,12 +10,12 @@ ghost use Rattle.cell_store.specs.Places.{AreFilledPlaces};
 ghost use Rattle.grid_range.specs.Band.{end_line, first_line};
 ghost use Rattle.grid_range.specs.Change.{Fits, count_after};
 ghost use Rattle.grid_range.specs.declared.axis.Axis.TheVariants.{Rows, Columns};
-ghost use Rattle.shared_grid.specs.Cells.{across_in};
+ghost use Rattle.shared_grid.specs.Cells.{across_in, line_in};
 ghost use Rattle.shared_grid.specs.Orders.{AreMoved, IsOrder, number_of, place_noted};
-ghost use Rattle.shared_grid.specs.Sheets.{AreCleared, AreOnAxis, AreOnColumns, AreOnRows, deleted};
+ghost use Rattle.shared_grid.specs.Sheets.{AreCleared, AreOnAxis, AreOnColumns, AreOnRows, deleted, place_in};
 ghost use Rattle.shared_grid.specs.contracts.grid.SharedGrid.{the_row};
 
-use crate::cells::{Cells, across};
+use crate::cells::{Cells, across, line};
 use crate::counting::Steps;
 use crate::held::Held;
 use crate::order::Order;
@@ -269,6 +269,18 @@ impl<T: Duplicate + Drop> SharedGrid<T> {
         Ok(held_by_rows(places, area))
     }
 
+    /// The filled places of the area, by a walk of all items.
+    fn places_of_all(&self, area: &Area) -> Result<Items<(u32, u32)>, NoMemory>
+        ensures { IfOk result (AreFilledPlaces area.now self.now.table) }
+    {
+        tables_by_items::<T>();
+        let keys = self.cells.keys()?;
+        let rows = self.rows.value();
+        let columns = self.columns.value();
+        let places = places_of(self.alloc, rows, columns, keys.as_slice())?;
+        Ok(held_by_rows(places, area))
+    }
+
     /// The filled places of the area, by a walk of its columns.
     fn places_by_columns(&self, area: &Area) -> Result<Items<(u32, u32)>, NoMemory>
         ensures { IfOk result (AreFilledPlaces area.now self.now.table) }
@@ -306,7 +318,18 @@ impl<T: Duplicate + Drop> CellStore<T> for SharedGrid<T> {
         self.cells.get(row_number, column_number)
     }
 
-    fn put(&mut self, row: u32, column: u32, item: T) -> Result<Option<T>, (T, NoMemory)> {
+    /// Puts the item at the place, and gives the one that was there.
+    ///
+    /// # Errors
+    ///
+    /// [`NoMemory`] with the item where memory runs out; the sheet is as it was.
+    fn put(&mut self, row: u32, column: u32, item: T) -> Result<Option<T>, (T, NoMemory)>
+        requires inside { HasPlace self.old.table row column }
+        ensures old { IfOk result (λ old. old ≡ item_at self.old.table row column) }
+        ensures put { OnOk result (self.new.table ≡ with_item self.old.table row column item) }
+        ensures back { IfErr result (λ refused. refused.0 ≡ item) }
+        ensures unchanged { OnErr result (self.new.table ≡ self.old.table) }
+    {
         tables_by_items::<T>();
         let row_number = number(&self.rows, row);
         let column_number = number(&self.columns, column);
@@ -355,14 +378,18 @@ impl<T: Duplicate + Drop> CellStore<T> for SharedGrid<T> {
     }
 
     /// The filled places of the area, by rows. Only the rows of the area are visited, or only its columns,
-    /// whichever is estimated to take less time, and its sheet isn't looked at.
+    /// or all items where these are no more than its rows, whichever is estimated to take less time. Its
+    /// sheet isn't looked at.
     ///
     /// # Errors
     ///
     /// [`NoMemory`] where memory runs out.
     fn places(&self, area: &Area) -> Result<Items<(u32, u32)>, NoMemory> {
-        if is_narrow(area, count(&self.rows), count(&self.columns)) {
+        let rows = count(&self.rows);
+        if is_narrow(area, rows, count(&self.columns)) {
             self.places_by_columns(area)
+        } else if self.cells.count() <= rows_of(area, rows) {
+            self.places_of_all(area)
         } else {
             self.places_by_rows(area)
         }
@@ -395,7 +422,7 @@ impl<T: Duplicate + Drop> CellStore<T> for SharedGrid<T> {
 fn count(lines: &Held<Order>) -> u32
     ensures { result ≡ lines.now.count }
 {
-    lines.value().count
+    lines.value().count()
 }
 
 /// The number of the line.
@@ -427,6 +454,12 @@ fn is_narrow(area: &Area, rows: u32, columns: u32) -> bool {
     by_columns.saturating_mul(16) <= by_rows
 }
 
+/// How many of so many rows are the area's.
+fn rows_of(area: &Area, rows: u32) -> u64 {
+    let (top, bottom) = ends(area.rows, rows);
+    u64::from(bottom - top)
+}
+
 /// The lines after the change, with a step for each line before and one for each line after.
 fn lines_after<L: Ledger>(
     alloc: Global,
@@ -439,8 +472,8 @@ fn lines_after<L: Ledger>(
     requires room { count_after change.now lines.now.count ≤ most_lines }
     ensures order { IfOk result IsOrder }
     ensures moved { IfOk result (AreMoved change.now lines.now) }
-    ensures numbers { IfOk result (λ after. length after.numbers.items
-        ≤ max (length lines.now.numbers.items) (count_after change.now lines.now.count)) }
+    ensures numbers { IfOk result (λ after. length after.numbers
+        ≤ max (length lines.now.numbers) (count_after change.now lines.now.count)) }
     ensures steps { steps.new ≡ steps.old + lines.now.count + count_after change.now lines.now.count }
 {
     let order = lines.value().changed_counted(alloc, change, steps)?;
@@ -487,6 +520,26 @@ fn deleted(change: &Change) -> (u32, u32)
     }
 }
 
+/// The places of the keys, each of which is of a row's and a column's number.
+fn places_of(
+    alloc: Global,
+    rows: &Order,
+    columns: &Order,
+    keys: &[u64],
+) -> Result<Vec<(u32, u32)>, NoMemory>
+    requires rows { (key : ℕ) → Contains keys.now key → line_in key < length rows.now.places }
+    requires columns { (key : ℕ) → Contains keys.now key → across_in key < length columns.now.places }
+    ensures { IfOk result (λ places. places.items ≡ map (place_in rows.now columns.now) keys.now) }
+{
+    let mut places = Vec::new(alloc);
+    for key in keys {
+        let row = rows.place(line(*key));
+        let column = columns.place(across(*key));
+        places.push((row, column))?;
+    }
+    Ok(places)
+}
+
 /// Puts the places of the keys, which are of items on that row, behind the others.
 fn put_places(
     row: u32,
@@ -494,7 +547,7 @@ fn put_places(
     keys: &[u64],
     places: &mut Vec<(u32, u32)>,
 ) -> Result<(), NoMemory>
-    requires { (key : ℕ) → Contains keys.now key → across_in key < length columns.now.places.items }
+    requires { (key : ℕ) → Contains keys.now key → across_in key < length columns.now.places }
     ensures { OnOk result (places.new.items
         ≡ places.old.items ++ map (λ key. (row, place_noted columns.now (across_in key))) keys.now) }
 {
@@ -511,7 +564,7 @@ fn put_column_places(
     marks: &[u64],
     places: &mut Vec<(u32, u32)>,
 ) -> Result<(), NoMemory>
-    requires { (mark : ℕ) → Contains marks.now mark → across_in mark < length rows.now.places.items }
+    requires { (mark : ℕ) → Contains marks.now mark → across_in mark < length rows.now.places }
     ensures { OnOk result (places.new.items
         ≡ places.old.items ++ map (λ mark. (place_noted rows.now (across_in mark), column)) marks.now) }
 {

@@ -7,5 +7,6 @@ mod grid;
 mod held;
 mod order;
 
+pub use cells::Mark;
 pub use counting::Steps;
 pub use grid::SharedGrid;

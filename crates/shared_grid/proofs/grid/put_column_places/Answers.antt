@@ -5,7 +5,7 @@ use Rattle.shared_grid.proofs.grid.put_column_places.Goals as goal
 
 pub place-requires : goal.place-requires
 place-requires c =
-    let there : across_in (get_or c.args.marks.now c.loop-mark.mark-index 0) < length c.args.rows.now.places.items =
+    let there : across_in (get_or c.args.marks.now c.loop-mark.mark-index 0) < length c.args.rows.now.places =
     c.requires (get_or c.args.marks.now c.loop-mark.mark-index 0)
     (Contains-get_or c.args.marks.now c.loop-mark.mark-index 0 c.loop-mark-test.true) in
     omega (arith, c.across.ensures, there)

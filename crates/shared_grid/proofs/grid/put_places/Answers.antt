@@ -5,7 +5,7 @@ use Rattle.shared_grid.proofs.grid.put_places.Goals as goal
 
 pub place-requires : goal.place-requires
 place-requires c =
-    let there : across_in (get_or c.args.keys.now c.loop-key.key-index 0) < length c.args.columns.now.places.items =
+    let there : across_in (get_or c.args.keys.now c.loop-key.key-index 0) < length c.args.columns.now.places =
     c.requires (get_or c.args.keys.now c.loop-key.key-index 0)
     (Contains-get_or c.args.keys.now c.loop-key.key-index 0 c.loop-key-test.true) in
     omega (arith, c.across.ensures, there)

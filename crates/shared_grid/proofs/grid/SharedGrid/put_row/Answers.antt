@@ -1,6 +1,6 @@
 use Rattle.std.proofs.Common.{◌≡◌, ◌<◌, ◌+◌, ◌++◌, ℕ, map, length, sym, ap, subst, ◌∙◌, arith}
 use Rattle.std.specs.Prelude.{Contains}
-use Rattle.shared_grid.specs.declared.order.Order.{Order}
+use Rattle.shared_grid.specs.Orders.{LineOrder}
 use Rattle.shared_grid.specs.Orders.{place_noted}
 use Rattle.shared_grid.specs.Cells.{across_in}
 use Rattle.shared_grid.specs.Sheets.{AreOnRows}
@@ -16,7 +16,7 @@ number-requires g c = record {
 
 pub put_places-requires : goal.put_places-requires
 put_places-requires g c = λ key has.
-    subst (λ (order : Order). across_in key < length order.places.items) (sym c.value.ensures)
+    subst (λ (order : LineOrder). across_in key < length order.places) (sym c.value.ensures)
     (column_there c.tables_by_items.ensures c.self.inside.rows c.self.inside.columns c.self.inside.cells c.self.invariant
     c.args.self.now c.self.view_is c.args.row c.number.result
     (omega (arith, ap (λ s. s.table.rows) c.self.view_is, c.requires)) c.number.ensures c.in_ok-keys.keys c.in_ok-keys.ensures
