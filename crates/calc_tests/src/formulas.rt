@@ -1,11 +1,9 @@
-ghost use Rattle.formula_reader.specs.Symbols.{KeepsLimits};
-
 use crate::common::Plain::{self, Blank, Number, Text, Truth};
 use crate::common::{DIV0, ERROR, MOST, NA, NAME, NUM, REF, VALUE, check, is_same, text};
 use crate::spreadsheet::Spreadsheet;
 use cell_calc::{value_of_content, value_of_tree};
 use cell_value::{NoMemory, Value};
-use formula_reader::{read_formula, tree_of};
+use formula_reader::{read_formula, read_pieces, tree_of};
 use ref_rewrite::{Content, Formula};
 use std::alloc::Global;
 
@@ -292,9 +290,7 @@ fn value_in_cell(
     alloc: Global,
     spreadsheet: &Spreadsheet,
     formula: Formula,
-) -> Result<Value, NoMemory>
-    requires { KeepsLimits formula }
-{
+) -> Result<Value, NoMemory> {
     value_of_content(alloc, spreadsheet, &Content::Formula(formula))
 }
 
@@ -305,8 +301,8 @@ fn is_value(alloc: Global, value: Result<Value, NoMemory>, wanted: Plain) -> boo
     }
 }
 
-/// Formulas without a tree.
-static TREELESS: [&str; 12] = [
+/// Formulas without a tree, and one with more brackets than are read.
+static TREELESS: [&str; 13] = [
     "=",
     "=1+",
     "=(1",
@@ -319,6 +315,7 @@ static TREELESS: [&str; 12] = [
     "=IFERROR(1,2",
     "=9007199254740993",
     "=\"a",
+    "=(((((((((((((((((((((((((((((((((1)))))))))))))))))))))))))))))))))",
 ];
 
 #[test]
@@ -330,11 +327,8 @@ fn formulas_without_a_tree_are_errors(rt: HostRuntime) {
 }
 
 fn is_treeless(alloc: Global, spreadsheet: &Spreadsheet, formula: &str) -> bool {
-    match read_formula(alloc, formula, spreadsheet, 0) {
-        Ok(formula) => {
-            let value = value_in_cell(alloc, spreadsheet, formula);
-            is_value(alloc, value, ERROR)
-        }
+    match read_pieces(alloc, formula, spreadsheet, 0) {
+        Ok(read) => is_value(alloc, value_in_cell(alloc, spreadsheet, read.0), ERROR),
         Err(_) => false,
     }
 }

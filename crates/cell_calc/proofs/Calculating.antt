@@ -10,16 +10,13 @@ use Rattle.cell_value.specs.declared.cell.Value.TheVariants.{Blank, Error}
 use Rattle.cell_value.specs.Elements.{nothing_in, Contains-cons_cases, Contains-map}
 use Rattle.grid_range.specs.declared.area.Area.{Area}
 use Rattle.ref_rewrite.specs.declared.cell_content.Content.{Content}
-use Rattle.ref_rewrite.specs.declared.cell_content.Content.TheVariants.{Number, Text, Truth, Formula}
 use Rattle.cell_calc.specs.declared.mark.Mark.{Mark}
 use Rattle.cell_calc.specs.declared.mark.Mark.TheVariants.{Open, Endless, Known}
-use Rattle.cell_calc.specs.declared.walk.Frame.{Frame}
-use Rattle.cell_calc.specs.Book.{Book, Place, Cell, IsFormula, HoldsPlace}
-use Rattle.cell_calc.specs.Contents.{Contents, AreOf, AreSound, AreStoredPlaces, IsCell}
-use Rattle.cell_calc.specs.CellValue.{Walks, HasValue}
-use Rattle.cell_calc.specs.Known.{value_known}
+use Rattle.cell_calc.specs.Book.{Book, Place, HoldsPlace}
+use Rattle.cell_calc.specs.Contents.{Contents, AreOf, AreSound, AreStoredPlaces}
+use Rattle.cell_calc.specs.CellValue.{HasValue}
 use Rattle.cell_calc.specs.Marks.{place_of, value_told}
-use Rattle.cell_calc.specs.Walk.{HeldBy, Holds, Goes, Meets}
+use Rattle.cell_calc.specs.Walk.{Holds, Goes}
 use Rattle.cell_calc.specs.Calculated.{AreValues, AreAllValues, IsStoredFormula, Calculates, SettlesAll, Calculated, whole_sheet}
 use Rattle.cell_calc.proofs.Endless.{counts_are_bounds}
 use Rattle.cell_calc.proofs.Steps.{told_is_value}
@@ -41,13 +38,6 @@ one_more_cases xs count x d y within is has =
         | inr never ↦ absurd (nothing_in y never)
       ]
     ]
-
-stored_formula : (content : Option Content) (cell : Cell) → IsCell content cell → IsFormula cell → IsStoredFormula content
-stored_formula None cell is formed = absurd (subst IsFormula is formed)
-stored_formula (Some (Number number)) cell is formed = absurd (subst IsFormula is formed)
-stored_formula (Some (Text text)) cell is formed = absurd (subst IsFormula is formed)
-stored_formula (Some (Truth truth)) cell is formed = absurd (subst IsFormula is formed)
-stored_formula (Some (Formula text)) cell is formed = tt
 
 formula_is_some : (content : Option Content) → IsStoredFormula content → IsSome content
 formula_is_some None is = absurd is
@@ -130,20 +120,30 @@ module _ (contents : Contents) where
 
     pub are_values : AreValues contents areas (λ place. value_told (marks place))
     are_values = record {
-      formulas = λ book are place formed held.
-          some_told book are place (marks place) refl
-          (calculated.all place held (stored_formula (contents.content place) (book.cells place) (are.cells place) formed));
-      others = other_value;
+      formulas = λ place formed held book are.
+          some_told book are place (marks place) refl (calculated.all place held formed);
+      others = λ place value is book are. other_value book are place value is;
     }
+
+  -- one area more, whatever areas were calculated before
+  pub one_area : (area : Area) (before after : Place → Option Mark)
+      → ((book : Book) → AreOf contents book → Holds contents book before []) → Calculates contents area before after
+      → Calculated contents (area ∷ []) after
+  one_area area before after was calculates = record {
+    right = λ book are. calculates.goes.right book are (was book are);
+    all = λ place held formed. elim (Contains-cons_cases area held.0 [] held.1) [
+      | inl same ↦ calculates.all place (subst (λ a. HoldsPlace a place) (sym same) held.2) formed
+      | inr never ↦ absurd (nothing_in held.0 never)
+    ];
+  }
 
   pub are_all_values : AreSound contents → (known : Place → Option Value)
       → AreValues contents (map whole_sheet contents.sheets) known → AreAllValues contents known
   are_all_values sound known values = record {
-    formulas = λ book are place formed.
-        let stored = stored_formula (contents.content place) (book.cells place) (are.cells place) formed in
-        let within = sound.inside place (formula_is_some (contents.content place) stored) in
+    formulas = λ place formed.
+        let within = sound.inside place (formula_is_some (contents.content place) formed) in
         let has = (sound.sized place.sheet).0 (sized _ (contents.size place.sheet) within) in
-        values.formulas book are place formed
+        values.formulas place formed
         (whole_sheet place.sheet, Contains-map whole_sheet contents.sheets place.sheet has, (refl, (tt, tt)));
     others = values.others;
   }

@@ -1,15 +1,14 @@
 -- A path that meets a cycle: from each of its cells walks have no end.
 use Rattle.std.proofs.Common.{◌≡◌, ◌⊎◌, ℕ, zero, suc, List, [], ◌∷◌, Option, Some, None, refl, ap, sym, subst, ◌∙◌, inl, inr}
 use Rattle.std.specs.List.{AllByRecursion}
-use Rattle.cell_value.specs.declared.cell.Value.{Value}
 use Rattle.cell_calc.specs.declared.mark.Mark.{Mark}
 use Rattle.cell_calc.specs.declared.mark.Mark.TheVariants.{Open, Endless, Known}
 use Rattle.cell_calc.specs.declared.mark.Found.TheVariants.{New, Circular, Settled}
 use Rattle.cell_calc.specs.declared.walk.Frame.{Frame}
 use Rattle.cell_calc.specs.Book.{Book, Place, IsFormula}
 use Rattle.cell_calc.specs.Contents.{Contents}
-use Rattle.cell_calc.specs.CellValue.{Reads, Walks, value_in}
-use Rattle.cell_calc.specs.Marks.{IsMarked, IsKnown, found_by}
+use Rattle.cell_calc.specs.CellValue.{Reads, Walks}
+use Rattle.cell_calc.specs.Marks.{IsKnown, found_by}
 use Rattle.cell_calc.specs.Walk.{place_at, OnPath, Waits, IsReadBy, IsLinked, Holds, Closes}
 use Rattle.cell_calc.proofs.Marking.{here, cases}
 

@@ -1,10 +1,10 @@
 -- How deep a recursion is doesn't matter for a cell from which no walk is as long.
-use Rattle.std.proofs.Common.{◌≡◌, ℕ, zero, suc, refl, ap, sym, ◌∙◌}
+use Rattle.std.proofs.Common.{◌≡◌, ℕ, zero, suc, refl, sym, ◌∙◌}
 use Rattle.cell_value.specs.declared.cell.Kind.TheVariants as kind
 use Rattle.cell_value.specs.declared.cell.Value.{Value}
 use Rattle.cell_value.specs.declared.cell.Value.TheVariants.{Error}
 use Rattle.cell_calc.specs.Book.{Book, Place, Cell, stored, formula, IsFormula}
-use Rattle.cell_calc.specs.CellValue.{Reads, Walks, value_in, IsValueOf}
+use Rattle.cell_calc.specs.CellValue.{Walks, value_in, IsValueOf}
 use Rattle.cell_calc.specs.FormulaValue.{value_of_cell}
 use Rattle.cell_calc.proofs.ReadsDecide.{reads_decide}
 

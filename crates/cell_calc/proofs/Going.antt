@@ -13,7 +13,6 @@ use Rattle.grid_range.specs.declared.area.Area.{Area}
 use Rattle.ref_rewrite.specs.declared.cell_content.Content.{Content}
 use Rattle.ref_rewrite.specs.declared.cell_content.Content.TheVariants.{Number, Text, Truth, Formula}
 use Rattle.formula_reader.specs.Only.{IsOnly}
-use Rattle.formula_reader.specs.Symbols.{IsTreeOf}
 use Rattle.formula_reader.specs.declared.tree.Tree.{Tree}
 use Rattle.formula_reader.specs.Tree.{Expression, expression_of}
 use Rattle.cell_calc.specs.declared.mark.Mark.{Mark}
@@ -21,7 +20,7 @@ use Rattle.cell_calc.specs.declared.mark.Mark.TheVariants.{Open, Endless, Known}
 use Rattle.cell_calc.specs.declared.mark.Found.TheVariants.{Circular, Settled}
 use Rattle.cell_calc.specs.declared.walk.Frame.{Frame}
 use Rattle.cell_calc.specs.Book.{Book, Place, Cell, stored, formula, IsFormula, HoldsPlace}
-use Rattle.cell_calc.specs.Contents.{Contents, AreOf, AreStoredPlaces, IsCell, IsContentSound, KeepsItsLimits}
+use Rattle.cell_calc.specs.Contents.{Contents, AreOf, AreStoredPlaces, IsCell, IsTreeWithin}
 use Rattle.cell_calc.specs.CellValue.{areas_of, Reads}
 use Rattle.cell_calc.specs.FormulaValue.{value_of_cell}
 use Rattle.cell_calc.specs.Known.{book_read, value_read}
@@ -160,16 +159,10 @@ module _ (contents : Contents) where
       (known (stored value) is)
 
   pub tree_at : (place : Place) (text : _) (tree : Option Expression) → contents.content place ≡ Some (Formula text)
-      → IsOnly (IsTreeOf text) tree → IsTreeAt contents place tree
+      → IsOnly (IsTreeWithin text) tree → IsTreeAt contents place tree
   tree_at place text tree at only book are =
       let is = cell_at place (Some (Formula text)) at book are in
-      is.2 ∙ ap formula (one_answer (IsTreeOf text) is.0 tree is.1 only)
-
-  pub limits_kept : (content : Content) → IsContentSound contents content → KeepsItsLimits content
-  limits_kept (Number number) sound = tt
-  limits_kept (Text text) sound = tt
-  limits_kept (Truth truth) sound = tt
-  limits_kept (Formula text) sound = sound.0
+      is.2 ∙ ap formula (one_answer (IsTreeWithin text) is.0 tree is.1 only)
 
   pub treeless_at_once : (place : Place) (before : Place → Option Mark) (path : List Frame)
       → IsTreeAt contents place None

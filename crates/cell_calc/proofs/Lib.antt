@@ -13,6 +13,9 @@ pub mod Filled
 pub mod Rectangle
 pub mod AreasLent
 pub mod OneAnswer
+pub mod TreesWithin
+pub mod Stored
+pub mod OneValue
 pub mod Depth
 pub mod Marking
 pub mod Steps

@@ -1,15 +1,14 @@
 -- One more mark, and what else it changes: nothing.
-use Rattle.std.proofs.Common.{◌≡◌, ◌⊎◌, ℕ, ◌==◌, ◌&&◌, Bool, true, false, cond, List, [], ◌∷◌, Option, Some, None, refl, ap, sym, subst, ◌∙◌, inl, inr, arith}
+use Rattle.std.proofs.Common.{◌≡◌, ◌⊎◌, ℕ, ◌==◌, ◌&&◌, true, cond, Option, Some, None, refl, ap, sym, subst, ◌∙◌, inl, inr, arith}
 use Rattle.std.specs.Option.{IsSome}
 use Rattle.std.proofs.lemmas.Bool.{and_parts, cases_Bool}
 use Rattle.std.proofs.lemmas.Bool.Decides.{nat_tests}
 use Rattle.cell_value.specs.declared.cell.Value.{Value}
 use Rattle.cell_calc.specs.declared.mark.Mark.{Mark}
 use Rattle.cell_calc.specs.declared.mark.Mark.TheVariants.{Open, Endless, Known}
-use Rattle.cell_calc.specs.declared.walk.Frame.{Frame}
 use Rattle.cell_calc.specs.Book.{Place}
-use Rattle.cell_calc.specs.Marks.{is_place, place_of, IsMarked, IsKnown}
-use Rattle.cell_calc.specs.Walk.{place_at, OnPath, Stay}
+use Rattle.cell_calc.specs.Marks.{is_place, IsMarked, IsKnown}
+use Rattle.cell_calc.specs.Walk.{Stay}
 
 equal_numbers : (one other : ℕ) → (one == other) ≡ true → one ≡ other
 equal_numbers one other is = grind (arith, nat_tests)

@@ -1,5 +1,5 @@
 -- The values that are calculated of a spreadsheet (Google Sheets API v4 reference, CellData, `effectiveValue`).
-use Rattle.std.specs.Prelude.{◌≡◌, ⊤, List, [], ◌∷◌, Contains, ℕ, Option, Some, None}
+use Rattle.std.specs.Prelude.{◌≡◌, ⊤, List, [], Contains, ℕ, Option, Some, None}
 use Rattle.std.specs.Option.{IsSome}
 use Rattle.cell_value.specs.declared.cell.Value.{Value}
 use Rattle.grid_range.specs.declared.area.Area.{Area}
@@ -7,26 +7,17 @@ use Rattle.grid_range.specs.declared.band.Band.TheVariants.{Whole}
 use Rattle.ref_rewrite.specs.declared.cell_content.Content.{Content}
 use Rattle.ref_rewrite.specs.declared.cell_content.Content.TheVariants.{Number, Text, Truth, Formula}
 use Rattle.cell_calc.specs.declared.mark.Mark.{Mark}
-use Rattle.cell_calc.specs.Book.{Book, Place, IsFormula, HoldsPlace}
-use Rattle.cell_calc.specs.Contents.{Contents, AreOf}
+use Rattle.cell_calc.specs.declared.table.Table.{Table}
+use Rattle.cell_calc.specs.Book.{Book, Place, Cell, stored, HoldsPlace}
+use Rattle.cell_calc.specs.Contents.{Contents, AreOf, AreSound, IsCell}
 use Rattle.cell_calc.specs.CellValue.{HasValue}
 use Rattle.cell_calc.specs.Known.{value_known}
-use Rattle.cell_calc.specs.Marks.{place_of}
+use Rattle.cell_calc.specs.Marks.{place_of, marks_of}
 use Rattle.cell_calc.specs.Walk.{HeldBy, Goes, Holds}
 
--- values of a spreadsheet's cells: of each formula in the areas its value, and none that isn't its cell's
-pub record AreValues (contents : Contents) (areas : List Area) (told : Place → Option Value) : Type 0 where
-  pub formulas : (book : Book) → AreOf contents book → (place : Place) → IsFormula (book.cells place)
-      → HeldBy areas place → HasValue book place (value_known told place)
-  pub others : (book : Book) → AreOf contents book → (place : Place) (value : Value) → told place ≡ Some value
-      → HasValue book place value
-
--- the same of each formula of a spreadsheet
-pub record AreAllValues (contents : Contents) (told : Place → Option Value) : Type 0 where
-  pub formulas : (book : Book) → AreOf contents book → (place : Place) → IsFormula (book.cells place)
-      → HasValue book place (value_known told place)
-  pub others : (book : Book) → AreOf contents book → (place : Place) (value : Value) → told place ≡ Some value
-      → HasValue book place value
+-- the value in a place of a spreadsheet, by what is stored in it
+abbrev pub IsValueIn : Contents → Place → Value → Type 0
+IsValueIn contents place value = (book : Book) → AreOf contents book → HasValue book place value
 
 -- a formula is stored
 abbrev pub IsStoredFormula : Option Content → Type 0
@@ -35,6 +26,34 @@ IsStoredFormula (Some (Number number)) = ⊥
 IsStoredFormula (Some (Text text)) = ⊥
 IsStoredFormula (Some (Truth truth)) = ⊥
 IsStoredFormula (Some (Formula text)) = ⊤
+
+-- values of a spreadsheet's cells: of each formula in the areas its value, and none that isn't its cell's
+pub record AreValues (contents : Contents) (areas : List Area) (told : Place → Option Value) : Type 0 where
+  pub formulas : (place : Place) → IsStoredFormula (contents.content place) → HeldBy areas place
+      → IsValueIn contents place (value_known told place)
+  pub others : (place : Place) (value : Value) → told place ≡ Some value → IsValueIn contents place value
+
+-- the same of each formula of a spreadsheet
+pub record AreAllValues (contents : Contents) (told : Place → Option Value) : Type 0 where
+  pub formulas : (place : Place) → IsStoredFormula (contents.content place)
+      → IsValueIn contents place (value_known told place)
+  pub others : (place : Place) (value : Value) → told place ≡ Some value → IsValueIn contents place value
+
+-- a table that was calculated of a spreadsheet: what it tells is right, and no formula in it waits for others
+pub record IsTableOf (contents : Contents) (table : Table) : Type 0 where
+  pub right : (book : Book) → AreOf contents book → Holds contents book (marks_of table) []
+
+-- a place of a spreadsheet has one value at most
+abbrev pub ValuesOnce : Type 0
+ValuesOnce = (contents : Contents) → AreSound contents → (place : Place) (one other : Value)
+    → IsValueIn contents place one → IsValueIn contents place other → one ≡ other
+
+-- the value in a place without a formula is what is stored there
+abbrev pub StoredValues : Type 0
+StoredValues = (contents : Contents) (place : Place) (value : Value)
+    → ((cell : Cell) → IsCell (contents.content place) cell → cell ≡ stored value) → IsValueIn contents place value
+
+-- ---- what the private functions hand to one another
 
 -- marks come to others by which each formula in an area has one
 pub record Calculates (contents : Contents) (area : Area) (before : Place → Option Mark) (after : Place → Option Mark) : Type 0 where

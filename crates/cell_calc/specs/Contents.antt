@@ -9,6 +9,7 @@ use Rattle.grid_range.specs.declared.area.Area.{Area}
 use Rattle.grid_range.specs.Area.{AreaWithin, Holds, by_rows}
 use Rattle.ref_rewrite.specs.declared.cell_content.Content.{Content}
 use Rattle.ref_rewrite.specs.declared.cell_content.Content.TheVariants.{Number, Text, Truth, Formula}
+use Rattle.ref_rewrite.specs.declared.pieces.Formula.{Formula as StoredFormula}
 use Rattle.ref_rewrite.specs.declared.pieces.Piece.{Piece}
 use Rattle.ref_rewrite.specs.declared.pieces.Piece.TheVariants as piece
 use Rattle.formula_reader.specs.Tree.{Expression}
@@ -40,16 +41,9 @@ IsPieceWithin contents (piece.Text text) = ⊤
 IsPieceWithin contents (piece.Word word) = ⊤
 IsPieceWithin contents piece.Lost = ⊤
 
--- a formula's symbols pass no limit
-abbrev pub KeepsItsLimits : Content → Type 0
-KeepsItsLimits (Formula text) = KeepsLimits text
-KeepsItsLimits (Number number) = ⊤
-KeepsItsLimits (Text text) = ⊤
-KeepsItsLimits (Truth truth) = ⊤
-
--- and the cells of its references are there
+-- the cells of a formula's references are there
 abbrev pub IsContentSound : Contents → Content → Type 0
-IsContentSound contents (Formula text) = KeepsLimits text × All (IsPieceWithin contents) text.pieces
+IsContentSound contents (Formula text) = All (IsPieceWithin contents) text.pieces
 IsContentSound contents (Number number) = ⊤
 IsContentSound contents (Text text) = ⊤
 IsContentSound contents (Truth truth) = ⊤
@@ -70,6 +64,10 @@ pub record AreStoredPlaces (contents : Contents) (area : Area) (places : List (�
       ↔ (Holds area row column
       × IsSome (contents.content (record { sheet = area.sheet; row = row; column = column })))
 
+-- the formula has that tree, and passes no limit of reading; a formula that passes one has no tree
+abbrev pub IsTreeWithin : StoredFormula → Expression → Type 0
+IsTreeWithin text tree = KeepsLimits text × IsTreeOf text tree
+
 -- what is stored is that cell: an empty place is blank, and a formula is the only tree that it has
 abbrev pub IsCell : Option Content → Cell → Type 0
 IsCell None cell = cell ≡ stored value.Blank
@@ -77,7 +75,7 @@ IsCell (Some (Number number)) cell = cell ≡ stored (value.Number number)
 IsCell (Some (Text text)) cell = cell ≡ stored (value.Text text)
 IsCell (Some (Truth truth)) cell = cell ≡ stored (value.Truth truth)
 IsCell (Some (Formula text)) cell =
-    (tree : Option Expression) × IsOnly (IsTreeOf text) tree × (cell ≡ formula tree)
+    (tree : Option Expression) × IsOnly (IsTreeWithin text) tree × (cell ≡ formula tree)
 
 -- what is stored is that spreadsheet
 pub record AreOf (contents : Contents) (book : Book) : Type 0 where

@@ -1,6 +1,6 @@
-ghost use Rattle.std.specs.Prelude.{◌≡◌, ◌↔◌, [], map, IfOk, OnOk, IsTrue};
+ghost use Rattle.std.specs.Prelude.{◌≡◌, ◌↔◌, [], ◌∷◌, map, IfOk, OnOk, IsTrue};
 ghost use Rattle.std.specs.Option.{IsSome, option_copied};
-ghost use Rattle.cell_calc.specs.Calculated.{AreValues, AreAllValues, Calculates, SettlesAll, IsStoredFormula, whole_sheet};
+ghost use Rattle.cell_calc.specs.Calculated.{AreValues, AreAllValues, IsTableOf, Calculates, SettlesAll, IsStoredFormula, whole_sheet};
 ghost use Rattle.cell_calc.specs.Marks.{place_of, marks_of, values_of};
 ghost use Rattle.cell_calc.specs.Walk.{Goes};
 
@@ -51,7 +51,7 @@ fn whole_sheet(sheet: u32) -> Area
 
 /// The values of the formulas in the areas, and of the cells that they read and those that these read, each
 /// calculated once. A formula from which walks over formulas that it reads have no end is
-/// [`Kind::Ref`](cell_value::Kind::Ref). The table tells of no other cell.
+/// [`Kind::Ref`](cell_value::Kind::Ref), and one without a tree [`Kind::Error`](cell_value::Kind::Error).
 ///
 /// # Errors
 ///
@@ -68,6 +68,25 @@ pub fn calculate_for<C: CellsOf>(
         calculate_area(alloc, cells, &mut table, area)?;
     }
     Ok(table)
+}
+
+/// Comes to know the values of the formulas in one more area, as [`calculate_for`] does; what the table knows isn't
+/// calculated again.
+///
+/// # Errors
+///
+/// [`NoMemory`] where memory runs out; the table is to be given up then.
+pub fn calculate_more<C: CellsOf>(
+    alloc: Global,
+    cells: &C,
+    table: &mut Table,
+    area: &Area,
+) -> Result<(), NoMemory>
+    requires { IsTableOf (C.contents cells.now) table.old }
+    ensures right { OnOk result (IsTableOf (C.contents cells.now) table.new) }
+    ensures values { OnOk result (AreValues (C.contents cells.now) (area.now ∷ []) (values_of table.new)) }
+{
+    calculate_area(alloc, cells, table, area)
 }
 
 /// Comes to know the values of the formulas in the area.

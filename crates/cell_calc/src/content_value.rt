@@ -1,21 +1,21 @@
-ghost use Rattle.std.specs.Prelude.{◌≡◌, IfOk, Some, option_map};
+ghost use Rattle.std.specs.Prelude.{◌≡◌, ◌≢◌, IfOk, Some, None, option_map};
 ghost use Rattle.ref_rewrite.specs.declared.cell_content.Content.TheVariants as content;
-ghost use Rattle.formula_reader.specs.Symbols.{KeepsLimits};
+ghost use Rattle.formula_reader.specs.Only.{IsOnly};
 ghost use Rattle.formula_reader.specs.Tree.{expression_of};
 ghost use Rattle.cell_calc.specs.Book.{Cell, formula};
-ghost use Rattle.cell_calc.specs.Contents.{IsCell, KeepsItsLimits};
+ghost use Rattle.cell_calc.specs.Contents.{IsCell, IsTreeWithin};
 ghost use Rattle.cell_calc.specs.FormulaValue.{value_of_cell};
 
 use crate::evaluation::value_of_tree;
 use crate::reader::CellReader;
 use cell_value::{Duplicate, Kind, NoMemory, Value};
-use formula_reader::{Tree, tree_of};
+use formula_reader::{FormulaFault, Tree, tree_of};
 use ref_rewrite::{Content, Formula};
 use std::alloc::Global;
 
 /// The value of what is stored in a cell (Google Sheets API v4 reference, CellData, `effectiveValue`): of a
-/// formula that of its tree, and [`Kind::Error`] where it has none. A formula keeps the limits within which
-/// formulas are read.
+/// formula that of its tree, and [`Kind::Error`] where it has none or passes a limit within which formulas are
+/// read.
 ///
 /// # Errors
 ///
@@ -25,7 +25,6 @@ pub fn value_of_content<R: CellReader>(
     reader: &R,
     content: &Content,
 ) -> Result<Value, NoMemory>
-    requires { KeepsItsLimits content.now }
     ensures { (cell : Cell) → IsCell (Some content.now) cell
         → IfOk result (λ value. value ≡ value_of_cell (R.book reader.now) (R.read reader.now) cell) }
 {
@@ -43,14 +42,30 @@ fn value_of_formula<R: CellReader>(
     reader: &R,
     text: &Formula,
 ) -> Result<Value, NoMemory>
-    requires { KeepsLimits text.now }
     ensures { (cell : Cell) → IsCell (Some (content.Formula text.now)) cell
         → IfOk result (λ value. value ≡ value_of_cell (R.book reader.now) (R.read reader.now) cell) }
 {
+    let tree = tree_within(alloc, text)?;
+    value_by_tree(alloc, reader, &tree)
+}
+
+/// The tree of a formula; None where it has none, and where it passes a limit of reading.
+pub(crate) fn tree_within(alloc: Global, text: &Formula) -> Result<Option<Tree>, NoMemory>
+    ensures { IfOk result (λ tree. IsOnly (IsTreeWithin text.now) (option_map expression_of tree)) }
+{
     match tree_of(alloc, text) {
-        Ok(tree) => value_by_tree(alloc, reader, &tree),
-        // it keeps the limits, so memory ran out
-        Err(_) => Err(NoMemory),
+        Ok(tree) => Ok(tree),
+        Err(fault) => past_limit(fault),
+    }
+}
+
+/// No tree, unless memory ran out.
+fn past_limit(fault: FormulaFault) -> Result<Option<Tree>, NoMemory>
+    ensures { IfOk result (λ tree. (tree ≡ None) × (fault ≢ FormulaFault.NoMemory)) }
+{
+    match fault {
+        FormulaFault::NoMemory => Err(NoMemory),
+        FormulaFault::Tokens | FormulaFault::References | FormulaFault::Depth => Ok(None),
     }
 }
 

@@ -1,6 +1,9 @@
 //! Laws of the values of cells, as functions that do nothing, whose contracts are the laws.
 
+ghost use Rattle.cell_calc.specs.Calculated.{StoredValues, ValuesOnce};
 ghost use Rattle.cell_calc.specs.CellValue.{CountsAreBounds, ReadsDecide};
+
+use formula_reader::has_one_tree;
 
 /// What is the value in a place by walks without an end, and else by any recursion that is deeper than each walk
 /// from there is long, is so where lengths and depth are the number of the spreadsheet's formulas.
@@ -14,4 +17,17 @@ pub fn counts_are_bounds()
 #[tactic(auto, using(crate::proofs::ReadsDecide::reads_decide))]
 pub fn reads_decide()
     ensures { ReadsDecide }
+{}
+
+/// A place has one value at most.
+pub fn values_once()
+    ensures { ValuesOnce }
+{
+    has_one_tree();
+}
+
+/// The value in a place without a formula is what is stored there.
+#[tactic(auto, using(crate::proofs::Stored::stored_values))]
+pub fn stored_values()
+    ensures { StoredValues }
 {}

@@ -21,7 +21,7 @@ mod table;
 mod walk;
 
 pub use arguments::{AreaCells, Argument, FilledCell};
-pub use calculation::{calculate, calculate_for};
+pub use calculation::{calculate, calculate_for, calculate_more};
 pub use cells::CellsOf;
 pub use content_value::value_of_content;
 pub use evaluation::value_of_tree;
@@ -33,7 +33,7 @@ pub use functions::{
     sum_value, text_length, unless_it_fails, whole_quotient,
 };
 pub use known::{KnownCells, ValuesOf};
-pub use laws::{counts_are_bounds, reads_decide};
+pub use laws::{counts_are_bounds, reads_decide, stored_values, values_once};
 pub use operators::{negation, operation};
 pub use reader::CellReader;
 pub use table::Table;

@@ -21,12 +21,15 @@ pub struct Table {
 
 impl Table {
     ghost use Rattle.cell_calc.specs.Book.{Place};
+    ghost use Rattle.cell_calc.specs.Calculated.{IsTableOf};
+    ghost use Rattle.cell_calc.specs.Contents.{Contents};
     ghost use Rattle.cell_calc.specs.Known.{value_known};
     ghost use Rattle.cell_calc.specs.Marks.{place_of, marks_of, IsMarked, value_told, values_of, found_by};
 
     /// A table of no values.
-    pub(crate) fn new(alloc: Global) -> Table
-        ensures { (place : Place) → marks_of result place ≡ None }
+    pub fn new(alloc: Global) -> Table
+        ensures none { (place : Place) → marks_of result place ≡ None }
+        ensures right { (contents : Contents) → IsTableOf contents result }
     {
         Table {
             marks: HashMap::new(alloc),

@@ -1,10 +1,9 @@
 ghost use Rattle.std.specs.Prelude.{◌≡◌, [], ◌∷◌, List, IfOk, OnOk, Some, None, option_map};
 ghost use Rattle.ref_rewrite.specs.declared.cell_content.Content.TheVariants as content;
-ghost use Rattle.formula_reader.specs.Symbols.{KeepsLimits};
 ghost use Rattle.formula_reader.specs.Tree.{expression_of};
 ghost use Rattle.cell_calc.specs.declared.walk.Frame.{Frame};
 ghost use Rattle.cell_calc.specs.Book.{Cell, formula};
-ghost use Rattle.cell_calc.specs.Contents.{IsCell, KeepsItsLimits};
+ghost use Rattle.cell_calc.specs.Contents.{IsCell};
 ghost use Rattle.cell_calc.specs.FormulaValue.{value_of_cell};
 ghost use Rattle.cell_calc.specs.Known.{book_read, value_read};
 ghost use Rattle.cell_calc.specs.Marks.{place_of, marks_of, values_of};
@@ -12,13 +11,13 @@ ghost use Rattle.cell_calc.specs.Walk.{Goes, Meets, Closes, IsCut, IsTreeAt, IsK
 
 use crate::areas::add_areas;
 use crate::cells::CellsOf;
-use crate::content_value::value_of_content;
+use crate::content_value::{tree_within, value_of_content};
 use crate::evaluation::value_of_tree;
 use crate::known::KnownCells;
 use crate::mark::{Found, Key, Mark};
 use crate::table::Table;
 use cell_value::{Kind, NoMemory, Value};
-use formula_reader::{Tree, tree_of};
+use formula_reader::Tree;
 use grid_range::Area;
 use ref_rewrite::{Content, Formula};
 use std::alloc::Global;
@@ -224,7 +223,6 @@ fn look_at_new<C: CellsOf>(
     ensures { OnOk result (LooksAt (C.contents cells.now) place (marks_of table.old) noted.old.items
         (marks_of table.new) noted.new.items) }
 {
-    cells.stay_sound();
     match cells.content(place.0, place.1, place.2) {
         Some(content) => look_at_content(alloc, cells, table, noted, place, content),
         None => table.set(place, Mark::Known(Value::Blank)),
@@ -239,7 +237,6 @@ fn look_at_content<C: CellsOf>(
     place: Key,
     content: &Content,
 ) -> Result<(), NoMemory>
-    requires { KeepsItsLimits content.now }
     ensures { (C.contents cells.now).content (place_of place) ≡ Some content.now
         → OnOk result (LooksAt (C.contents cells.now) place (marks_of table.old) noted.old.items
         (marks_of table.new) noted.new.items) }
@@ -303,7 +300,6 @@ fn begin<C: CellsOf>(
         → OnOk result (Meets (C.contents cells.now) (place_of place) (marks_of table.old) path.old.items
         (marks_of table.new) path.new.items) }
 {
-    cells.stay_sound();
     match cells.content(place.0, place.1, place.2) {
         Some(content) => begin_content(alloc, cells, table, path, place, content),
         None => table.set(place, Mark::Known(Value::Blank)),
@@ -318,7 +314,6 @@ fn begin_content<C: CellsOf>(
     place: Key,
     content: &Content,
 ) -> Result<(), NoMemory>
-    requires { KeepsItsLimits content.now }
     ensures { (C.contents cells.now).content (place_of place) ≡ Some content.now
         → marks_of table.old (place_of place) ≡ None
         → OnOk result (Meets (C.contents cells.now) (place_of place) (marks_of table.old) path.old.items
@@ -339,7 +334,6 @@ fn begin_stored<C: CellsOf>(
     place: Key,
     content: &Content,
 ) -> Result<(), NoMemory>
-    requires { KeepsItsLimits content.now }
     ensures { (cell : Cell) → IsCell (Some content.now) cell
         → OnOk result (IsKnownAs (C.contents cells.now) (marks_of table.old) (place_of place) cell (marks_of table.new)) }
 {
@@ -354,7 +348,6 @@ fn stored_value<C: CellsOf>(
     values: &Table,
     content: &Content,
 ) -> Result<Value, NoMemory>
-    requires { KeepsItsLimits content.now }
     ensures { (cell : Cell) → IsCell (Some content.now) cell → IfOk result (λ value. value
         ≡ value_of_cell (book_read (C.contents cells.now) (values_of values.now))
         (value_read (C.contents cells.now) (values_of values.now)) cell) }
@@ -370,17 +363,13 @@ fn begin_formula<C: CellsOf>(
     place: Key,
     text: &Formula,
 ) -> Result<(), NoMemory>
-    requires { KeepsLimits text.now }
     ensures { (C.contents cells.now).content (place_of place) ≡ Some (content.Formula text.now)
         → marks_of table.old (place_of place) ≡ None
         → OnOk result (Meets (C.contents cells.now) (place_of place) (marks_of table.old) path.old.items
         (marks_of table.new) path.new.items) }
 {
-    match tree_of(alloc, text) {
-        Ok(tree) => begin_tree(alloc, cells, table, path, place, tree),
-        // it keeps the limits, so memory ran out
-        Err(_) => Err(NoMemory),
-    }
+    let tree = tree_within(alloc, text)?;
+    begin_tree(alloc, cells, table, path, place, tree)
 }
 
 fn begin_tree<C: CellsOf>(

@@ -1,7 +1,7 @@
 use Rattle.std.proofs.Common.{map, ap, subst, ◌∙◌}
 use Rattle.std.proofs.lemmas.Result.{IfOk-weaker}
 use Rattle.cell_calc.specs.Marks.{values_of}
-use Rattle.cell_calc.specs.Calculated.{AreValues, AreAllValues, whole_sheet}
+use Rattle.cell_calc.specs.Calculated.{AreValues, whole_sheet}
 use Rattle.cell_calc.proofs.Calculating.{are_all_values}
 use Rattle.cell_calc.proofs.calculation.calculate.Goals as goal
 

@@ -7,7 +7,7 @@ use Rattle.cell_calc.proofs.Calculating.{nothing_known, one_more_area, are_value
 use Rattle.cell_calc.proofs.calculation.calculate_for.Goals as goal
 
 pub loop-area-init : goal.loop-area-init
-loop-area-init g c = nothing_known _ _ c.new-table.ensures
+loop-area-init g c = nothing_known _ _ c.new-table.ensures.none
 
 pub loop-area-preserved : goal.loop-area-preserved
 loop-area-preserved g c =

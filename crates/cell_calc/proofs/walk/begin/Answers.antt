@@ -1,17 +1,8 @@
-use Rattle.std.proofs.Common.{sym, subst}
-use Rattle.std.specs.Prelude.{IfSome}
+use Rattle.std.proofs.Common.{sym}
 use Rattle.std.proofs.lemmas.Result.{on_ok_weaker}
-use Rattle.cell_calc.specs.Contents.{IsContentSound}
 use Rattle.cell_calc.specs.Marks.{place_of}
-use Rattle.cell_calc.proofs.Going.{cell_at, stored_at_once, limits_kept}
+use Rattle.cell_calc.proofs.Going.{cell_at, stored_at_once}
 use Rattle.cell_calc.proofs.walk.begin.Goals as goal
-
-pub begin_content-requires : goal.begin_content-requires
-begin_content-requires g c =
-    let contents = g.C.CellsOf.contents c.args.cells.now in
-    limits_kept contents c.in-Some.content.now
-    (subst (λ o. IfSome o (IsContentSound contents)) (sym c.in-Some.ensures)
-    (c.stay_sound.ensures.formulas (place_of c.args.place)))
 
 pub returns-in-Some : goal.returns-in-Some
 returns-in-Some g c = λ none. c.begin_content.ensures (sym c.in-Some.ensures) none

@@ -1,9 +1,7 @@
 use Rattle.std.proofs.Common.{sym, ap, subst, ◌∙◌, Some, refl}
-use Rattle.std.proofs.lemmas.Result.{on_ok_weaker}
 use Rattle.cell_value.specs.declared.cell.Value.TheVariants as value
 use Rattle.cell_calc.specs.Book.{stored}
 use Rattle.cell_calc.specs.Contents.{IsCell}
-use Rattle.cell_calc.specs.Marks.{place_of}
 use Rattle.cell_calc.proofs.Going.{stored_known}
 use Rattle.cell_calc.proofs.walk.begin_content.Goals as goal
 

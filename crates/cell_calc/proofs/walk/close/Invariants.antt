@@ -1,4 +1,4 @@
-use Rattle.std.proofs.Common.{ℕ, length, Option}
+use Rattle.std.proofs.Common.{length, Option}
 use Rattle.cell_calc.specs.declared.mark.Mark.{Mark}
 use Rattle.cell_calc.specs.Book.{Place}
 use Rattle.cell_calc.specs.Marks.{marks_of}
