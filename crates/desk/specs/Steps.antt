@@ -37,6 +37,22 @@ pub record IsServed (ask : Ask) (outcome : Outcome) : Type 0 where
   pub status_is : IsTrue (list_any (λ status. status == outcome.status) served)
   pub accepted : outcome.accepts ≡ true → (outcome.status ≡ 200) × IsSome ask.user × (ask.coded ≡ false)
 
+-- an ask has one outcome behind a history
+abbrev pub HasOneOutcome : (List Entry → Ask → Outcome → Type 0) → Type 0
+HasOneOutcome plain =
+    (entries : List Entry) (ask : Ask) (outcome other : Outcome) → plain entries ask outcome → plain entries ask other
+    → outcome ≡ other
+
+-- a history makes one number of cells
+abbrev pub HasOneCount : (List Entry → ℕ → Type 0) → Type 0
+HasOneCount cells =
+    (entries : List Entry) (count other : ℕ) → cells entries count → cells entries other → count ≡ other
+
+-- each outcome is one that an engine answers
+abbrev pub AreServed : (List Entry → Ask → Outcome → Type 0) → Type 0
+AreServed plain =
+    (entries : List Entry) (ask : Ask) (outcome : Outcome) → plain entries ask outcome → IsServed ask outcome
+
 -- What is answered on a world that stands for the entries: what one thread answers behind them. A world is told exactly
 -- where the ask is accepted; it stands for the entries with the ask's own behind them.
 pub record Answers {W : Type 0} (plain : List Entry → Ask → Outcome → Type 0) (stands : W → List Entry → Type 0)

@@ -19,7 +19,7 @@ pub struct Answered<W> {
 pub trait Engine {
     ghost use Rattle.desk.specs.declared.entry.Entry.{Entry};
     ghost use Rattle.desk.specs.declared.entry.Ask.{Ask};
-    ghost use Rattle.desk.specs.Steps.{Outcome, Answers, IsServed};
+    ghost use Rattle.desk.specs.Steps.{Outcome, Answers, HasOneOutcome, HasOneCount, AreServed};
 
     /// What the calls of a history made.
     type World: Drop;
@@ -32,18 +32,6 @@ pub trait Engine {
 
     /// How many cells a world has that stands for a history.
     ghost cells: { List Entry → ℕ → Type 0 };
-
-    /// An ask has one outcome behind a history.
-    ghost plain_once: { (entries : List Entry) (ask : Ask) (outcome other : Outcome)
-        → plain entries ask outcome → plain entries ask other → outcome ≡ other };
-
-    /// A history makes one number of cells.
-    ghost cells_once: { (entries : List Entry) (count other : ℕ) → cells entries count → cells entries other
-        → count ≡ other };
-
-    /// The status is 200, 400, 401, 403 or 404. What is accepted is answered 200, and has a user and no content coding.
-    ghost plain_served: { (entries : List Entry) (ask : Ask) (outcome : Outcome) → plain entries ask outcome
-        → IsServed ask outcome };
 
     /// The world of the beginning.
     ///
@@ -69,4 +57,17 @@ pub trait Engine {
     /// How many cells the world has.
     fn count_cells(world: &Self::World) -> u64
         ensures { (entries : List Entry) → stands world.now entries → cells entries result };
+
+    /// The law that an ask has one outcome behind a history. It does nothing when it runs.
+    fn one_outcome()
+        ensures { HasOneOutcome plain };
+
+    /// The law that a history makes one number of cells. It does nothing when it runs.
+    fn one_count()
+        ensures { HasOneCount cells };
+
+    /// The law that a status is 200, 400, 401, 403 or 404, and that what is accepted is answered 200, and has a user and
+    /// no content coding. It does nothing when it runs.
+    fn served_outcomes()
+        ensures { AreServed plain };
 }

@@ -12,4 +12,6 @@ pub fn one_reading()
 /// An ask has one outcome behind a history whose journal has a limit. It does nothing when it runs.
 pub fn one_step<E: Engine>()
     ensures { StepsOnce E.plain }
-{}
+{
+    E::one_outcome();
+}

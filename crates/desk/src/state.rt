@@ -93,6 +93,7 @@ impl<E: Engine, K: Keeper> State<E, K> {
             (K.kept self.old.keeper) (K.kept self.new.keeper) }
         ensures unkept { self.new.list ≡ self.old.list → K.kept self.new.keeper ≡ K.kept self.old.keeper }
     {
+        E::served_outcomes();
         match self.answer(caller, ask) {
             Ok(reply) => reply,
             Err(NoMemory) => self.reply(507, None),
@@ -182,6 +183,7 @@ impl<E: Engine, K: Keeper> State<E, K> {
         ensures unkept { self.new.list ≡ self.old.list → K.kept self.new.keeper ≡ K.kept self.old.keeper }
         ensures unmade { OnErr result (IsUnmade K.failures K.steady self.old self.new) }
     {
+        E::served_outcomes();
         let Answered { status, body, next } = E::answer(self.alloc, &self.world, ask)?;
         match next {
             None => Ok(self.reply(status, Some(body))),
@@ -214,6 +216,7 @@ impl<E: Engine, K: Keeper> State<E, K> {
         ensures unkept { self.new.list ≡ self.old.list → K.kept self.new.keeper ≡ K.kept self.old.keeper }
         ensures unmade { OnErr result (IsUnmade K.failures K.steady self.old self.new) }
     {
+        E::served_outcomes();
         let first = self.entries == 0;
         let total = self.bytes.saturating_add(entry_size(ask));
         if self.limit < total {

@@ -192,7 +192,7 @@ returns-in-Kept-clause-torn g c =
     let t = c.args.self.now in let ask = c.args.ask.now in
     let made : Outcome = record { status = c.args.status; body = c.args.body; accepts = true } in
     λ unavailable. absurd (served_not ask made
-    (g.E.Engine.plain_served (entries_of t.list) ask made c.requires.plain)
+    (c.served_outcomes.ensures (entries_of t.list) ask made c.requires.plain)
     (sym c.reply-reply.ensures.reply.0 ∙ unavailable))
 
 pub returns-in-Marked-clause-torn : goal.returns-in-Marked-clause-torn

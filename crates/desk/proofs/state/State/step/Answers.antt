@@ -12,7 +12,7 @@ returns-in-Ok-clause-happens g c =
 pub returns-in-Ok-clause-cause : goal.returns-in-Ok-clause-cause
 returns-in-Ok-clause-cause g c =
     answered_cause g.E.Engine.plain c.args.self.now.pair c.args.caller c.args.ask.now c.args.self.now.list
-    c.answer.new.self.list c.in-Ok.reply g.K.Keeper.failures g.K.Keeper.steady _ _ g.E.Engine.plain_served
+    c.answer.new.self.list c.in-Ok.reply g.K.Keeper.failures g.K.Keeper.steady _ _ c.served_outcomes.ensures
     c.in-Ok.ensures.faults c.in-Ok.ensures.happens
 
 pub returns-in-Err-clause-happens : goal.returns-in-Err-clause-happens
