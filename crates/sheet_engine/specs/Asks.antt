@@ -1,0 +1,113 @@
+-- Which call an ask is, and who makes it, or its first fault (Google Sheets API v4 reference; RFC 6750 for who asks).
+use Rattle.std.specs.Prelude.{◌≡◌, ◌≢◌, ℕ, ◌==◌, Bool, true, false, ◌&&◌, not, List, Result, Ok, Err}
+use Rattle.std.specs.Prelude.{if◌then◌else◌, MatchOption}
+use Rattle.std.specs.List.{before_first, after_first}
+use Rattle.std.specs.Option.{is_none}
+use Rattle.world_model.specs.Book.{PlaceBook}
+use Rattle.dimension_ops.specs.World.{book_with}
+use Rattle.sheets_http.specs.Routes.{IsRoute}
+use Rattle.sheets_http.specs.declared.routes.Route.{Route}
+use Rattle.sheets_http.specs.declared.routes.RouteFault.{RouteFault}
+use Rattle.sheets_http.specs.declared.routes.RouteFault.TheVariants as unrouted
+use Rattle.sheets_http.specs.declared.verb.Verb.{Verb}
+use Rattle.sheets_http.specs.declared.verb.Verb.TheVariants as verb
+use Rattle.sheets_json.specs.Calls.{call_of}
+use Rattle.sheets_json.specs.declared.call.Call.{Call}
+use Rattle.sheets_json.specs.declared.call.CallFault.{CallFault}
+use Rattle.sheets_json.specs.declared.call.CallFault.TheVariants as uncalled
+use Rattle.batch_engine.specs.declared.calls.Caller.{Caller}
+use Rattle.desk.specs.declared.entry.Ask.{Ask}
+use Rattle.sheet_engine.specs.declared.fault.Fault.{Fault}
+use Rattle.sheet_engine.specs.declared.fault.Fault.TheVariants as fault
+
+-- ---- what is served
+
+-- looks at a spreadsheet, batches of requests, appends, and reads, writes and clears of one range and of a list of them
+-- are served
+abbrev pub is_served : Verb → Bool
+is_served verb.Get = true
+is_served verb.Batch = true
+is_served verb.Read = true
+is_served verb.ReadMany = true
+is_served verb.Write = true
+is_served verb.Append = true
+is_served verb.WriteMany = true
+is_served verb.Clear = true
+is_served verb.ClearMany = true
+is_served _ = false
+
+-- each call but the one that makes a spreadsheet is on one that is there
+abbrev pub names_a_book : Verb → Bool
+names_a_book verb.Create = false
+names_a_book _ = true
+
+-- ---- the request line
+
+-- the method stands before the first space, the request target behind it (RFC 9112, section 3)
+abbrev pub is_space : ℕ → Bool
+is_space b = b == 32
+
+abbrev pub method_of : List ℕ → List ℕ
+method_of line = before_first is_space line
+
+abbrev pub target_of : List ℕ → List ℕ
+target_of line = after_first is_space line
+
+-- ---- the first fault of an ask
+
+-- the call that a body says, or the fault that it says none; no body says that memory ran out, so that line decides
+-- nothing
+abbrev pub said_by : Result Call CallFault → Result Call Fault
+said_by (Ok call) = Ok call
+said_by (Err uncalled.BadBody) = Err fault.BadBody
+said_by (Err uncalled.EmptyBatch) = Err fault.EmptyBatch
+said_by (Err uncalled.NotRead) = Err fault.NoRoute
+said_by (Err uncalled.NoMemory) = Err fault.BadBody
+
+-- the spreadsheet that the call is on isn't there
+abbrev pub lacks_its_book : List PlaceBook → Route → Bool
+lacks_its_book books route = names_a_book route.verb && is_none (book_with route.book books)
+
+abbrev pub asked_on : List PlaceBook → Ask → Route → Result Call Fault
+asked_on books ask route =
+    if not (is_served route.verb) then Err fault.NoRoute
+    else if lacks_its_book books route then Err fault.NoBook
+    else if ask.coded then Err fault.BadBody
+    else said_by (call_of route ask.body)
+
+-- the call of an ask with this route, or its fault; here, too, the line on memory decides nothing
+abbrev pub asked_for : List PlaceBook → Ask → Result Route RouteFault → Result Call Fault
+asked_for books ask (Ok route) = asked_on books ask route
+asked_for books ask (Err unrouted.NoRoute) = Err fault.NoRoute
+asked_for books ask (Err unrouted.BadQuery) = Err fault.BadQuery
+asked_for books ask (Err unrouted.NoMemory) = Err fault.NoRoute
+
+-- the ask is that call, or has that fault
+pub record AsksFor (books : List PlaceBook) (ask : Ask) (asked : Result Call Fault) : Type 0 where
+  pub routed : Result Route RouteFault
+  pub told : routed ≢ Err unrouted.NoMemory
+  pub is_route : IsRoute (method_of ask.target) (target_of ask.target) routed
+  pub asked_is : asked ≡ asked_for books ask routed
+
+-- ---- who asks
+
+-- the user makes the call, under the project that the ask names
+abbrev pub caller_of : List ℕ → Ask → Caller
+caller_of user ask = record { user = user; project = ask.project }
+
+-- the call, if it is one, and who makes it
+abbrev pub made_by : Caller → Result Call Fault → Result (Caller × Call) Fault
+made_by caller (Ok call) = Ok (caller, call)
+made_by caller (Err found) = Err found
+
+-- that user's ask is that call, or has that fault
+pub record IsAskedBy (user : List ℕ) (books : List PlaceBook) (ask : Ask) (asked : Result (Caller × Call) Fault) : Type 0
+  where
+    pub call : Result Call Fault
+    pub asks : AsksFor books ask call
+    pub asked_is : asked ≡ made_by (caller_of user ask) call
+
+-- the ask is that call of that caller, or has that fault; that nobody is known is before all others
+abbrev pub IsAsked : List PlaceBook → Ask → Result (Caller × Call) Fault → Type 0
+IsAsked books ask asked =
+    MatchOption ask.user (asked ≡ Err fault.NoUser) (λ user. IsAskedBy user books ask asked)

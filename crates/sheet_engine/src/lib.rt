@@ -1,0 +1,11 @@
+//! The spreadsheets of a server as an engine: each ask is an HTTP request line with a body, and the world is what the
+//! accepted ones made (Google Sheets API v4 reference).
+#![tactic(auto)]
+
+mod asking;
+mod fault;
+mod sheets;
+mod step;
+
+pub use fault::Fault;
+pub use sheets::Sheets;

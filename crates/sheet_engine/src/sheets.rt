@@ -1,0 +1,59 @@
+ghost use Rattle.std.specs.Prelude.{◌≡◌, IfOk};
+
+use crate::step::{Stepped, body_of, status_of, step};
+use batch_engine::calls_answered_once;
+use cell_value::NoMemory;
+use desk::{Answered, Ask, Engine};
+use dimension_ops::{World, opening_stands};
+use sheets_http::one_call;
+use std::alloc::Global;
+use world_model::stands_for_apart;
+
+/// The spreadsheets of a server as an engine. An ask is a call of the API by its request line and its body; it has the
+/// first of the faults of a request ([`crate::Fault`]), or is answered, and a writing call that is answered is accepted.
+/// The spreadsheets after a call share with those before it all that it doesn't change.
+pub enum Sheets {}
+
+impl Engine for Sheets {
+    ghost use Rattle.sheet_engine.specs.Replay.{Plain, Stands, Cells};
+
+    type World = World;
+
+    ghost plain = { Plain };
+
+    ghost stands = { Stands };
+
+    ghost cells = { Cells };
+
+    fn opening(alloc: Global) -> Result<World, NoMemory> {
+        opening_stands();
+        World::opening(alloc)
+    }
+
+    fn answer(alloc: Global, world: &World, ask: &Ask) -> Result<Answered<World>, NoMemory> {
+        let Stepped { told, next } = step(alloc, world, ask)?;
+        Ok(Answered {
+            status: status_of(&told),
+            body: body_of(alloc, &told)?,
+            next,
+        })
+    }
+
+    fn count_cells(world: &World) -> u64 {
+        world.filled()
+    }
+
+    fn one_outcome() {
+        one_call();
+        calls_answered_once();
+        stands_for_apart();
+    }
+
+    fn one_count() {
+        one_call();
+        calls_answered_once();
+        stands_for_apart();
+    }
+
+    fn served_outcomes() {}
+}
