@@ -15,13 +15,13 @@ use Rattle.grid_range.specs.declared.axis.Axis.{Axis}
 use Rattle.cell_value.specs.declared.cell.Render.{Render}
 use Rattle.cell_value.specs.declared.sequence.Text.{Text}
 use Rattle.cell_value.specs.declared.entered.Mode.{Mode}
-use Rattle.sheets_json.specs.Reading.{Reading}
+use Rattle.json_shapes.specs.Reading.{Reading}
 use Rattle.sheets_json.specs.declared.call.Call.{Call}
 use Rattle.sheets_json.specs.declared.call.Call.TheVariants as call
 use Rattle.sheets_json.specs.declared.call.InsertData.{InsertData}
 use Rattle.sheets_json.specs.declared.call.RangeBlock.{RangeBlock}
 use Rattle.sheets_json.specs.declared.call.ValueRange.{ValueRange}
-use Rattle.sheets_json.specs.declared.request.Step.{Step}
+use Rattle.json_requests.specs.declared.request.Step.{Step}
 use Rattle.batch_engine.specs.Effects.{Effect, Becomes, IsNext}
 use Rattle.batch_engine.specs.Effects.Effect.{Nothing, Changes}
 use Rattle.sheets_json.specs.declared.place.Place.TheVariants as place

@@ -22,7 +22,7 @@ use Rattle.values_api.specs.Blocks.{contents_of}
 use Rattle.values_api.specs.Laws.{AppendsOnce, WritesOnce}
 use Rattle.values_api.specs.Ranges.{FoundArea, Resolves, named, unnamed, part_of}
 use Rattle.values_api.specs.declared.writing.Written.{Written}
-use Rattle.sheets_json.specs.Reading.{Reading}
+use Rattle.json_shapes.specs.Reading.{Reading}
 use Rattle.sheets_json.specs.declared.answer.Answer.{Answer}
 use Rattle.sheets_json.specs.declared.answer.Answer.TheVariants as answer
 use Rattle.sheets_json.specs.declared.call.Call.{Call}

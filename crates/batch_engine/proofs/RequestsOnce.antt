@@ -11,12 +11,12 @@ use Rattle.dimension_ops.specs.Broken.{first_broken}
 use Rattle.dimension_ops.specs.SheetRequests.{NewSheetsOnce, new_place, sheet_added_broken}
 use Rattle.dimension_ops.specs.declared.rule.Rule.{Rule}
 use Rattle.values_api.specs.Laws.{WritesOnce}
-use Rattle.sheets_json.specs.declared.request.Request.{Request}
-use Rattle.sheets_json.specs.declared.request.Request.TheVariants as request
-use Rattle.sheets_json.specs.declared.request.Step.{Step}
-use Rattle.sheets_json.specs.declared.request.Step.TheVariants as step
-use Rattle.sheets_json.specs.declared.request.UpdatedArea.{UpdatedArea}
-use Rattle.sheets_json.specs.declared.request.UpdatedArea.TheVariants.{Start, Range}
+use Rattle.json_requests.specs.declared.request.Request.{Request}
+use Rattle.json_requests.specs.declared.request.Request.TheVariants as request
+use Rattle.json_requests.specs.declared.request.Step.{Step}
+use Rattle.json_requests.specs.declared.request.Step.TheVariants as step
+use Rattle.json_requests.specs.declared.request.UpdatedArea.{UpdatedArea}
+use Rattle.json_requests.specs.declared.request.UpdatedArea.TheVariants.{Start, Range}
 use Rattle.sheets_json.specs.declared.spreadsheet.Reply.{Reply}
 use Rattle.batch_engine.specs.AddSheet.{IsAddSheet, IsAdded, any_properties, sheet_reply}
 use Rattle.batch_engine.specs.Requests.{IsDoneAsAsked, IsRequested}

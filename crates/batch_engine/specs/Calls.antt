@@ -27,8 +27,8 @@ use Rattle.sheets_json.specs.declared.call.RangeBlock.{RangeBlock}
 use Rattle.sheets_json.specs.declared.call.ValueRange.{ValueRange}
 use Rattle.sheets_json.specs.declared.place.Place.{Place}
 use Rattle.sheets_json.specs.declared.place.Place.TheVariants as place
-use Rattle.sheets_json.specs.declared.request.Step.{Step}
-use Rattle.sheets_json.specs.Reading.{Reading}
+use Rattle.json_requests.specs.declared.request.Step.{Step}
+use Rattle.json_shapes.specs.Reading.{Reading}
 use Rattle.batch_engine.specs.Effects.{Effect, IsNext}
 use Rattle.batch_engine.specs.Effects.Effect.{Nothing, Changes}
 use Rattle.batch_engine.specs.Looks.{looked}

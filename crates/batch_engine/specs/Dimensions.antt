@@ -12,7 +12,7 @@ use Rattle.world_model.specs.Sound.{place_sheet_with}
 use Rattle.dimension_ops.specs.Broken.{Broken, first_broken, judged_by, unbroken}
 use Rattle.dimension_ops.specs.Lines.{lines_broken, lines_of_sheet}
 use Rattle.dimension_ops.specs.declared.rule.Rule.{Rule}
-use Rattle.sheets_json.specs.declared.request.DimensionRange.{DimensionRange}
+use Rattle.json_requests.specs.declared.request.DimensionRange.{DimensionRange}
 use Rattle.sheets_json.specs.declared.spreadsheet.Reply.{Reply}
 use Rattle.sheets_json.specs.declared.spreadsheet.Reply.TheVariants as reply
 

@@ -6,10 +6,10 @@ use Rattle.world_model.specs.Book.{PlaceBook}
 use Rattle.world_model.specs.BookChange.{BookChange}
 use Rattle.dimension_ops.specs.declared.rule.Rule.{Rule}
 use Rattle.dimension_ops.specs.declared.rule.Rule.TheVariants as rule
-use Rattle.sheets_json.specs.declared.request.Request.{Request}
-use Rattle.sheets_json.specs.declared.request.Request.TheVariants as request
-use Rattle.sheets_json.specs.declared.request.Step.{Step}
-use Rattle.sheets_json.specs.declared.request.Step.TheVariants as step
+use Rattle.json_requests.specs.declared.request.Request.{Request}
+use Rattle.json_requests.specs.declared.request.Request.TheVariants as request
+use Rattle.json_requests.specs.declared.request.Step.{Step}
+use Rattle.json_requests.specs.declared.request.Step.TheVariants as step
 use Rattle.sheets_json.specs.declared.spreadsheet.Reply.{Reply}
 use Rattle.batch_engine.specs.AddSheet.{IsAddSheet}
 use Rattle.batch_engine.specs.DeleteSheet.{IsDeleteSheet}

@@ -8,9 +8,9 @@ use Rattle.world_model.specs.Book.{PlaceBook}
 use Rattle.world_model.specs.BookChange.{BookChange}
 use Rattle.dimension_ops.specs.declared.rule.Rule.{Rule}
 use Rattle.values_api.specs.Updates.{cleared}
-use Rattle.sheets_json.specs.declared.request.GridCoordinate.{GridCoordinate}
-use Rattle.sheets_json.specs.declared.request.UpdatedArea.{UpdatedArea}
-use Rattle.sheets_json.specs.declared.request.UpdatedArea.TheVariants.{Start, Range}
+use Rattle.json_requests.specs.declared.request.GridCoordinate.{GridCoordinate}
+use Rattle.json_requests.specs.declared.request.UpdatedArea.{UpdatedArea}
+use Rattle.json_requests.specs.declared.request.UpdatedArea.TheVariants.{Start, Range}
 use Rattle.sheets_json.specs.declared.spreadsheet.Reply.{Reply}
 use Rattle.batch_engine.specs.Effects.{cells_updated}
 use Rattle.batch_engine.specs.Rows.{AreRowsWritten, OnArea, area_or_broken}

@@ -22,15 +22,15 @@ use Rattle.values_api.specs.Sheets.{formula_sheets}
 use Rattle.values_api.specs.Shown.{area_shown}
 use Rattle.values_api.specs.Updates.{cleared}
 use Rattle.values_api.specs.declared.writing.Written.{Written}
-use Rattle.sheets_json.specs.Reading.{Reading}
+use Rattle.json_shapes.specs.Reading.{Reading}
 use Rattle.sheets_json.specs.declared.answer.ShownRange.{ShownRange}
 use Rattle.sheets_json.specs.declared.answer.Update.{Update as UpdateAnswer}
 use Rattle.sheets_json.specs.declared.call.InsertData.{InsertData}
 use Rattle.sheets_json.specs.declared.call.InsertData.TheVariants.{InsertRows}
 use Rattle.sheets_json.specs.declared.call.RangeBlock.{RangeBlock}
 use Rattle.sheets_json.specs.declared.call.ValueRange.{ValueRange}
-use Rattle.sheets_json.specs.declared.fault.ShapeFault.{ShapeFault}
-use Rattle.sheets_json.specs.declared.fault.ShapeFault.TheVariants as fault
+use Rattle.json_shapes.specs.declared.fault.ShapeFault.{ShapeFault}
+use Rattle.json_shapes.specs.declared.fault.ShapeFault.TheVariants as fault
 use Rattle.batch_engine.specs.Effects.{cells_updated}
 use Rattle.batch_engine.specs.Ranges.{IsTarget}
 

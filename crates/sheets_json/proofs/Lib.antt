@@ -1,5 +1,3 @@
-pub mod ReadingLemmas
-pub mod MemberLemmas
 pub mod BodyLemmas
 pub mod WholeLemmas
 pub mod CallLemmas

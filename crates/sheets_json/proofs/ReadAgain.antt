@@ -6,13 +6,13 @@ use Rattle.serde_json.specs.Data.{no_members}
 use Rattle.grid_range.specs.declared.band.Band.{Band}
 use Rattle.grid_range.specs.declared.band.Band.TheVariants.{Whole, From, Span}
 use Rattle.grid_range.specs.declared.area.Area.{Area}
-use Rattle.sheets_json.specs.declared.fault.ShapeFault.TheVariants.{BadShape}
-use Rattle.sheets_json.specs.declared.request.NewNamedRange.{NewNamedRange}
-use Rattle.sheets_json.specs.Reading.{Reading, both, made}
-use Rattle.sheets_json.specs.Members.{nothing_left, first_part, object_of}
-use Rattle.sheets_json.specs.Scalars.{greatest_index}
-use Rattle.sheets_json.specs.Areas.{grid_range}
-use Rattle.sheets_json.specs.NamedRanges.{is_range_id, named_range_id, new_range_of}
+use Rattle.json_shapes.specs.declared.fault.ShapeFault.TheVariants.{BadShape}
+use Rattle.json_requests.specs.declared.request.NewNamedRange.{NewNamedRange}
+use Rattle.json_shapes.specs.Reading.{Reading, both, made}
+use Rattle.json_shapes.specs.Members.{nothing_left, first_part, object_of}
+use Rattle.json_shapes.specs.Scalars.{greatest_index}
+use Rattle.json_requests.specs.Areas.{grid_range}
+use Rattle.json_requests.specs.NamedRanges.{is_range_id, named_range_id, new_range_of}
 use Rattle.sheets_json.specs.Written.{text_data}
 use Rattle.sheets_json.specs.Spreadsheets.{area_data}
 use Rattle.sheets_json.specs.Laws.{HasIndices, IsIndexed, AreasAreReadAgain, NamedRangesAreReadAgain}

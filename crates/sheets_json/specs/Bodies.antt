@@ -1,4 +1,4 @@
--- The bodies of calls on several ranges (Google Sheets API v4 reference,
+-- The bodies of calls on several things (Google Sheets API v4 reference, spreadsheets.batchUpdate,
 -- spreadsheets.values.batchUpdate and spreadsheets.values.batchClear).
 use Rattle.std.specs.Prelude.{ℕ, List, codes, if◌then◌else◌, Option, None, Some, option_map, Result, Ok, Err, ⊤}
 use Rattle.std.specs.Str.{is_utf8}
@@ -9,10 +9,12 @@ use Rattle.cell_value.specs.declared.entered.Mode.{Mode}
 use Rattle.sheets_json.specs.declared.call.CallFault.{CallFault}
 use Rattle.sheets_json.specs.declared.call.CallFault.TheVariants.{BadBody}
 use Rattle.sheets_json.specs.declared.call.RangeBlock.{RangeBlock}
-use Rattle.sheets_json.specs.Reading.{Reading, Shape}
-use Rattle.sheets_json.specs.Members.{Fields, optional, required, also, making, object_of}
-use Rattle.sheets_json.specs.Shapes.{text, word, kept, list_of, only_false, anything}
-use Rattle.sheets_json.specs.Words.{mode_named, render_named}
+use Rattle.json_shapes.specs.Reading.{Reading, Shape}
+use Rattle.json_shapes.specs.Members.{Fields, optional, required, also, making, first_part, object_of}
+use Rattle.json_shapes.specs.Shapes.{text, word, kept, list_of, only_false, anything}
+use Rattle.json_shapes.specs.Words.{mode_named, render_named}
+use Rattle.json_requests.specs.declared.request.Step.{Step}
+use Rattle.json_requests.specs.Requests.{step_shape}
 use Rattle.sheets_json.specs.ValueRanges.{range_block}
 
 -- no member at all
@@ -30,12 +32,9 @@ of_response =
     (optional (codes "responseValueRenderOption") (word render_named)))
     (optional (codes "responseDateTimeRenderOption") anything)
 
-abbrev pub beside : {A B : Type 0} → A × B → A
-beside parts = parts.0
-
 abbrev pub data_blocks : Mode → Fields (List (Reading RangeBlock))
 data_blocks mode =
-    making beside (also (required (codes "data") (list_of (kept (object_of (range_block mode))))) of_response)
+    making first_part (also (required (codes "data") (list_of (kept (object_of (range_block mode))))) of_response)
 
 abbrev pub with_mode : {A : Type 0} → Mode → A → Mode × A
 with_mode mode blocks = (mode, blocks)
@@ -49,6 +48,17 @@ abbrev pub write_many : Fields (Mode × List (Reading RangeBlock))
 write_many members =
     under_mode data_blocks (required (codes "valueInputOption") (word mode_named) members).read
     (required (codes "valueInputOption") (word mode_named) members).left
+
+-- ---- a batch
+
+abbrev pub of_batch_response : Fields (Option ⊤ × Option ⊤)
+of_batch_response =
+    also
+    (optional (codes "includeSpreadsheetInResponse") only_false)
+    (optional (codes "responseIncludeGridData") only_false)
+
+abbrev pub batch : Fields (List Step)
+batch = making first_part (also (required (codes "requests") (list_of step_shape)) of_batch_response)
 
 -- ---- bodies
 

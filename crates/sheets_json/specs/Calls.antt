@@ -9,19 +9,19 @@ use Rattle.sheets_http.specs.declared.verb.Verb.{Verb}
 use Rattle.sheets_http.specs.declared.verb.Verb.TheVariants as verb
 use Rattle.sheets_json.specs.declared.call.Call.{Call}
 use Rattle.sheets_json.specs.declared.call.Call.TheVariants as call
-use Rattle.sheets_json.specs.declared.request.Step.{Step}
+use Rattle.json_requests.specs.declared.request.Step.{Step}
 use Rattle.sheets_json.specs.declared.call.NewSpreadsheet.{NewSpreadsheet}
 use Rattle.sheets_json.specs.declared.call.ValueRange.{ValueRange}
 use Rattle.sheets_json.specs.declared.call.RangeBlock.{RangeBlock}
 use Rattle.sheets_json.specs.declared.call.CallFault.{CallFault}
 use Rattle.sheets_json.specs.declared.call.CallFault.TheVariants.{BadBody, EmptyBatch, NotRead}
-use Rattle.sheets_json.specs.Reading.{Reading}
-use Rattle.sheets_json.specs.Members.{object_of}
-use Rattle.sheets_json.specs.Words.{dimension_named, render_named, mode_named, insert_named, truth_named, query_values, query_word}
+use Rattle.json_shapes.specs.Reading.{Reading}
+use Rattle.json_shapes.specs.Members.{object_of}
+use Rattle.json_shapes.specs.Words.{dimension_named, render_named, mode_named}
+use Rattle.sheets_json.specs.Words.{insert_named, truth_named, query_values, query_word}
 use Rattle.sheets_json.specs.ValueRanges.{value_range}
 use Rattle.sheets_json.specs.Creations.{new_spreadsheet}
-use Rattle.sheets_json.specs.Requests.{batch}
-use Rattle.sheets_json.specs.Bodies.{body_as, no_fields, clear_many, write_many}
+use Rattle.sheets_json.specs.Bodies.{body_as, batch, no_fields, clear_many, write_many}
 
 -- how texts are taken, which a query of such a call says
 abbrev pub mode_of : Route → Mode

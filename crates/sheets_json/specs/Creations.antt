@@ -2,10 +2,10 @@
 use Rattle.std.specs.Prelude.{ℕ, List, [], codes, Option, None, unwrap_or}
 use Rattle.cell_value.specs.declared.cell.SheetProperties.{SheetProperties}
 use Rattle.sheets_json.specs.declared.call.NewSpreadsheet.{NewSpreadsheet}
-use Rattle.sheets_json.specs.Reading.{Reading, both, made}
-use Rattle.sheets_json.specs.Members.{Fields, optional, also, making, object_of}
-use Rattle.sheets_json.specs.Shapes.{text, kept, list_of}
-use Rattle.sheets_json.specs.Sheets.{sheet_properties}
+use Rattle.json_shapes.specs.Reading.{Reading, both, made}
+use Rattle.json_shapes.specs.Members.{Fields, optional, also, making, object_of}
+use Rattle.json_shapes.specs.Shapes.{text, kept, list_of}
+use Rattle.json_requests.specs.Sheets.{sheet_properties}
 use Rattle.sheets_json.specs.ValueRanges.{in_turn}
 
 -- a sheet of which nothing is asked

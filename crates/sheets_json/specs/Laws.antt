@@ -4,11 +4,11 @@ use Rattle.grid_range.specs.declared.band.Band.{Band}
 use Rattle.grid_range.specs.declared.band.Band.TheVariants.{Whole, From, Span}
 use Rattle.grid_range.specs.declared.area.Area.{Area}
 use Rattle.named_ranges.specs.declared.range.NamedRange.{NamedRange}
-use Rattle.sheets_json.specs.declared.request.NewNamedRange.{NewNamedRange}
-use Rattle.sheets_json.specs.Members.{object_of}
-use Rattle.sheets_json.specs.Scalars.{greatest_index}
-use Rattle.sheets_json.specs.Areas.{grid_range}
-use Rattle.sheets_json.specs.NamedRanges.{is_range_id, new_named_range}
+use Rattle.json_requests.specs.declared.request.NewNamedRange.{NewNamedRange}
+use Rattle.json_shapes.specs.Members.{object_of}
+use Rattle.json_shapes.specs.Scalars.{greatest_index}
+use Rattle.json_requests.specs.Areas.{grid_range}
+use Rattle.json_requests.specs.NamedRanges.{is_range_id, new_named_range}
 use Rattle.sheets_json.specs.Spreadsheets.{area_data, named_range_data}
 
 -- the lines at which a band begins and ends are indices

@@ -1,25 +1,15 @@
 -- ValueRange (Google Sheets API v4 reference), as the body of a call and as a member of a list.
-use Rattle.std.specs.Prelude.{ℕ, Bool, true, false, List, [], codes, Option, None, Some, unwrap_or, Ok}
+use Rattle.std.specs.Prelude.{ℕ, List, codes, Option, None, Some, Ok}
 use Rattle.grid_range.specs.declared.axis.Axis.{Axis}
-use Rattle.grid_range.specs.declared.axis.Axis.TheVariants.{Rows, Columns}
-use Rattle.cell_value.specs.declared.cell.Block.{Block}
 use Rattle.cell_value.specs.declared.entered.Mode.{Mode}
 use Rattle.cell_value.specs.declared.entered.Input.{Input}
 use Rattle.sheets_json.specs.declared.call.ValueRange.{ValueRange}
 use Rattle.sheets_json.specs.declared.call.RangeBlock.{RangeBlock}
-use Rattle.sheets_json.specs.Reading.{Reading, both, made}
-use Rattle.sheets_json.specs.Members.{Fields, optional, required, also, making}
-use Rattle.sheets_json.specs.Shapes.{text, word, entered, kept, list_of}
-use Rattle.sheets_json.specs.Words.{dimension_named}
-
-abbrev pub is_columns : Option Axis → Bool
-is_columns None = false
-is_columns (Some Rows) = false
-is_columns (Some Columns) = true
-
--- rows unless the dimension says otherwise, and no values unless some are given
-abbrev pub block_of : Option Axis → Option (List (List Input)) → Block
-block_of dimension values = record { columns_first = is_columns dimension; values = unwrap_or values [] }
+use Rattle.json_shapes.specs.Reading.{Reading, both, made}
+use Rattle.json_shapes.specs.Members.{Fields, optional, required, also, making}
+use Rattle.json_shapes.specs.Shapes.{text, word, entered, kept, list_of}
+use Rattle.json_shapes.specs.Words.{dimension_named}
+use Rattle.json_requests.specs.Blocks.{block_of}
 
 -- what was kept of a member that may be absent
 abbrev pub in_turn : {A : Type 0} → Option (Reading A) → Reading (Option A)

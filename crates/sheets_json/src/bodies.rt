@@ -2,18 +2,17 @@ ghost use Rattle.std.specs.Prelude.{◌≡◌, ◌⊎◌, None, Some, Err, IfOk,
 ghost use Rattle.std.specs.Option.{option_map};
 ghost use Rattle.serde_json.specs.View.{view, members_view};
 ghost use Rattle.serde_json.specs.Errors.{IsMemory};
-ghost use Rattle.sheets_json.specs.Reading.{made};
-ghost use Rattle.sheets_json.specs.Members.{object_of};
-ghost use Rattle.sheets_json.specs.Bodies.{no_fields, clear_many, of_response, beside, data_blocks, with_mode, under_mode, write_many, json_of, or_bad_body, body_as};
+ghost use Rattle.json_shapes.specs.Reading.{made};
+ghost use Rattle.json_shapes.specs.Members.{object_of};
+ghost use Rattle.sheets_json.specs.Bodies.{no_fields, clear_many, of_response, data_blocks, with_mode, under_mode, write_many, json_of, or_bad_body, body_as};
 
-use crate::fault::{Read, both};
-use crate::list::ListOf;
-use crate::members::{ObjectOf, optional, required};
-use crate::shape::{Fields, Shape};
-use crate::single::{AnyText, Anything, InputOption, Kept, OnlyFalse, RenderOption};
 use crate::value_range::RangeBlockMembers;
 use crate::{CallFault, RangeBlock};
 use cell_value::{Items, Mode, NoMemory, Render, Text};
+use json_shapes::{
+    AnyText, Anything, Fields, InputOption, Kept, ListOf, ObjectOf, OnlyFalse, Read, RenderOption,
+    Shape, Word, both, first_part, optional, required,
+};
 use serde_json::{Error, Map, Value as Json};
 use std::alloc::Global;
 
@@ -63,7 +62,7 @@ impl Fields for WriteManyMembers {
         alloc: Global,
         members: &mut Map<String, Json>,
     ) -> Result<Read<(Mode, Items<Read<RangeBlock>>)>, NoMemory> {
-        let mode = required(alloc, members, "valueInputOption", &InputOption)?;
+        let mode = required(alloc, members, "valueInputOption", &Word(InputOption))?;
         take_under(alloc, members, mode)
     }
 }
@@ -121,17 +120,7 @@ impl Fields for DataMembers {
         let block = ObjectOf(RangeBlockMembers { mode: self.mode });
         let blocks = required(alloc, members, "data", &ListOf(Kept(block)))?;
         let response = ResponseMembers.take(alloc, members)?;
-        Ok(beside(both(blocks, response)))
-    }
-}
-
-/// The blocks, without what changes nothing.
-pub(crate) fn beside<T: Drop, R: Drop>(parts: Read<(T, R)>) -> Read<T>
-    ensures { result ≡ made beside parts }
-{
-    match parts {
-        Ok((part, _)) => Ok(part),
-        Err(fault) => Err(fault),
+        Ok(first_part(both(blocks, response)))
     }
 }
 
@@ -150,7 +139,12 @@ impl Fields for ResponseMembers {
         members: &mut Map<String, Json>,
     ) -> Result<Read<((Option<()>, Option<Render>), Option<()>)>, NoMemory> {
         let values = optional(alloc, members, "includeValuesInResponse", &OnlyFalse)?;
-        let render = optional(alloc, members, "responseValueRenderOption", &RenderOption)?;
+        let render = optional(
+            alloc,
+            members,
+            "responseValueRenderOption",
+            &Word(RenderOption),
+        )?;
         let dates = optional(alloc, members, "responseDateTimeRenderOption", &Anything)?;
         Ok(both(both(values, render), dates))
     }

@@ -1,6 +1,7 @@
-use crate::{ShapeFault, Step};
 use cell_value::{Block, Items, Mode, NoMemory, Render, SheetProperties, Text};
 use grid_range::Axis;
+use json_requests::Step;
+use json_shapes::ShapeFault;
 use std::error::Error;
 use std::fmt;
 

@@ -1,16 +1,12 @@
 ghost use Rattle.std.specs.Prelude.{◌≡◌, [], None, unwrap_or};
-ghost use Rattle.sheets_json.specs.Reading.{made};
+ghost use Rattle.json_shapes.specs.Reading.{made};
 ghost use Rattle.sheets_json.specs.Creations.{or_any, new_sheet, title, new_spreadsheet_of, new_spreadsheet_from, new_spreadsheet};
 
 use crate::NewSpreadsheet;
-use crate::fault::{Read, both};
-use crate::list::ListOf;
-use crate::members::{ObjectOf, optional};
-use crate::shape::Fields;
-use crate::sheet::SheetPropertiesMembers;
-use crate::single::{AnyText, Kept};
 use crate::value_range::in_turn;
 use cell_value::{Items, NoMemory, SheetProperties, Text};
+use json_requests::SheetPropertiesMembers;
+use json_shapes::{AnyText, Fields, Kept, ListOf, ObjectOf, Read, both, optional};
 use serde_json::{Map, Value as Json};
 use std::alloc::Global;
 

@@ -4,14 +4,13 @@ ghost use Rattle.sheets_json.specs.Calls.{mode_of, dimension_of, render_of, crea
 use crate::batch::BatchMembers;
 use crate::bodies::{ClearManyMembers, NoMembers, WriteManyMembers, read_body};
 use crate::creation::NewSpreadsheetMembers;
-use crate::members::ObjectOf;
 use crate::value_range::ValueRangeMembers;
-use crate::words::{
-    dimension_named, insert_named, mode_named, query_value, query_values, render_named, truth_named,
-};
-use crate::{Call, CallFault, RangeBlock, ShapeFault, Step, ValueRange};
+use crate::words::{InsertOption, TruthWord, query_values, query_word};
+use crate::{Call, CallFault, RangeBlock, ValueRange};
 use cell_value::{Duplicate, Items, Mode, NoMemory, Render, Text};
 use grid_range::Axis;
+use json_requests::Step;
+use json_shapes::{Dimension, InputOption, ObjectOf, RenderOption, ShapeFault};
 use sheets_http::{Route, Verb};
 use std::alloc::Global;
 
@@ -47,7 +46,7 @@ pub fn read_call(alloc: Global, route: &Route, body: &[u8]) -> Result<Call, Call
 fn mode_of(route: &Route) -> Mode
     ensures { result ≡ mode_of route.now }
 {
-    match query_value(route.query.as_slice(), "valueInputOption").and_then(mode_named) {
+    match query_word(&InputOption, route.query.as_slice(), "valueInputOption") {
         Some(mode) => mode,
         None => Mode::Raw,
     }
@@ -57,14 +56,14 @@ fn mode_of(route: &Route) -> Mode
 fn dimension_of(route: &Route) -> Option<Axis>
     ensures { result ≡ dimension_of route.now }
 {
-    query_value(route.query.as_slice(), "majorDimension").and_then(dimension_named)
+    query_word(&Dimension, route.query.as_slice(), "majorDimension")
 }
 
 /// How a read's values are shown.
 fn render_of(route: &Route) -> Option<Render>
     ensures { result ≡ render_of route.now }
 {
-    query_value(route.query.as_slice(), "valueRenderOption").and_then(render_named)
+    query_word(&RenderOption, route.query.as_slice(), "valueRenderOption")
 }
 
 /// A new spreadsheet.
@@ -87,7 +86,7 @@ fn get_of(route: &Route, body: &[u8]) -> Result<Call, CallFault>
     let query = route.query.as_slice();
     Ok(Call::Get {
         id: route.book.duplicate()?,
-        include_grid_data: query_value(query, "includeGridData").and_then(truth_named),
+        include_grid_data: query_word(&TruthWord, query, "includeGridData"),
     })
 }
 
@@ -182,7 +181,7 @@ fn append_call(route: &Route, values: Result<ValueRange, ShapeFault>) -> Result<
         id: route.book.duplicate()?,
         range: route.range.duplicate()?,
         value_input_option: mode_of(route),
-        insert_data_option: query_value(query, "insertDataOption").and_then(insert_named),
+        insert_data_option: query_word(&InsertOption, query, "insertDataOption"),
         values,
     })
 }

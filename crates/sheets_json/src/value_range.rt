@@ -1,15 +1,14 @@
-ghost use Rattle.std.specs.Prelude.{◌≡◌, [], Some, unwrap_or};
-ghost use Rattle.sheets_json.specs.Reading.{made};
-ghost use Rattle.sheets_json.specs.ValueRanges.{is_columns, block_of, in_turn, value_range_of, value_range_from, value_range, range_block_of, range_block};
+ghost use Rattle.std.specs.Prelude.{◌≡◌, Some};
+ghost use Rattle.json_shapes.specs.Reading.{made};
+ghost use Rattle.sheets_json.specs.ValueRanges.{in_turn, value_range_of, value_range_from, value_range, range_block_of, range_block};
 
-use crate::fault::{Read, both};
-use crate::list::ListOf;
-use crate::members::{optional, required};
-use crate::shape::Fields;
-use crate::single::{AnyText, Dimension, Entered, Kept};
 use crate::{RangeBlock, ValueRange};
 use cell_value::{Block, Input, Items, Mode, NoMemory, Text};
 use grid_range::Axis;
+use json_requests::block_of;
+use json_shapes::{
+    AnyText, Dimension, Entered, Fields, Kept, ListOf, Read, Word, both, optional, required,
+};
 use serde_json::{Map, Value as Json};
 use std::alloc::Global;
 
@@ -40,7 +39,7 @@ impl Fields for ValueRangeMembers {
         members: &mut Map<String, Json>,
     ) -> Result<Read<Read<ValueRange>>, NoMemory> {
         let range = optional(alloc, members, "range", &Kept(AnyText))?;
-        let dimension = optional(alloc, members, "majorDimension", &Dimension)?;
+        let dimension = optional(alloc, members, "majorDimension", &Word(Dimension))?;
         let lines = Kept(ListOf(ListOf(Entered { mode: self.mode })));
         let values = optional(alloc, members, "values", &lines)?;
         Ok(value_range_from(alloc, both(both(range, dimension), values)))
@@ -65,7 +64,7 @@ impl Fields for RangeBlockMembers {
         members: &mut Map<String, Json>,
     ) -> Result<Read<RangeBlock>, NoMemory> {
         let range = required(alloc, members, "range", &AnyText)?;
-        let dimension = optional(alloc, members, "majorDimension", &Dimension)?;
+        let dimension = optional(alloc, members, "majorDimension", &Word(Dimension))?;
         let lines = ListOf(ListOf(Entered { mode: self.mode }));
         let values = optional(alloc, members, "values", &lines)?;
         Ok(range_block_from(alloc, both(both(range, dimension), values)))
@@ -119,45 +118,5 @@ fn some_of<T>(read: Read<T>) -> Read<Option<T>>
     match read {
         Ok(value) => Ok(Some(value)),
         Err(fault) => Err(fault),
-    }
-}
-
-/// The values, which are rows unless the dimension says otherwise.
-pub(crate) fn block_of(alloc: Global, dimension: Option<Axis>, values: Lines) -> Block
-    ensures { result ≡ block_of dimension values }
-{
-    Block {
-        columns_first: is_columns(dimension),
-        values: lines_of(alloc, values),
-    }
-}
-
-/// The lines, none where none are given.
-fn lines_of(alloc: Global, values: Lines) -> Items<Items<Input>>
-    ensures { result ≡ unwrap_or values [] }
-{
-    match values {
-        Some(lines) => lines,
-        None => Items::of(Vec::new(alloc)),
-    }
-}
-
-/// Whether the inner lists are columns.
-fn is_columns(dimension: Option<Axis>) -> bool
-    ensures { result ≡ is_columns dimension }
-{
-    match dimension {
-        None => false,
-        Some(axis) => is_column_axis(axis),
-    }
-}
-
-/// Whether the axis is that of columns.
-fn is_column_axis(axis: Axis) -> bool
-    ensures { result ≡ is_columns (Some axis) }
-{
-    match axis {
-        Axis::Rows => false,
-        Axis::Columns => true,
     }
 }

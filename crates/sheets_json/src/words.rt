@@ -1,70 +1,64 @@
 ghost use Rattle.std.specs.Prelude.{◌≡◌, IfOk};
 ghost use Rattle.std.specs.Option.{option_map};
-ghost use Rattle.sheets_json.specs.Words.{dimension_named, render_named, mode_named, insert_named, truth_named, query_value, query_values};
+ghost use Rattle.sheets_json.specs.Words.{insert_named, truth_named, query_value, query_values, query_word};
 
 use crate::InsertData;
-use cell_value::{Duplicate, Items, Mode, NoMemory, Render, Text};
-use grid_range::Axis;
+use cell_value::{Duplicate, Items, NoMemory, Text};
+use json_shapes::Words;
 use std::alloc::Global;
 
-/// The dimension of that name.
-pub(crate) fn dimension_named(name: &str) -> Option<Axis>
-    ensures { result ≡ dimension_named name.now }
-{
-    match name {
-        "ROWS" => Some(Axis::Rows),
-        "COLUMNS" => Some(Axis::Columns),
-        _ => None,
+/// InsertDataOption (Google Sheets API v4 reference).
+#[derive(Clone, Copy)]
+pub(crate) struct InsertOption;
+
+impl Words for InsertOption {
+    type Output = InsertData;
+
+    ghost table = { λ _. insert_named };
+
+    fn named(&self, name: &str) -> Option<InsertData> {
+        match name {
+            "OVERWRITE" => Some(InsertData::Overwrite),
+            "INSERT_ROWS" => Some(InsertData::InsertRows),
+            _ => None,
+        }
     }
 }
 
-/// How values are shown, by its name.
-pub(crate) fn render_named(name: &str) -> Option<Render>
-    ensures { result ≡ render_named name.now }
-{
-    match name {
-        "FORMATTED_VALUE" => Some(Render::Formatted),
-        "UNFORMATTED_VALUE" => Some(Render::Unformatted),
-        "FORMULA" => Some(Render::Formula),
-        _ => None,
+/// The truth values of a query.
+#[derive(Clone, Copy)]
+pub(crate) struct TruthWord;
+
+impl Words for TruthWord {
+    type Output = bool;
+
+    ghost table = { λ _. truth_named };
+
+    fn named(&self, name: &str) -> Option<bool> {
+        match name {
+            "true" => Some(true),
+            "false" => Some(false),
+            _ => None,
+        }
     }
 }
 
-/// How texts are taken, by its name.
-pub(crate) fn mode_named(name: &str) -> Option<Mode>
-    ensures { result ≡ mode_named name.now }
+/// What a query's first member of that name says by the words.
+pub(crate) fn query_word<W: Words>(
+    words: &W,
+    query: &[(Text, Text)],
+    name: &str,
+) -> Option<W::Output>
+    ensures { result ≡ query_word (W.table words.now) name.now query.now }
 {
-    match name {
-        "RAW" => Some(Mode::Raw),
-        "USER_ENTERED" => Some(Mode::UserEntered),
-        _ => None,
-    }
-}
-
-/// How appended values find room, by its name.
-pub(crate) fn insert_named(name: &str) -> Option<InsertData>
-    ensures { result ≡ insert_named name.now }
-{
-    match name {
-        "OVERWRITE" => Some(InsertData::Overwrite),
-        "INSERT_ROWS" => Some(InsertData::InsertRows),
-        _ => None,
-    }
-}
-
-/// The truth value of that name.
-pub(crate) fn truth_named(name: &str) -> Option<bool>
-    ensures { result ≡ truth_named name.now }
-{
-    match name {
-        "true" => Some(true),
-        "false" => Some(false),
-        _ => None,
+    match query_value(query, name) {
+        Some(word) => words.named(word),
+        None => None,
     }
 }
 
 /// The value of a query's first member of that name.
-pub(crate) fn query_value<'a>(query: &'a [(Text, Text)], name: &str) -> Option<&'a str>
+fn query_value<'a>(query: &'a [(Text, Text)], name: &str) -> Option<&'a str>
     ensures { option_map (λ value. value.now) result ≡ query_value name.now query.now }
 {
     for member in query {

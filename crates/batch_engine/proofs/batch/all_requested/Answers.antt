@@ -1,7 +1,7 @@
 use Rattle.std.proofs.Common.{◌+◌, subst, sym, get_or, Ok}
 use Rattle.std.proofs.lemmas.List.{get_or_read}
-use Rattle.sheets_json.specs.declared.fault.ShapeFault.TheVariants.{BadShape}
-use Rattle.sheets_json.specs.declared.request.Step.TheVariants.{Shape}
+use Rattle.json_shapes.specs.declared.fault.ShapeFault.TheVariants.{BadShape}
+use Rattle.json_requests.specs.declared.request.Step.TheVariants.{Shape}
 use Rattle.batch_engine.specs.Members.{AreDone, IsDoneTo}
 use Rattle.batch_engine.specs.Requests.{IsRequested}
 use Rattle.batch_engine.proofs.InTurns.{DoneTo, all_done, broken_there, done_so, one_more}

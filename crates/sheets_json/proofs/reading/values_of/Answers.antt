@@ -2,7 +2,7 @@ use Rattle.std.proofs.Common.{◌≡◌, subst}
 use Rattle.std.specs.Prelude.{◌⊎◌, Err}
 use Rattle.cell_value.specs.declared.entered.Mode.{Mode}
 use Rattle.sheets_json.specs.declared.call.CallFault.TheVariants.{NoMemory}
-use Rattle.sheets_json.specs.Members.{object_of}
+use Rattle.json_shapes.specs.Members.{object_of}
 use Rattle.sheets_json.specs.ValueRanges.{value_range}
 use Rattle.sheets_json.specs.Bodies.{body_as}
 use Rattle.sheets_json.proofs.reading.values_of.Goals as goal

@@ -1,0 +1,9 @@
+pub mod Blocks
+pub mod Sheets
+pub mod SheetUpdates
+pub mod Areas
+pub mod Cells
+pub mod Dimensions
+pub mod Merges
+pub mod NamedRanges
+pub mod Requests

@@ -1,0 +1,44 @@
+ghost use Rattle.std.specs.Prelude.{◌≡◌};
+ghost use Rattle.json_requests.specs.Requests.{kind_named};
+
+/// The kinds of requests that are known.
+#[derive(Clone, Copy, Debug, PartialEq, Eq)]
+pub(crate) enum RequestKind {
+    AddSheet,
+    DeleteSheet,
+    UpdateSheetProperties,
+    UpdateCells,
+    AppendCells,
+    InsertDimension,
+    DeleteDimension,
+    AppendDimension,
+    MoveDimension,
+    MergeCells,
+    UnmergeCells,
+    AddNamedRange,
+    UpdateNamedRange,
+    DeleteNamedRange,
+}
+
+/// The kind of that name.
+pub(crate) fn kind_named(name: &str) -> Option<RequestKind>
+    ensures { result ≡ kind_named name.now }
+{
+    match name {
+        "addSheet" => Some(RequestKind::AddSheet),
+        "deleteSheet" => Some(RequestKind::DeleteSheet),
+        "updateSheetProperties" => Some(RequestKind::UpdateSheetProperties),
+        "updateCells" => Some(RequestKind::UpdateCells),
+        "appendCells" => Some(RequestKind::AppendCells),
+        "insertDimension" => Some(RequestKind::InsertDimension),
+        "deleteDimension" => Some(RequestKind::DeleteDimension),
+        "appendDimension" => Some(RequestKind::AppendDimension),
+        "moveDimension" => Some(RequestKind::MoveDimension),
+        "mergeCells" => Some(RequestKind::MergeCells),
+        "unmergeCells" => Some(RequestKind::UnmergeCells),
+        "addNamedRange" => Some(RequestKind::AddNamedRange),
+        "updateNamedRange" => Some(RequestKind::UpdateNamedRange),
+        "deleteNamedRange" => Some(RequestKind::DeleteNamedRange),
+        _ => None,
+    }
+}

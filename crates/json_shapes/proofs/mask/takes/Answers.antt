@@ -1,0 +1,13 @@
+use Rattle.std.proofs.Common.{rules, tests, lit<}
+use Rattle.std.specs.Prelude.{◌||◌}
+use Rattle.std.specs.Str.{bytes_eq}
+use Rattle.std.proofs.lemmas.Iterator.Search.{any_from_yields_List}
+use Rattle.std.proofs.lemmas.Iterator.Splits.{YieldsList-from_str_split}
+use Rattle.json_shapes.specs.Masks.{is_every}
+use Rattle.json_shapes.proofs.mask.takes.Goals as goal
+
+pub returns : goal.returns
+returns c =
+    any_from_yields_List (λ other. bytes_eq other c.args.path.now || is_every other) _ _ _ c.any.ensures.ran
+    (YieldsList-from_str_split 44 c.args.mask.now (lit< tt) c.split.ensures.text c.split.ensures.has_more c.split.ensures.pattern)
+    (λ x b q k. search (rules, tests))
