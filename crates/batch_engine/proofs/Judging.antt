@@ -1,6 +1,6 @@
 -- Members that are judged one after another.
-use Rattle.std.proofs.Common.{◌≡◌, ℕ, ◌+◌, ◌<◌, ◌≤◌, List, [], ◌∷◌, ◌++◌, length, drop, get_or, refl, sym, ap, subst}
-use Rattle.std.specs.Prelude.{Option, Result, Ok, Err}
+use Rattle.std.proofs.Common.{◌≡◌, ℕ, ◌+◌, ◌<◌, ◌≤◌, List, [], ◌∷◌, ◌++◌, length, drop, get_or, refl, sym, ap, subst, ◌∙◌}
+use Rattle.std.specs.Prelude.{OnOk, Option, Result, Ok, Err}
 use Rattle.std.proofs.lemmas.List.{drop_more, drop_all}
 use Rattle.cell_value.specs.declared.cell.Render.{Render}
 use Rattle.dimension_ops.specs.Rules.{IsUnlessNoMemory}
@@ -69,3 +69,8 @@ shown_so dimension render book range other told judged same is told_is =
     subst (λ text. IsShown dimension render book text judged) same
     (judged_so (IsShown dimension render book other) judged
     (subst (IsUnlessNoMemory (IsShown dimension render book other)) told_is is))
+
+-- what holds behind a member that is answered
+pub judged_ok : {T : Type 0} (P : Type 0) (told : Result T RuleOr) (judged : Result T Rule) (one : T)
+    → told ≡ as_told judged → judged ≡ Ok one → OnOk told P → P
+judged_ok P told judged one is ok holds = subst (λ r. OnOk r P) (is ∙ ap as_told ok) holds

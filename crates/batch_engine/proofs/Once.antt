@@ -19,7 +19,7 @@ use Rattle.dimension_ops.specs.World.{book_with}
 use Rattle.dimension_ops.specs.declared.rule.Rule.{Rule}
 use Rattle.dimension_ops.specs.declared.rule.Rule.TheVariants as rule
 use Rattle.values_api.specs.Blocks.{contents_of}
-use Rattle.values_api.specs.Laws.{AppendsOnce, WritesOnce}
+use Rattle.values_api.specs.Laws.{AppendsOnce, ReadsOnce, WritesOnce}
 use Rattle.values_api.specs.Ranges.{FoundArea, Resolves, named, unnamed, part_of}
 use Rattle.values_api.specs.declared.writing.Written.{Written}
 use Rattle.json_shapes.specs.Reading.{Reading}
@@ -35,6 +35,7 @@ use Rattle.batch_engine.specs.Effects.Effect.{Nothing}
 use Rattle.batch_engine.specs.Ranges.{IsTarget, agreed}
 use Rattle.batch_engine.specs.Values.{OnRange, done, refused, IsRead, IsClear, IsUpdate, IsShown, IsCleared, IsWritten}
 use Rattle.batch_engine.specs.Values.{Appended, IsAppendOn, IsAppended, IsUpdated, Wrote, appended_of, inserts, update_of}
+use Rattle.batch_engine.specs.Values.{axis_or_rows, is_columns, render_or_formatted, shown_range}
 use Rattle.batch_engine.specs.Looks.{looked}
 use Rattle.batch_engine.specs.Calls.{AreMade, IsAppendOf, IsBatchOf, IsLookOf, IsAlone, IsAnswered, IsClearManyOf, IsClearOf, IsMade, IsReadManyOf}
 use Rattle.batch_engine.specs.Calls.{IsReadOf, IsSeen, IsWriteManyOf, IsWriteOf, OnBook, Refusal, alone, answered_at}
@@ -113,6 +114,18 @@ module _ {A : Type 0} (Found : Result FoundArea Rule → Type 0) (sheets : List 
 -- what is answered and made so has one answer and one effect
 said_once : {Broken : Type 0} (says : Result Answer Broken) (makes : Effect) → IsOnce (λ told effect. (told ≡ says) × (effect ≡ makes))
 said_once says makes told told' effect effect' is is' = (is.0 ∙ sym is'.0, is.1 ∙ sym is'.1)
+
+-- ---- reads
+
+read_once : ReadsOnce → (dimension : Option Axis) (render : Option Render) (book : PlaceBook) → IsSound book
+    → (found : FoundArea) (sheet : PlaceSheet) (told told' : Result ShownRange Rule)
+    → IsRead book dimension render found sheet told → IsRead book dimension render found sheet told' → told ≡ told'
+read_once reads dimension render book sound found sheet told told' one other =
+    one.told_is
+    ∙ ap (λ lines. Ok (shown_range (axis_or_rows dimension) found.0 sheet lines))
+    (reads.once book found.0 (is_columns (axis_or_rows dimension)) (render_or_formatted render) sheet one.lines other.lines
+    sound one.shown other.shown)
+    ∙ sym other.told_is
 
 -- ---- writes
 
@@ -240,14 +253,14 @@ found_sound id (b ∷ bs) all =
     first_sound (bytes_eq b.id id) b (book_with id bs) (all 0 b (omega arith))
     (found_sound id bs (λ k d there. all (suc k) d (omega arith)))
 
-module _ (one_reading : HasOneReading) (news : NewSheetsOnce) (writes : WritesOnce) (appends : AppendsOnce)
+module _ (one_reading : HasOneReading) (news : NewSheetsOnce) (reads : ReadsOnce) (writes : WritesOnce) (appends : AppendsOnce)
     (apart : ChangesApart) (turns : ChangesInTurn) where
-  shown_once : (dimension : Option Axis) (render : Option Render) (book : PlaceBook) (range : List ℕ)
+  shown_once : (dimension : Option Axis) (render : Option Render) (book : PlaceBook) → IsSound book → (range : List ℕ)
       (one other : Result ShownRange Rule) → IsShown dimension render book range one
       → IsShown dimension render book range other → one ≡ other
-  shown_once dimension render book range =
+  shown_once dimension render book sound range =
       on_range_once (Resolves range book.sheets) book.sheets (IsRead book dimension render)
-      (resolves_once one_reading range book.sheets) (λ found sheet told told' is is'. is ∙ sym is')
+      (resolves_once one_reading range book.sheets) (read_once reads dimension render book sound)
 
   cleared_once : (book : PlaceBook) (range : Reading (List ℕ)) (one other : Result (List ℕ × List BookChange) Rule)
       → IsCleared book range one → IsCleared book range other → one ≡ other
@@ -281,11 +294,11 @@ module _ (one_reading : HasOneReading) (news : NewSheetsOnce) (writes : WritesOn
   updated_once book sound (Err shape) = λ one other is is'. is ∙ sym is'
 
   read_many_once : (ranges : List (List ℕ)) (dimension : Option Axis) (render : Option Render) (book : PlaceBook)
-      → IsOnce (IsReadManyOf ranges dimension render book)
-  read_many_once ranges dimension render book told told' effect effect' is is' = (
+      → IsSound book → IsOnce (IsReadManyOf ranges dimension render book)
+  read_many_once ranges dimension render book sound told told' effect effect' is is' = (
     is.told_is
         ∙ ap (answered_at place.Ranges (λ all. answer.ReadMany book.id all))
-        (in_order_once (IsShown dimension render book) (shown_once dimension render book) 0 ranges is.shown is'.shown
+        (in_order_once (IsShown dimension render book) (shown_once dimension render book sound) 0 ranges is.shown is'.shown
         is.each is'.each)
         ∙ sym is'.told_is,
     is.nothing ∙ sym is'.nothing,
@@ -313,7 +326,7 @@ module _ (one_reading : HasOneReading) (news : NewSheetsOnce) (writes : WritesOn
     answered_once caller (call.Read id range dimension render) =
         on_book_once id (λ book. IsAlone (IsReadOf range dimension render book))
         (λ book sound. alone_once (IsReadOf range dimension render book)
-        (seen_once (IsShown dimension render book range) answer.Read (shown_once dimension render book range)))
+        (seen_once (IsShown dimension render book range) answer.Read (shown_once dimension render book sound range)))
     answered_once caller (call.Write id range mode values) =
         on_book_once id (λ book. IsAlone (IsWriteOf range values book))
         (λ book sound. alone_once (IsWriteOf range values book)
@@ -324,7 +337,7 @@ module _ (one_reading : HasOneReading) (news : NewSheetsOnce) (writes : WritesOn
         (made_once (IsCleared book (Ok range)) (λ text. answer.Clear text book.id) book (cleared_once book (Ok range))))
     answered_once caller (call.ReadMany id ranges dimension render) =
         on_book_once id (IsReadManyOf ranges dimension render)
-        (λ book sound. read_many_once ranges dimension render book)
+        (λ book sound. read_many_once ranges dimension render book sound)
     answered_once caller (call.WriteMany id mode blocks) =
         on_book_once id (IsWriteManyOf blocks)
         (λ book sound. are_made_once IsUpdated updated_once blocks place.Data (written_answer book) book sound)

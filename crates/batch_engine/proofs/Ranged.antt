@@ -23,8 +23,7 @@ use Rattle.dimension_ops.specs.declared.rule.RuleOr.TheVariants as refusal
 use Rattle.values_api.specs.Blocks.{IsWrite, contents_of}
 use Rattle.values_api.specs.Laws.{UpdatesOnce}
 use Rattle.values_api.specs.Ranges.{FoundArea, Resolves, area_text}
-use Rattle.values_api.specs.Sheets.{formula_sheets}
-use Rattle.values_api.specs.Shown.{area_shown}
+use Rattle.values_api.specs.Shown.{IsAreaShown}
 use Rattle.values_api.specs.Updates.{cleared, AreUpdated}
 use Rattle.values_api.specs.declared.writing.Written.{Written}
 use Rattle.sheets_json.specs.declared.answer.Answer.{Answer}
@@ -138,29 +137,24 @@ pub read_done : (range : List ℕ) (dimension : Option Axis) (render : Option Re
     (found : FoundArea) (text : List ℕ) (shown : List (List Cell)) → Resolves range book.sheets (Ok found)
     → IsSomeAnd (place_sheet_with found.0.sheet book.sheets) (λ sheet. text ≡ area_text sheet found.0)
     → IfSome (place_sheet_with found.0.sheet book.sheets)
-    (λ sheet. shown ≡ area_shown (formula_sheets book.sheets) found.0 (is_columns (axis_or_rows dimension))
-    (render_or_formatted render) sheet)
+    (λ sheet. IsAreaShown book.sheets found.0 (is_columns (axis_or_rows dimension)) (render_or_formatted render) sheet shown)
     → IsShown dimension render book range
     (Ok (record { range = text; major_dimension = axis_or_rows dimension; values = unless_empty shown }))
 read_done range dimension render book found text shown resolves text_of shown_if =
     let (sheet, is, text_is) = some_and (λ (sheet : PlaceSheet). text ≡ area_text sheet found.0)
     (place_sheet_with found.0.sheet book.sheets) text_of in
-    let shown_is : shown ≡ area_shown (formula_sheets book.sheets) found.0 (is_columns (axis_or_rows dimension))
-    (render_or_formatted render) sheet =
-    subst (λ one. IfSome one (λ (sheet : PlaceSheet). shown
-    ≡ area_shown (formula_sheets book.sheets) found.0 (is_columns (axis_or_rows dimension))
-    (render_or_formatted render) sheet)) is shown_if in
-    done found sheet resolves is
-    (ap (λ told. as_shown (record {
-      range = told;
-      major_dimension = axis_or_rows dimension;
-      values = unless_empty shown;
-    })) text_is
-    ∙ ap (λ values. as_shown (record {
-      range = area_text sheet found.0;
-      major_dimension = axis_or_rows dimension;
-      values = unless_empty values;
-    })) shown_is)
+    let shown_is : IsAreaShown book.sheets found.0 (is_columns (axis_or_rows dimension)) (render_or_formatted render) sheet shown =
+    subst (λ one. IfSome one (λ (sheet : PlaceSheet).
+    IsAreaShown book.sheets found.0 (is_columns (axis_or_rows dimension)) (render_or_formatted render) sheet shown)) is shown_if in
+    done found sheet resolves is (record {
+      lines = shown;
+      shown = shown_is;
+      told_is = ap (λ told. as_shown (record {
+        range = told;
+        major_dimension = axis_or_rows dimension;
+        values = unless_empty shown;
+      })) text_is;
+    })
 
 -- ---- clears
 

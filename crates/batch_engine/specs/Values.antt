@@ -18,8 +18,7 @@ use Rattle.dimension_ops.specs.declared.rule.Rule.TheVariants as rule
 use Rattle.values_api.specs.Appends.{IsAppend}
 use Rattle.values_api.specs.Blocks.{IsWrite, contents_of}
 use Rattle.values_api.specs.Ranges.{FoundArea, Resolves, area_text}
-use Rattle.values_api.specs.Sheets.{formula_sheets}
-use Rattle.values_api.specs.Shown.{area_shown}
+use Rattle.values_api.specs.Shown.{IsAreaShown}
 use Rattle.values_api.specs.Updates.{cleared}
 use Rattle.values_api.specs.declared.writing.Written.{Written}
 use Rattle.json_shapes.specs.Reading.{Reading}
@@ -66,16 +65,19 @@ abbrev pub unless_empty : List (List Cell) → Option (List (List Cell))
 unless_empty [] = None
 unless_empty (line ∷ lines) = Some (line ∷ lines)
 
-abbrev pub shown_range : PlaceBook → Axis → Render → Area → PlaceSheet → ShownRange
-shown_range book axis render area sheet = record {
+abbrev pub shown_range : Axis → Area → PlaceSheet → List (List Cell) → ShownRange
+shown_range axis area sheet lines = record {
   range = area_text sheet area;
   major_dimension = axis;
-  values = unless_empty (area_shown (formula_sheets book.sheets) area (is_columns axis) render sheet);
+  values = unless_empty lines;
 }
 
-abbrev pub IsRead : PlaceBook → Option Axis → Option Render → FoundArea → PlaceSheet → Result ShownRange Rule → Type 0
-IsRead book dimension render found sheet told =
-    told ≡ Ok (shown_range book (axis_or_rows dimension) (render_or_formatted render) found.0 sheet)
+-- the cells are shown by their values, or as they were entered
+pub record IsRead (book : PlaceBook) (dimension : Option Axis) (render : Option Render) (found : FoundArea)
+    (sheet : PlaceSheet) (told : Result ShownRange Rule) : Type 0 where
+  pub lines : List (List Cell)
+  pub shown : IsAreaShown book.sheets found.0 (is_columns (axis_or_rows dimension)) (render_or_formatted render) sheet lines
+  pub told_is : told ≡ Ok (shown_range (axis_or_rows dimension) found.0 sheet lines)
 
 -- what a range shows
 abbrev pub IsShown : Option Axis → Option Render → PlaceBook → List ℕ → Result ShownRange Rule → Type 0

@@ -1,20 +1,24 @@
-ghost use Rattle.std.specs.Prelude.{◌≡◌, IfOk, IsSomeAnd};
+ghost use Rattle.std.specs.Prelude.{◌≡◌, IfOk, IsSomeAnd, OnOk};
+ghost use Rattle.cell_calc.specs.Calculated.{IsTableOf};
 ghost use Rattle.dimension_ops.specs.Rules.{IsUnlessNoMemory};
 ghost use Rattle.world_model.specs.Sound.{place_sheet_with};
 ghost use Rattle.values_api.specs.Ranges.{IsThere};
+ghost use Rattle.values_api.specs.Sheets.{stored_in};
 ghost use Rattle.batch_engine.specs.Calls.{IsChange, IsReadOf, IsClearOf, IsWriteOf};
 ghost use Rattle.batch_engine.specs.Effects.Effect.{Nothing};
 ghost use Rattle.batch_engine.specs.Members.{IsDoneTo};
 ghost use Rattle.batch_engine.specs.Values.{is_columns, axis_or_rows, render_or_formatted, unless_empty, update_of, rule_of, IsShown, IsCleared, IsWritten, IsUpdated, IsUpdate};
 
 use crate::targets::target;
+use cell_calc::Table;
 use cell_value::{Block, Cell, Duplicate, Items, NoMemory, Render, Text};
 use dimension_ops::{Book, Rule, RuleOr};
 use grid_range::{Area, Axis};
 use sheets_json::{Answer, RangeBlock, ShapeFault, ShownRange, Update, ValueRange};
 use std::alloc::Global;
 use values_api::{
-    Written, clear_values, range_text, read_values, resolve, updates_once, write_values,
+    Written, calculate_shown, clear_values, range_text, read_values, resolve, updates_once,
+    write_values,
 };
 use world_model::updates_are_changes;
 
@@ -28,28 +32,28 @@ pub(crate) fn read(
 ) -> Result<Answer, RuleOr>
     ensures { IsUnlessNoMemory (λ told. IsReadOf range.now dimension render book.now told Nothing) result }
 {
-    Ok(Answer::Read(shown(alloc, book, range, dimension, render)?))
+    let mut table = Table::new(alloc);
+    let shown = shown(alloc, book, &mut table, range, dimension, render)?;
+    Ok(Answer::Read(shown))
 }
 
-/// What a read of a range shows.
+/// What a read of a range shows. The table comes to tell the values that are shown.
 pub(crate) fn shown(
     alloc: Global,
     book: &Book,
+    table: &mut Table,
     range: &str,
     dimension: Option<Axis>,
     render: Option<Render>,
 ) -> Result<ShownRange, RuleOr>
-    ensures { IsUnlessNoMemory (IsShown dimension render book.now range.now) result }
+    requires { IsTableOf (stored_in book.now.sheets) table.old }
+    ensures shown { IsUnlessNoMemory (IsShown dimension render book.now range.now) result }
+    ensures table { OnOk result (IsTableOf (stored_in book.now.sheets) table.new) }
 {
     let (area, _) = resolve(alloc, book, range)?;
-    let axis = axis_or_rows(dimension);
-    let shown = read_values(
-        alloc,
-        book,
-        &area,
-        is_columns(axis),
-        render_or_formatted(render),
-    )?;
+    let (axis, render) = (axis_or_rows(dimension), render_or_formatted(render));
+    calculate_shown(alloc, book, table, &area, render)?;
+    let shown = read_values(alloc, book, table, &area, is_columns(axis), render)?;
     Ok(ShownRange {
         range: range_text(alloc, book, &area)?,
         major_dimension: axis,

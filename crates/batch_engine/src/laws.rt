@@ -4,7 +4,7 @@ ghost use Rattle.batch_engine.specs.Laws.{CallsAnsweredOnce};
 
 use a1_notation::a1_laws;
 use dimension_ops::new_sheets_once;
-use values_api::{appends_once, writes_once};
+use values_api::{appends_once, shows_once, writes_once};
 use world_model::{changes_apart, changes_in_turn};
 
 /// A call has one answer and one effect on given spreadsheets.
@@ -13,6 +13,7 @@ pub fn calls_answered_once()
 {
     a1_laws();
     new_sheets_once();
+    shows_once();
     writes_once();
     appends_once();
     changes_apart();

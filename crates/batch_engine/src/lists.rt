@@ -8,6 +8,7 @@ ghost use Rattle.batch_engine.specs.Values.{IsCleared, IsShown, IsUpdated};
 use crate::answers::{emptied, rule_of, shown, updated};
 use crate::calls::judged;
 use crate::totals::written_answer;
+use cell_calc::Table;
 use cell_value::{Duplicate, Items, NoMemory, Render, Text};
 use dimension_ops::{Book, Rule, RuleOr};
 use grid_range::Axis;
@@ -38,7 +39,7 @@ pub(crate) fn read_many(
     }
 }
 
-/// What each range shows, or the first that breaks a rule, by its place.
+/// What each range shows, or the first that breaks a rule, by its place. A value is calculated once for all ranges.
 fn all_shown(
     alloc: Global,
     book: &Book,
@@ -49,8 +50,10 @@ fn all_shown(
     ensures { IfOk result (InOrder (IsShown dimension render book.now) 0 ranges.now) }
 {
     let mut all = Vec::new(alloc);
+    let mut table = Table::new(alloc);
     for at in 0..ranges.len() {
-        match judged(shown(alloc, book, ranges[at].as_str(), dimension, render))? {
+        let range = ranges[at].as_str();
+        match judged(shown(alloc, book, &mut table, range, dimension, render))? {
             Ok(range) => all.push(range)?,
             Err(rule) => return Ok(Err((at, rule))),
         }

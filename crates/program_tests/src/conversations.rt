@@ -11,6 +11,7 @@ use crate::rows::{
     LONG_HEADS, LOOKS, LongHead, NO_CALLS, OK, RANGES, TYPED, USERS, WRITES, WRITES_TO_LISTS,
 };
 use crate::sheets::{ADDED_SHEETS, PROPERTIES, REFUSED_PROPERTIES, REFUSED_SHEETS};
+use crate::values::{VALUES, VALUES_OF_OTHERS};
 use cell_value::{Bytes, Items};
 use sheets_cli::{cut_off_laws, reply_laws, sheets_main};
 use sheets_http::{MemorySink, MemorySource};
@@ -289,6 +290,20 @@ fn refuses_properties(rt: HostRuntime) {
 #[test]
 fn deletes_sheets(rt: HostRuntime) {
     for row in &DELETED_SHEETS {
+        check(&rt, &row.3, is_answered(&rt, row));
+    }
+}
+
+#[test]
+fn shows_values_of_formulas(rt: HostRuntime) {
+    for row in &VALUES {
+        check(&rt, &row.3, is_answered(&rt, row));
+    }
+}
+
+#[test]
+fn shows_values_of_others(rt: HostRuntime) {
+    for row in &VALUES_OF_OTHERS {
         check(&rt, &row.3, is_answered(&rt, row));
     }
 }

@@ -24,3 +24,5 @@ mod rows;
 mod sheets;
 #[cfg(test)]
 mod system;
+#[cfg(test)]
+mod values;

@@ -1049,7 +1049,7 @@ pub(crate) static FORMULAS: [Exchange; 20] = [
         ],
         OK,
         "",
-        "{\"majorDimension\":\"ROWS\",\"range\":\"Sheet1!A1\",\"values\":[[\"=A1\"]]}",
+        "{\"majorDimension\":\"ROWS\",\"range\":\"Sheet1!A1\",\"values\":[[\"#REF!\"]]}",
     ),
     (
         &[
@@ -1066,7 +1066,7 @@ pub(crate) static FORMULAS: [Exchange; 20] = [
         ],
         OK,
         "",
-        "{\"majorDimension\":\"ROWS\",\"range\":\"Sheet1!A1\",\"values\":[[\"=A1\"]]}",
+        "{\"majorDimension\":\"ROWS\",\"range\":\"Sheet1!A1\",\"values\":[[\"#REF!\"]]}",
     ),
     (
         &[

@@ -10,15 +10,18 @@ use Rattle.grid_range.specs.Band.{HasLine, Within, first_line, end_line}
 use Rattle.grid_range.specs.declared.area.Area.{Area}
 use Rattle.grid_range.specs.declared.band.Band.{Band}
 use Rattle.grid_range.specs.declared.band.Band.TheVariants.{Whole, From, Span}
+use Rattle.cell_value.specs.declared.cell.Value.{Value}
+use Rattle.cell_calc.specs.Marks.{values_of}
 use Rattle.cell_store.specs.Places.{AreFilledPlaces}
 use Rattle.cell_store.specs.Table.{item_at}
 use Rattle.ref_rewrite.specs.declared.cell_content.Content.{Content}
 use Rattle.world_model.specs.Sheet.{PlaceSheet}
 use Rattle.world_model.specs.Sound.{IsSheetSound}
 use Rattle.values_api.specs.declared.shown.Reading.{Reading}
-use Rattle.values_api.specs.Reading.{IsReadOfSheet, AreEnds, lines_read, length_read}
+use Rattle.values_api.specs.Reading.{IsReadOfSheet, AreEnds, lines_read, length_read, value_told}
 use Rattle.values_api.specs.Sheets.{formula_sheets}
-use Rattle.values_api.specs.Shown.{shows_nothing, cell_shown, cell_of, cell_along, height, width, lines_of, line_length}
+use Rattle.values_api.specs.Shown.{shows_nothing, cell_shown, cell_of, cell_along, height, width, lines_of, line_length, value_by}
+use Rattle.values_api.proofs.CellsShown.{none_shows}
 use Rattle.values_api.proofs.Finding.{sound_sheet}
 
 -- ---- bands
@@ -39,11 +42,11 @@ end_small Whole count within = omega arith
 end_small (From start) count within = omega arith
 end_small (Span start end) count within = within.1
 
-has_line_behind : (band : Band) (count line : ℕ) → Within band count → line < end_line band count - first_line band
+pub has_line_behind : (band : Band) (count line : ℕ) → line < end_line band count - first_line band
     → HasLine band (first_line band + line)
-has_line_behind Whole count line within short = tt
-has_line_behind (From start) count line within short = omega arith
-has_line_behind (Span start end) count line within short = (omega arith, omega (arith, short))
+has_line_behind Whole count line short = tt
+has_line_behind (From start) count line short = omega arith
+has_line_behind (Span start end) count line short = (omega arith, omega (arith, short))
 
 -- ---- a read
 
@@ -204,21 +207,27 @@ module _ (reading : Reading) (is : IsReadOfSheet reading) where
     cell_holds : (turned : Bool) (line place : ℕ) → line < lines_of turned area sheet → place < line_length turned area sheet
         → Holds area (cell_at turned line place).0 (cell_at turned line place).1
     cell_holds true line place few short = (
-      has_line_behind area.rows sheet.table.rows place is.within.0 short,
-      has_line_behind area.cols sheet.table.cols line is.within.1 few,
+      has_line_behind area.rows sheet.table.rows place short,
+      has_line_behind area.cols sheet.table.cols line few,
     )
     cell_holds false line place few short = (
-      has_line_behind area.rows sheet.table.rows line is.within.0 few,
-      has_line_behind area.cols sheet.table.cols place is.within.1 short,
+      has_line_behind area.rows sheet.table.rows line few,
+      has_line_behind area.cols sheet.table.cols place short,
     )
 
-    shown_cell : (turned : Bool) (line place : ℕ) → item turned line place ≡ None
-        → shows_nothing (cell_along turned (cell_of (formula_sheets reading.names.book.now.sheets) reading.render area sheet) line place)
+    nothing_shown : (held : Option Content) (told : Value) → held ≡ None
+        → shows_nothing (cell_shown (formula_sheets reading.names.book.now.sheets) reading.render held (value_by held told))
         ≡ true
-    shown_cell true line place none =
-        ap (λ held. shows_nothing (cell_shown (formula_sheets reading.names.book.now.sheets) reading.render held)) none
-    shown_cell false line place none =
-        ap (λ held. shows_nothing (cell_shown (formula_sheets reading.names.book.now.sheets) reading.render held)) none
+    nothing_shown None told none =
+        ap shows_nothing (sym (none_shows (formula_sheets reading.names.book.now.sheets) reading.render))
+    nothing_shown (Some content) told none = let no : ⊥ = cc in absurd no
+
+    shown_cell : (turned : Bool) (line place : ℕ) → item turned line place ≡ None
+        → shows_nothing (cell_along turned (cell_of (formula_sheets reading.names.book.now.sheets) reading.render area sheet
+        (value_told area sheet (values_of reading.table.now))) line place)
+        ≡ true
+    shown_cell true line place none = nothing_shown (item true line place) _ none
+    shown_cell false line place none = nothing_shown (item false line place) _ none
 
     -- an item of the area stands before the end of its line
     none_behind : (ends : List ℕ) → AreEndsSoFar reading places (length places) ends

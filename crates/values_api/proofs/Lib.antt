@@ -5,6 +5,8 @@ pub mod Printable
 pub mod Listed
 pub mod Emptied
 pub mod Ends
+pub mod CellsShown
+pub mod Readable
 pub mod LinesRead
 pub mod GivenCells
 pub mod GivenCount

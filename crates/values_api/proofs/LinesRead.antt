@@ -4,10 +4,11 @@ use Rattle.std.specs.List.{range_with_len}
 use Rattle.std.proofs.lemmas.List.FromFn.{length-map-range_with_len, get_or-map-range_with_len, fill_by_all}
 use Rattle.std.proofs.lemmas.List.{get_or_past}
 use Rattle.cell_value.specs.declared.cell.Cell.{Cell}
+use Rattle.cell_calc.specs.Marks.{values_of}
 use Rattle.world_model.specs.Book.{PlaceBook}
 use Rattle.values_api.specs.Sheets.{formula_sheets}
 use Rattle.values_api.specs.declared.shown.Reading.{Reading}
-use Rattle.values_api.specs.Reading.{IsReadOfSheet, AreEnds, cell_read, lines_read, length_read}
+use Rattle.values_api.specs.Reading.{IsReadOfSheet, AreEnds, cell_read, lines_read, length_read, value_told}
 use Rattle.values_api.specs.Shown.{shows_nothing, has_no_cells, without_empty_end, line_shown, lines_shown, area_shown}
 use Rattle.values_api.proofs.Ending.{cut_short, cut_all}
 use Rattle.values_api.proofs.Ends.{small_height, small_width}
@@ -16,9 +17,10 @@ use Rattle.values_api.proofs.Ends.{small_height, small_width}
 pub read_of : (reading : Reading) (book : PlaceBook) → reading.names.book.now ≡ book
     → lines_shown (cell_read reading) (lines_read reading) (length_read reading)
     ≡ area_shown (formula_sheets book.sheets) reading.area.now reading.columns_first reading.render reading.sheet.now
+    (value_told reading.area.now reading.sheet.now (values_of reading.table.now))
 read_of reading book is =
     ap (λ (b : PlaceBook). area_shown (formula_sheets b.sheets) reading.area.now reading.columns_first reading.render
-    reading.sheet.now) is
+    reading.sheet.now (value_told reading.area.now reading.sheet.now (values_of reading.table.now))) is
 
 few_of : (b : Bool) (one other : ℕ) → one ≤ 1000000 → other ≤ 18278 → cond b other one ≤ 1000000
 few_of true one other few few' = omega (arith, few')

@@ -1,6 +1,8 @@
--- Laws of writes, appends and updates.
-use Rattle.std.specs.Prelude.{◌≡◌, ℕ, Bool, IsSomeAnd, Option, Result, Some}
+-- Laws of reads, writes, appends and updates.
+use Rattle.std.specs.Prelude.{◌≡◌, ℕ, Bool, List, IsSomeAnd, Option, Result, Some}
 use Rattle.cell_value.specs.declared.cell.Block.{Block}
+use Rattle.cell_value.specs.declared.cell.Cell.{Cell}
+use Rattle.cell_value.specs.declared.cell.Render.{Render}
 use Rattle.grid_range.specs.declared.area.Area.{Area}
 use Rattle.world_model.specs.Book.{PlaceBook}
 use Rattle.world_model.specs.Sheet.{PlaceSheet}
@@ -9,8 +11,15 @@ use Rattle.world_model.specs.Updating.{SheetUpdated, Updates}
 use Rattle.dimension_ops.specs.declared.rule.Rule.{Rule}
 use Rattle.values_api.specs.Appends.{IsAppend}
 use Rattle.values_api.specs.Blocks.{IsWrite, contents_of}
+use Rattle.values_api.specs.Shown.{IsAreaShown}
 use Rattle.values_api.specs.Updates.{AreUpdated}
 use Rattle.values_api.specs.declared.writing.Written.{Written}
+
+-- a read shows one thing of an area of a sound spreadsheet
+pub record ReadsOnce : Type 0 where
+  pub once : (book : PlaceBook) (area : Area) (columns_first : Bool) (render : Render) (sheet : PlaceSheet)
+      (lines lines' : List (List Cell)) → IsSound book → IsAreaShown book.sheets area columns_first render sheet lines
+      → IsAreaShown book.sheets area columns_first render sheet lines' → lines ≡ lines'
 
 -- a write makes one thing of the cells of a sound spreadsheet, and has one answer
 pub record WritesOnce : Type 0 where

@@ -1,9 +1,17 @@
-//! Laws of writes, appends and updates: each function does nothing of its own, and its contract is the law.
+//! Laws of reads, writes, appends and updates: each function does nothing of its own, and its contract is the law.
 
-ghost use Rattle.values_api.specs.Laws.{AppendsOnce, UpdatesOnce, WritesOnce};
+ghost use Rattle.values_api.specs.Laws.{AppendsOnce, ReadsOnce, UpdatesOnce, WritesOnce};
 
+use cell_calc::values_once;
 use formula_reader::reads_once;
 use world_model::{changes_apart, changes_in_turn, stands_for_apart, stands_for_some};
+
+/// A read shows one thing of an area.
+pub fn shows_once()
+    ensures { ReadsOnce }
+{
+    values_once();
+}
 
 /// A write makes one thing of the cells of a spreadsheet, and has one answer.
 pub fn writes_once()

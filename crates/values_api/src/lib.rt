@@ -17,9 +17,9 @@ mod writing;
 
 pub use appending::append_values;
 pub use clearing::clear_values;
-pub use laws::{appends_once, updates_once, writes_once};
+pub use laws::{appends_once, shows_once, updates_once, writes_once};
 pub use printed::range_text;
 pub use ranges::resolve;
 pub use sheets::BookCells;
-pub use shown::{Shown, read_values};
+pub use shown::{Shown, calculate_shown, read_values};
 pub use writing::{Written, write_values};

@@ -1,11 +1,15 @@
 ghost use Rattle.std.specs.Prelude.{◌≡◌};
-ghost use Rattle.values_api.specs.Sheets.{formula_sheets};
+ghost use Rattle.values_api.specs.Sheets.{formula_sheets, stored_in};
 
-use cell_value::Text;
+use cell_calc::CellsOf;
+use cell_value::{Items, NoMemory, Text};
 use dimension_ops::Book;
 use formula_reader::SheetNames;
+use grid_range::Area;
+use ref_rewrite::Content;
 
-/// A spreadsheet as its formulas see it: its sheets by title, and their sizes and titles.
+/// A spreadsheet as its formulas see it: its sheets by title, their sizes and titles, and what is stored in their
+/// cells.
 #[derive(Drop)]
 pub struct BookCells<'a> {
     book: &'a Book,
@@ -42,5 +46,37 @@ impl<'a> SheetNames for BookCells<'a> {
             Some(sheet) => Some(sheet.title()),
             None => None,
         }
+    }
+}
+
+impl<'a> CellsOf for BookCells<'a> {
+    ghost contents = { λ cells. stored_in cells.book.now.sheets };
+
+    fn sheets(&self) -> &Items<u32> {
+        self.book.sheets()
+    }
+
+    fn size(&self, sheet: u32) -> Option<(u32, u32)> {
+        match self.book.sheet(sheet) {
+            Some(sheet) => Some((sheet.rows(), sheet.cols())),
+            None => None,
+        }
+    }
+
+    fn content(&self, sheet: u32, row: u32, column: u32) -> Option<&Content> {
+        self.book.content(sheet, row, column)
+    }
+
+    fn places(&self, area: &Area) -> Result<Items<(u32, u32)>, NoMemory> {
+        self.book.places(area)
+    }
+
+    /// None: no request gives a range a name.
+    fn name(&self, _word: &str) -> Option<Area> {
+        None
+    }
+
+    fn stay_sound(&self) {
+        self.book.stays_sound();
     }
 }

@@ -1,17 +1,22 @@
-ghost use Rattle.std.specs.Prelude.{◌≡◌, ◌+◌, ◌<◌, ◌≤◌, IfOk, IfSome, OnOk, length, get_or, max, if◌then◌else◌, ◌==◌};
+ghost use Rattle.std.specs.Prelude.{◌≡◌, ◌+◌, Some, ◌<◌, ◌≤◌, IfOk, IfSome, OnOk, length, get_or, max, if◌then◌else◌, ◌==◌};
+ghost use Rattle.ref_rewrite.specs.declared.cell_content.Content.TheVariants as content;
+ghost use Rattle.formula_reader.specs.Printed.{ArePrintable};
+ghost use Rattle.cell_calc.specs.Calculated.{IsTableOf};
+ghost use Rattle.cell_calc.specs.Marks.{values_of};
 ghost use Rattle.world_model.specs.Sound.{IsContentWithin, IsSound, place_sheet_with};
 ghost use Rattle.values_api.specs.Ranges.{IsThere};
-ghost use Rattle.values_api.specs.Sheets.{formula_sheets};
-ghost use Rattle.values_api.specs.Shown.{number_shown, truth_shown, content_shown, line_shown, lines_shown, height, width, cell_of, area_shown};
-ghost use Rattle.values_api.specs.Reading.{IsReadOfSheet, AreEnds, cell_read, lines_read, length_read};
+ghost use Rattle.values_api.specs.Sheets.{formula_sheets, stored_in};
+ghost use Rattle.values_api.specs.Shown.{IsAreaShown, TellsShown, number_shown, truth_shown, value_shown, value_by, cell_shown, line_shown, lines_shown, height, width, cell_of};
+ghost use Rattle.values_api.specs.Reading.{IsReadOfSheet, AreEnds, cell_read, lines_read, length_read, value_told};
 
 use crate::cut::cut_empty_end;
 use crate::sheets::BookCells;
+use cell_calc::{Table, calculate_more, stored_values};
 use cell_value::{Cell, Duplicate, Items, NoMemory, Render, Text, Value, show};
 use dimension_ops::{Book, Sheet};
 use formula_reader::print_formula;
 use grid_range::Area;
-use ref_rewrite::Content;
+use ref_rewrite::{Content, Formula};
 use std::alloc::Global;
 
 /// What a read shows (Sheets API v4 reference, ValueRange).
@@ -26,7 +31,33 @@ pub struct Shown {
     pub values: Items<Items<Cell>>,
 }
 
-/// What the cells of an area show, by rows or by columns (Sheets API v4 reference, spreadsheets.values.get).
+/// Comes to know the values that a read of the area shows, for [`read_values`]: none where formulas are shown by their
+/// texts. What the table knows isn't calculated again.
+///
+/// # Errors
+///
+/// [`NoMemory`] where memory runs out; the table is to be given up then.
+pub fn calculate_shown(
+    alloc: Global,
+    book: &Book,
+    table: &mut Table,
+    area: &Area,
+    render: Render,
+) -> Result<(), NoMemory>
+    requires { IsTableOf (stored_in book.now.sheets) table.old }
+    ensures table { OnOk result (IsTableOf (stored_in book.now.sheets) table.new) }
+    ensures told { OnOk result (TellsShown render book.now.sheets area.now (values_of table.new)) }
+{
+    match render {
+        Render::Formula => Ok(()),
+        Render::Formatted | Render::Unformatted => {
+            calculate_more(alloc, &BookCells::of(book), table, area)
+        }
+    }
+}
+
+/// What the cells of an area show, by rows or by columns (Sheets API v4 reference, spreadsheets.values.get); the table
+/// tells the values of its formulas, unless these are shown by their texts.
 ///
 /// # Errors
 ///
@@ -34,16 +65,19 @@ pub struct Shown {
 pub fn read_values(
     alloc: Global,
     book: &Book,
+    table: &Table,
     area: &Area,
     columns_first: bool,
     render: Render,
 ) -> Result<Shown, NoMemory>
-    requires { IsThere book.now.sheets area.now }
+    requires there { IsThere book.now.sheets area.now }
+    requires told { TellsShown render book.now.sheets area.now (values_of table.now) }
     ensures area { IfOk result (λ shown. shown.area ≡ area.now) }
     ensures order { IfOk result (λ shown. shown.columns_first ≡ columns_first) }
     ensures values { IfOk result (λ shown. IfSome (place_sheet_with area.now.sheet book.now.sheets)
-        (λ sheet. shown.values ≡ area_shown (formula_sheets book.now.sheets) area.now columns_first render sheet)) }
+        (λ sheet. IsAreaShown book.now.sheets area.now columns_first render sheet shown.values)) }
 {
+    stored_values();
     book.stays_sound();
     let mut values = Items::of(Vec::new(alloc));
     if let Some(sheet) = book.sheet(area.sheet) {
@@ -51,6 +85,7 @@ pub fn read_values(
             alloc,
             names: BookCells::of(book),
             sheet,
+            table,
             area,
             columns_first,
             render,
@@ -70,6 +105,7 @@ struct Reading<'a> {
     alloc: Global,
     names: BookCells<'a>,
     sheet: &'a Sheet,
+    table: &'a Table,
     area: &'a Area,
     columns_first: bool,
     render: Render,
@@ -145,12 +181,17 @@ impl<'a> Reading<'a> {
         requires row { row < height self.now.area.now self.now.sheet.now }
         requires col { col < width self.now.area.now self.now.sheet.now }
         ensures { IfOk result (λ cell. cell
-            ≡ cell_of (formula_sheets self.now.names.book.now.sheets) self.now.render self.now.area.now self.now.sheet.now row col) }
+            ≡ cell_of (formula_sheets self.now.names.book.now.sheets) self.now.render self.now.area.now self.now.sheet.now
+            (value_told self.now.area.now self.now.sheet.now (values_of self.now.table.now)) row col) }
     {
         let top = self.area.rows.first_line();
         let left = self.area.cols.first_line();
-        match self.sheet.content(top + row, left + col) {
-            Some(content) => content_shown(self.alloc, &self.names, self.render, content),
+        let (row, col) = (top + row, left + col);
+        match self.sheet.content(row, col) {
+            Some(content) => {
+                let value = self.table.value(self.area.sheet, row, col);
+                content_shown(self.alloc, &self.names, self.render, content, value)
+            }
             None => Ok(Cell::Text(Text::of(String::new(self.alloc)))),
         }
     }
@@ -171,22 +212,55 @@ fn reach(ends: &mut Vec<u32>, line: u32, place: u32) -> Result<(), NoMemory>
     Ok(())
 }
 
-/// What a content shows.
+/// What a cell shows, by what is stored in it; a formula that has this value.
 fn content_shown(
     alloc: Global,
     names: &BookCells<'_>,
     render: Render,
     content: &Content,
+    value: &Value,
 ) -> Result<Cell, NoMemory>
     requires sound { IsSound names.now.book.now }
     requires within { IsContentWithin names.now.book.now.sheets content.now }
-    ensures { IfOk result (λ cell. cell ≡ content_shown (formula_sheets names.now.book.now.sheets) render content.now) }
+    ensures { IfOk result (λ cell. cell ≡ cell_shown (formula_sheets names.now.book.now.sheets) render (Some content.now)
+        (value_by (Some content.now) value.now)) }
 {
     match content {
         Content::Number(number) => number_shown(alloc, render, *number),
         Content::Text(text) => Ok(Cell::Text(text.duplicate()?)),
         Content::Truth(truth) => truth_shown(alloc, render, *truth),
-        Content::Formula(formula) => Ok(Cell::Text(print_formula(alloc, formula, names)?)),
+        Content::Formula(formula) => formula_shown(alloc, names, render, formula, value),
+    }
+}
+
+/// What a formula shows that has this value.
+fn formula_shown(
+    alloc: Global,
+    names: &BookCells<'_>,
+    render: Render,
+    formula: &Formula,
+    value: &Value,
+) -> Result<Cell, NoMemory>
+    requires { ArePrintable (formula_sheets names.now.book.now.sheets) formula.now.pieces }
+    ensures { IfOk result (λ cell. cell
+        ≡ cell_shown (formula_sheets names.now.book.now.sheets) render (Some (content.Formula formula.now)) value.now) }
+{
+    match render {
+        Render::Formatted => Ok(Cell::Text(show(alloc, value)?)),
+        Render::Unformatted => value_shown(alloc, value),
+        Render::Formula => Ok(Cell::Text(print_formula(alloc, formula, names)?)),
+    }
+}
+
+/// A value as it is listed.
+fn value_shown(alloc: Global, value: &Value) -> Result<Cell, NoMemory>
+    ensures { IfOk result (λ cell. cell ≡ value_shown value.now) }
+{
+    match value {
+        Value::Number(number) => Ok(Cell::Number(*number)),
+        Value::Truth(truth) => Ok(Cell::Truth(*truth)),
+        Value::Text(text) => Ok(Cell::Text(text.duplicate()?)),
+        Value::Blank | Value::Error(_) => Ok(Cell::Text(show(alloc, value)?)),
     }
 }
 

@@ -1,8 +1,12 @@
+ghost use Rattle.values_api.specs.Ranges.{IsThere};
+
 use crate::common::{Written, check, opening, write};
-use cell_value::{Cell, Items, Render};
+use cell_calc::Table;
+use cell_value::{Cell, Items, NoMemory, Render};
 use dimension_ops::Book;
+use grid_range::Area;
 use std::alloc::Global;
-use values_api::{clear_values, read_values, resolve};
+use values_api::{calculate_shown, clear_values, read_values, resolve};
 
 /// What a cell shows.
 #[derive(Clone, Copy, Debug)]
@@ -119,12 +123,28 @@ fn stored(alloc: Global) -> Option<Book> {
 /// Whether the range is read so.
 fn is_read(alloc: Global, book: &Book, read: &Read) -> bool {
     match resolve(alloc, book, read.range) {
-        Ok(found) => match read_values(alloc, book, &found.0, read.columns_first, read.render) {
-            Ok(shown) => are_lines(shown.values.as_slice(), read.lines),
+        Ok(found) => match lines(alloc, book, &found.0, read.columns_first, read.render) {
+            Ok(shown) => are_lines(shown.as_slice(), read.lines),
             Err(_) => false,
         },
         Err(_) => false,
     }
+}
+
+/// What the area shows, line by line.
+pub(crate) fn lines(
+    alloc: Global,
+    book: &Book,
+    area: &Area,
+    columns_first: bool,
+    render: Render,
+) -> Result<Items<Items<Cell>>, NoMemory>
+    requires { IsThere book.now.sheets area.now }
+{
+    let mut table = Table::new(alloc);
+    calculate_shown(alloc, book, &mut table, area, render)?;
+    let shown = read_values(alloc, book, &table, area, columns_first, render)?;
+    Ok(shown.values)
 }
 
 /// Whether the lines show just that.

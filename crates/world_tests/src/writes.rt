@@ -1,10 +1,10 @@
 use crate::common::{check, opening};
-use crate::values::{Shown, are_lines};
+use crate::values::{Shown, are_lines, lines};
 use cell_value::{Block, Input, Items, Render, Text};
 use dimension_ops::{Book, Limit, Rule, RuleOr};
 use grid_range::Area;
 use std::alloc::Global;
-use values_api::{Written, range_text, read_values, resolve, write_values};
+use values_api::{Written, range_text, resolve, write_values};
 
 /// A value that is entered.
 #[derive(Clone, Copy, Debug)]
@@ -255,8 +255,8 @@ fn is_range(alloc: Global, book: &Book, area: &Area, text: &str) -> bool {
 /// Whether `A1:C3` shows that.
 fn is_shown(alloc: Global, book: &Book, shown: &[&[Shown]]) -> bool {
     match resolve(alloc, book, "A1:C3") {
-        Ok(found) => match read_values(alloc, book, &found.0, false, Render::Unformatted) {
-            Ok(read) => are_lines(read.values.as_slice(), shown),
+        Ok(found) => match lines(alloc, book, &found.0, false, Render::Unformatted) {
+            Ok(read) => are_lines(read.as_slice(), shown),
             Err(_) => false,
         },
         Err(_) => false,

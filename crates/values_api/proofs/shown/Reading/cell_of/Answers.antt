@@ -5,13 +5,13 @@ use Rattle.world_model.specs.Sound.{IsContentWithin}
 use Rattle.values_api.proofs.Ends.{own, row_small, col_small}
 use Rattle.values_api.proofs.shown.Reading.cell_of.Goals as goal
 
-pub overflow_add-top : goal.overflow_add-top
-overflow_add-top c =
+pub overflow_add-row : goal.overflow_add-row
+overflow_add-row c =
     let small = row_small c.args.self.now c.requires.reading c.args.row c.requires.row in
     omega (arith, small, c.first_line-top.ensures)
 
-pub overflow_add-left : goal.overflow_add-left
-overflow_add-left c =
+pub overflow_add-col : goal.overflow_add-col
+overflow_add-col c =
     let small = col_small c.args.self.now c.requires.reading c.args.col c.requires.col in
     omega (arith, small, c.first_line-left.ensures)
 
