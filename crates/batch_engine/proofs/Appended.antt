@@ -21,7 +21,7 @@ use Rattle.values_api.specs.declared.table.Rectangle.{Rectangle}
 use Rattle.values_api.specs.declared.writing.Written.{Written}
 use Rattle.sheets_json.specs.declared.answer.Update.{Update as UpdateAnswer}
 use Rattle.batch_engine.specs.Members.{IsDoneTo}
-use Rattle.batch_engine.specs.Values.{Appended, IsAppendOn, IsTextOf, appended_of, update_of}
+use Rattle.batch_engine.specs.Values.{Appended, IsAppendOn, IsTextOf, update_of}
 use Rattle.batch_engine.proofs.Ranged.{some_and}
 
 abbrev Done : Type 0

@@ -10,22 +10,20 @@ use Rattle.dimension_ops.specs.World.{book_with}
 use Rattle.dimension_ops.specs.declared.rule.Rule.{Rule}
 use Rattle.sheets_json.specs.declared.answer.Answer.{Answer}
 use Rattle.dimension_ops.specs.declared.rule.RuleOr.{RuleOr}
-use Rattle.dimension_ops.specs.declared.rule.Rule.TheVariants as rule
 use Rattle.grid_range.specs.declared.axis.Axis.{Axis}
 use Rattle.cell_value.specs.declared.cell.Render.{Render}
-use Rattle.cell_value.specs.declared.sequence.Text.{Text}
 use Rattle.cell_value.specs.declared.entered.Mode.{Mode}
 use Rattle.json_shapes.specs.Reading.{Reading}
 use Rattle.sheets_json.specs.declared.call.Call.{Call}
 use Rattle.sheets_json.specs.declared.call.Call.TheVariants as call
-use Rattle.sheets_json.specs.declared.call.InsertData.{InsertData}
-use Rattle.sheets_json.specs.declared.call.RangeBlock.{RangeBlock}
+use Rattle.sheets_json.specs.declared.call.NewSpreadsheet.{NewSpreadsheet}
 use Rattle.sheets_json.specs.declared.call.ValueRange.{ValueRange}
-use Rattle.json_requests.specs.declared.request.Step.{Step}
 use Rattle.batch_engine.specs.Effects.{Effect, Becomes, IsNext}
 use Rattle.batch_engine.specs.Effects.Effect.{Nothing, Changes}
 use Rattle.sheets_json.specs.declared.place.Place.TheVariants as place
 use Rattle.batch_engine.specs.Calls.{OnBook, IsAlone, IsAnswered, IsApplied, IsChange, IsInstalled, Refusal, alone, as_told, told_as}
+use Rattle.batch_engine.specs.Calls.{AreNext, IsMaking}
+use Rattle.batch_engine.specs.Create.{IsCreateOf}
 use Rattle.batch_engine.specs.Looks.{looked}
 use Rattle.batch_engine.specs.Calls.{IsLookOf, IsClearOf, IsReadOf, IsReadManyOf, IsWriteOf}
 use Rattle.batch_engine.specs.declared.calls.Caller.{Caller}
@@ -236,38 +234,36 @@ module _ (books : List PlaceBook) (book : PlaceBook) (caller : Caller) (called :
       (subst (λ one. IsSomeAnd one (λ (b : PlaceBook). IsReadManyOf ranges dimension render b told Nothing)) (sym found)
       holds)) is none
 
--- ---- a call that isn't done yet
+-- ---- a spreadsheet that is made
 
-pub other_answered : (caller : Caller) (called : Call) (books : List PlaceBook)
-    → ((id : Text) (grids : Option Bool) → called ≡ call.Get id grids → ⊥)
-    → ((id : Text) (requests : List Step) → called ≡ call.Batch id requests → ⊥)
-    → ((id range : Text) (dimension : Option Axis) (render : Option Render) → called ≡ call.Read id range dimension render → ⊥)
-    → ((id range : Text) (mode : Mode) (values : Reading ValueRange) → called ≡ call.Write id range mode values → ⊥)
-    → ((id range : Text) (mode : Mode) (option : Option InsertData) (values : Reading ValueRange)
-    → called ≡ call.Append id range mode option values → ⊥)
-    → ((id range : Text) → called ≡ call.Clear id range → ⊥)
-    → ((id : Text) (ranges : List Text) (dimension : Option Axis) (render : Option Render)
-    → called ≡ call.ReadMany id ranges dimension render → ⊥)
-    → ((id : Text) (mode : Mode) (blocks : List (Reading RangeBlock)) → called ≡ call.WriteMany id mode blocks → ⊥)
-    → ((id : Text) (ranges : List (Reading Text)) → called ≡ call.ClearMany id ranges → ⊥)
-    → IsAnswered caller called books (Err (place.Alone, rule.Unsupported)) Nothing
-other_answered caller (call.Read id range dimension render) books no_look no_batch no_read no_write no_append no_clear no_list no_writes no_clears =
-    absurd (no_read id range dimension render refl)
-other_answered caller (call.Write id range mode values) books no_look no_batch no_read no_write no_append no_clear no_list no_writes no_clears =
-    absurd (no_write id range mode values refl)
-other_answered caller (call.Clear id range) books no_look no_batch no_read no_write no_append no_clear no_list no_writes no_clears =
-    absurd (no_clear id range refl)
-other_answered caller (call.Create spreadsheet) books no_look no_batch no_read no_write no_append no_clear no_list no_writes no_clears =
-    (refl, refl)
-other_answered caller (call.Get id grids) books no_look no_batch no_read no_write no_append no_clear no_list no_writes no_clears =
-    absurd (no_look id grids refl)
-other_answered caller (call.Batch id requests) books no_look no_batch no_read no_write no_append no_clear no_list no_writes no_clears =
-    absurd (no_batch id requests refl)
-other_answered caller (call.Append id range mode option values) books no_look no_batch no_read no_write no_append no_clear no_list no_writes no_clears =
-    absurd (no_append id range mode option values refl)
-other_answered caller (call.ReadMany id ranges dimension render) books no_look no_batch no_read no_write no_append no_clear no_list no_writes no_clears =
-    absurd (no_list id ranges dimension render refl)
-other_answered caller (call.WriteMany id mode blocks) books no_look no_batch no_read no_write no_append no_clear no_list no_writes no_clears =
-    absurd (no_writes id mode blocks refl)
-other_answered caller (call.ClearMany id ranges) books no_look no_batch no_read no_write no_append no_clear no_list no_writes no_clears =
-    absurd (no_clears id ranges refl)
+pub making_judged : (owner : List ℕ) (spreadsheet : Reading NewSpreadsheet) (books : List PlaceBook)
+    (told : Result (Answer × List PlaceBook) RuleOr) (judged : Result (Answer × List PlaceBook) Rule)
+    → IsUnlessNoMemory (IsMaking (IsCreateOf owner spreadsheet books) books) told → told ≡ as_told judged
+    → IsMaking (IsCreateOf owner spreadsheet books) books judged
+making_judged owner spreadsheet books told judged is told_is =
+    judged_so (IsMaking (IsCreateOf owner spreadsheet books) books) judged
+    (subst (IsUnlessNoMemory (IsMaking (IsCreateOf owner spreadsheet books) books)) told_is is)
+
+pub made_applied : (caller : Caller) (called : Call) (books : List PlaceBook) (spreadsheet : Reading NewSpreadsheet)
+    → called ≡ call.Create spreadsheet → (told : Result (Answer × List PlaceBook) Rule)
+    → IsMaking (IsCreateOf caller.user spreadsheet books) books told → (outcome : Outcome)
+    (next : Option (List PlaceBook)) → AreNext (alone told) outcome next → IsApplied caller called books outcome next
+made_applied caller called books spreadsheet called_is (Ok (answered, after)) (effect, is, is_next) outcome next there =
+    record {
+      judged = Ok answered;
+      effect = effect;
+      answered =
+          subst (λ one. IsAnswered caller one books (Ok answered) effect) (sym called_is)
+          (record { judged = Ok answered; answered = is; told_is = refl });
+      told_is = there.0;
+      next_is = subst (IsNext books effect) (sym there.1) is_next;
+    }
+made_applied caller called books spreadsheet called_is (Err broken) is outcome next there = record {
+  judged = Err (place.Alone, broken);
+  effect = Nothing;
+  answered =
+      subst (λ one. IsAnswered caller one books (Err (place.Alone, broken)) Nothing) (sym called_is)
+      (record { judged = Err broken; answered = is; told_is = refl });
+  told_is = there.0;
+  next_is = none_next books next there.1;
+}

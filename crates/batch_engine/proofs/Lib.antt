@@ -1,10 +1,13 @@
+pub mod Found
 pub mod Becoming
 pub mod Judged
 pub mod Ranged
 pub mod Appended
 pub mod Installed
+pub mod Created
 pub mod WritingRows
 pub mod RowsOnce
+pub mod RowsAppended
 pub mod RequestsOnce
 pub mod Once
 pub mod Judging

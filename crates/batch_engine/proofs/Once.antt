@@ -17,7 +17,6 @@ use Rattle.world_model.specs.Updating.{Updates}
 use Rattle.dimension_ops.specs.SheetRequests.{NewSheetsOnce}
 use Rattle.dimension_ops.specs.World.{book_with}
 use Rattle.dimension_ops.specs.declared.rule.Rule.{Rule}
-use Rattle.dimension_ops.specs.declared.rule.Rule.TheVariants as rule
 use Rattle.values_api.specs.Blocks.{contents_of}
 use Rattle.values_api.specs.Laws.{AppendsOnce, ReadsOnce, WritesOnce}
 use Rattle.values_api.specs.Ranges.{FoundArea, Resolves, named, unnamed, part_of}
@@ -30,6 +29,7 @@ use Rattle.sheets_json.specs.declared.call.Call.TheVariants as call
 use Rattle.sheets_json.specs.declared.call.RangeBlock.{RangeBlock}
 use Rattle.sheets_json.specs.declared.call.ValueRange.{ValueRange}
 use Rattle.batch_engine.specs.declared.calls.Caller.{Caller}
+use Rattle.batch_engine.specs.Create.{IsCreateOf}
 use Rattle.batch_engine.specs.Effects.{Effect, cells_updated}
 use Rattle.batch_engine.specs.Effects.Effect.{Nothing}
 use Rattle.batch_engine.specs.Ranges.{IsTarget, agreed}
@@ -45,6 +45,7 @@ use Rattle.sheets_json.specs.declared.answer.ShownRange.{ShownRange}
 use Rattle.sheets_json.specs.declared.place.Place.{Place}
 use Rattle.sheets_json.specs.declared.place.Place.TheVariants as place
 use Rattle.batch_engine.specs.Laws.{IsOnce}
+use Rattle.batch_engine.proofs.Created.{create_once}
 use Rattle.batch_engine.proofs.InTurns.{in_turn_once}
 use Rattle.batch_engine.proofs.RequestsOnce.{requested_once}
 use Rattle.batch_engine.specs.Requests.{IsRequested}
@@ -345,7 +346,8 @@ module _ (one_reading : HasOneReading) (news : NewSheetsOnce) (reads : ReadsOnce
         on_book_once id (IsClearManyOf ranges)
         (λ book sound. are_made_once IsCleared (λ book sound. cleared_once book) ranges place.Ranges
         (λ texts. answer.ClearMany texts book.id) book sound)
-    answered_once caller (call.Create spreadsheet) = said_once (Err (place.Alone, rule.Unsupported)) Nothing
+    answered_once caller (call.Create spreadsheet) =
+        alone_once (IsCreateOf caller.user spreadsheet books) (create_once news caller.user spreadsheet books)
     answered_once caller (call.Get id grids) =
         on_book_once id (IsLookOf grids) (λ book sound. said_once (looked grids book) Nothing)
     answered_once caller (call.Batch id requests) =

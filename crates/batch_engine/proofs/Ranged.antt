@@ -1,13 +1,11 @@
 -- What is done on the cells of a range, or refused, from what each step says.
-use Rattle.std.proofs.Common.{◌≡◌, ℕ, Bool, true, false, cond, refl, sym, ap, subst, ◌∙◌, List, [], ◌∷◌, length}
-use Rattle.std.specs.Prelude.{Option, Some, None, IsSomeAnd, IfSome, Result, Ok, Err, ◌==◌}
-use Rattle.std.specs.List.{AllZip}
+use Rattle.std.proofs.Common.{◌≡◌, ℕ, Bool, refl, sym, ap, subst, ◌∙◌, List, length}
+use Rattle.std.specs.Prelude.{Option, Some, None, IsSomeAnd, IfSome, Result, Ok, Err}
 use Rattle.a1_notation.specs.Canonical.{canonical}
 use Rattle.cell_value.specs.declared.cell.Block.{Block}
 use Rattle.cell_value.specs.declared.cell.Cell.{Cell}
 use Rattle.cell_value.specs.declared.cell.Render.{Render}
 use Rattle.grid_range.specs.Band.{first_line, end_line}
-use Rattle.grid_range.specs.Area.{AreaWithin}
 use Rattle.grid_range.specs.declared.area.Area.{Area}
 use Rattle.grid_range.specs.declared.axis.Axis.{Axis}
 use Rattle.world_model.specs.Book.{PlaceBook}

@@ -22,6 +22,7 @@ use Rattle.batch_engine.specs.AddSheet.{IsAddSheet, IsAdded, any_properties, she
 use Rattle.batch_engine.specs.Requests.{IsDoneAsAsked, IsRequested}
 use Rattle.batch_engine.specs.Rows.{AreRowsWritten, area_or_broken}
 use Rattle.batch_engine.specs.UpdateCells.{IsUpdateCells, area_emptied, area_from}
+use Rattle.batch_engine.proofs.RowsAppended.{append_cells_once}
 use Rattle.batch_engine.proofs.RowsOnce.{on_area_once, rows_once}
 
 -- one thing is told
@@ -61,7 +62,7 @@ module _ (news : NewSheetsOnce) (writes : WritesOnce) (apart : ChangesApart) (tu
   asked_once (request.AddSheet properties) = add_sheet_once news book properties
   asked_once (request.DeleteSheet sheet) = λ told told' is is'. is ∙ sym is'
   asked_once (request.UpdateSheetProperties sheet properties) = λ told told' is is'. is ∙ sym is'
-  asked_once (request.AppendCells sheet rows) = refused_once _
+  asked_once (request.AppendCells sheet rows) = append_cells_once writes apart turns sheet rows book sound
   asked_once (request.InsertDimension range inherit) = λ told told' is is'. is ∙ sym is'
   asked_once (request.DeleteDimension range) = λ told told' is is'. is ∙ sym is'
   asked_once (request.AppendDimension sheet dimension length) = λ told told' is is'. is ∙ sym is'

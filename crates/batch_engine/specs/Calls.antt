@@ -1,6 +1,7 @@
--- What a call is answered, and what it makes of the spreadsheets (Google Sheets API v4 reference,
--- spreadsheets.get, spreadsheets.values.get, batchGet, update, batchUpdate, append, clear and batchClear).
-use Rattle.std.specs.Prelude.{◌≡◌, ℕ, Bool, ◌==◌, ◌&&◌, List, map, flat_map, Option, None, Result, Ok, Err}
+-- What a call is answered, and what it makes of the spreadsheets (Google Sheets API v4 reference, spreadsheets.create,
+-- spreadsheets.get, spreadsheets.batchUpdate, spreadsheets.values.get, batchGet, update, batchUpdate, append, clear and
+-- batchClear).
+use Rattle.std.specs.Prelude.{◌≡◌, ℕ, Bool, ◌==◌, ◌&&◌, List, map, flat_map, Option, Some, None, Result, Ok, Err}
 use Rattle.std.specs.Prelude.{IsSomeAnd, ⊤}
 use Rattle.std.specs.List.{sum_by}
 use Rattle.std.specs.Option.{IsSome}
@@ -13,7 +14,6 @@ use Rattle.world_model.specs.BookChange.{AreChanges, BookChange}
 use Rattle.dimension_ops.specs.ByName.{ReplacesByName}
 use Rattle.dimension_ops.specs.World.{book_with}
 use Rattle.dimension_ops.specs.declared.rule.Rule.{Rule}
-use Rattle.dimension_ops.specs.declared.rule.Rule.TheVariants as rule
 use Rattle.dimension_ops.specs.declared.rule.RuleOr.{RuleOr}
 use Rattle.dimension_ops.specs.declared.rule.RuleOr.TheVariants as refusal
 use Rattle.values_api.specs.declared.writing.Written.{Written}
@@ -29,6 +29,7 @@ use Rattle.sheets_json.specs.declared.place.Place.{Place}
 use Rattle.sheets_json.specs.declared.place.Place.TheVariants as place
 use Rattle.json_requests.specs.declared.request.Step.{Step}
 use Rattle.json_shapes.specs.Reading.{Reading}
+use Rattle.batch_engine.specs.Create.{IsCreateOf}
 use Rattle.batch_engine.specs.Effects.{Effect, IsNext}
 use Rattle.batch_engine.specs.Effects.Effect.{Nothing, Changes}
 use Rattle.batch_engine.specs.Looks.{looked}
@@ -172,9 +173,10 @@ OnBook id books Holds = IsSomeAnd (book_with id books) Holds
 abbrev pub IsLookOf : Option Bool → PlaceBook → Result Answer Refusal → Effect → Type 0
 IsLookOf grids book told effect = (told ≡ looked grids book) × (effect ≡ Nothing)
 
--- the call of its caller is answered so, or breaks that rule there, and makes that of the spreadsheets; no other call is
--- done yet
+-- the call of its caller is answered so, or breaks that rule there, and makes that of the spreadsheets
 abbrev pub IsAnswered : Caller → Call → List PlaceBook → Result Answer Refusal → Effect → Type 0
+IsAnswered caller (call.Create spreadsheet) books told effect =
+    IsAlone (IsCreateOf caller.user spreadsheet books) told effect
 IsAnswered caller (call.Get id grids) books told effect = OnBook id books (λ book. IsLookOf grids book told effect)
 IsAnswered caller (call.Batch id requests) books told effect =
     OnBook id books (λ book. IsBatchOf requests book told effect)
@@ -192,10 +194,10 @@ IsAnswered caller (call.WriteMany id mode blocks) books told effect =
     OnBook id books (λ book. IsWriteManyOf blocks book told effect)
 IsAnswered caller (call.ClearMany id ranges) books told effect =
     OnBook id books (λ book. IsClearManyOf ranges book told effect)
-IsAnswered caller _ books told effect = (told ≡ Err (place.Alone, rule.Unsupported)) × (effect ≡ Nothing)
 
--- the spreadsheet that a call is on is there
+-- the spreadsheet that a call is on is there; one that makes a spreadsheet is on none
 abbrev pub HasItsBook : Call → List PlaceBook → Type 0
+HasItsBook (call.Create spreadsheet) books = ⊤
 HasItsBook (call.Get id grids) books = IsSome (book_with id books)
 HasItsBook (call.Batch id requests) books = IsSome (book_with id books)
 HasItsBook (call.Read id range dimension render) books = IsSome (book_with id books)
@@ -205,7 +207,6 @@ HasItsBook (call.Clear id range) books = IsSome (book_with id books)
 HasItsBook (call.ReadMany id ranges dimension render) books = IsSome (book_with id books)
 HasItsBook (call.WriteMany id mode blocks) books = IsSome (book_with id books)
 HasItsBook (call.ClearMany id ranges) books = IsSome (book_with id books)
-HasItsBook _ books = ⊤
 
 abbrev pub told_as : Result Answer Refusal → Outcome
 told_as (Ok told) = outcome.Answered told
@@ -228,6 +229,18 @@ abbrev pub IsChange : {Broken : Type 0} → (Result Answer Broken → Effect →
 IsChange Answered before (Ok (told, after)) =
     (changes : List BookChange) × Answered (Ok told) (Changes before.id changes) × AreChanges changes before after
 IsChange Answered before (Err broken) = Answered (Err broken) Nothing
+
+-- spreadsheets that a call makes: what is answered, and those after it
+abbrev pub IsMaking : (Result Answer Rule → Effect → Type 0) → List PlaceBook → Result (Answer × List PlaceBook) Rule
+    → Type 0
+IsMaking Answered before (Ok (told, after)) =
+    (effect : Effect) × Answered (Ok told) effect × IsNext before effect (Some after)
+IsMaking Answered before (Err broken) = Answered (Err broken) Nothing
+
+-- they are there after it; where a rule is broken none are
+abbrev pub AreNext : Result (Answer × List PlaceBook) Refusal → Outcome → Option (List PlaceBook) → Type 0
+AreNext (Ok (answered, after)) told next = (told ≡ outcome.Answered answered) × (next ≡ Some after)
+AreNext (Err (at, broken)) told next = (told ≡ outcome.Refused at broken) × (next ≡ None)
 
 -- a changed spreadsheet takes the place of the one that has its id; where a rule is broken nothing does
 abbrev pub IsInstalled : List PlaceBook → Result (Answer × PlaceBook) Refusal → Outcome → Option (List PlaceBook) → Type 0

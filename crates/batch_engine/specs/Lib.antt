@@ -4,7 +4,9 @@ pub mod Members
 pub mod Values
 pub mod Rows
 pub mod UpdateCells
+pub mod AppendCells
 pub mod Looks
+pub mod Create
 pub mod AddSheet
 pub mod DeleteSheet
 pub mod UpdateSheetProperties

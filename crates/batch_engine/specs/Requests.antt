@@ -12,6 +12,7 @@ use Rattle.json_requests.specs.declared.request.Step.{Step}
 use Rattle.json_requests.specs.declared.request.Step.TheVariants as step
 use Rattle.sheets_json.specs.declared.spreadsheet.Reply.{Reply}
 use Rattle.batch_engine.specs.AddSheet.{IsAddSheet}
+use Rattle.batch_engine.specs.AppendCells.{IsAppendCells}
 use Rattle.batch_engine.specs.DeleteSheet.{IsDeleteSheet}
 use Rattle.batch_engine.specs.Dimensions.{dimension_appended, dimension_deleted, dimension_inserted, dimension_moved}
 use Rattle.batch_engine.specs.UpdateCells.{IsUpdateCells}
@@ -21,6 +22,7 @@ use Rattle.batch_engine.specs.Values.{rule_of}
 -- what a request is replied, or which rule it breaks, and what it changes; no other kind is done yet
 abbrev pub IsDoneAsAsked : PlaceBook → Request → Result (Reply × List BookChange) Rule → Type 0
 IsDoneAsAsked book (request.UpdateCells rows area) told = IsUpdateCells rows area book told
+IsDoneAsAsked book (request.AppendCells sheet rows) told = IsAppendCells sheet rows book told
 IsDoneAsAsked book (request.AddSheet properties) told = IsAddSheet properties book told
 IsDoneAsAsked book (request.DeleteSheet sheet) told = IsDeleteSheet sheet book told
 IsDoneAsAsked book (request.UpdateSheetProperties sheet properties) told =

@@ -2,11 +2,12 @@ ghost use Rattle.std.specs.Prelude.{◌≡◌, Some, None, IfOk};
 ghost use Rattle.std.specs.Option.{IsSome};
 ghost use Rattle.dimension_ops.specs.ByName.{ReplacesByName};
 ghost use Rattle.dimension_ops.specs.World.{book_with};
-ghost use Rattle.batch_engine.specs.Calls.{HasItsBook, IsApplied, IsInstalled, alone, told_as, as_told};
+ghost use Rattle.batch_engine.specs.Calls.{HasItsBook, AreNext, IsApplied, IsInstalled, alone, told_as, as_told};
 
 use crate::answers::{clear, read, write};
 use crate::appends::append;
 use crate::batch::batch;
+use crate::create::create;
 use crate::lists::{Refusal, clear_many, read_many, write_many};
 use crate::looks::look;
 use cell_value::{Duplicate, NoMemory, Text};
@@ -40,17 +41,17 @@ pub enum Outcome {
 /// What a call makes of the spreadsheets, and what becomes of it.
 #[derive(Drop)]
 pub struct Applied {
-    /// The spreadsheets after it, where it is one that writes and is answered; the others are shared
-    /// with those before it.
+    /// The spreadsheets after it, where it is one that writes or makes a spreadsheet, and is answered; the others
+    /// are shared with those before it.
     pub next: Option<World>,
     /// What becomes of the call.
     pub outcome: Outcome,
 }
 
-/// Makes a call on the spreadsheets, which stay as they are: what they are after it is told. Looks at
-/// a spreadsheet, batches of requests, appends, and reads, writes and clears of one range and of a list of them
-/// are done (Sheets API v4 reference, spreadsheets.get, spreadsheets.batchUpdate and spreadsheets.values); any
-/// other call is refused as [`Rule::Unsupported`], and so is a request of a kind that isn't done. A batch
+/// Makes a call of its caller on the spreadsheets, which stay as they are: what they are after it is told. New
+/// spreadsheets, looks at one, batches of requests, appends, and reads, writes and clears of one range and of a
+/// list of them are done (Sheets API v4 reference, spreadsheets.create, spreadsheets.get, spreadsheets.batchUpdate
+/// and spreadsheets.values); a request of a kind that isn't done is refused as [`Rule::Unsupported`]. A batch
 /// and a list are done in their order, each member on what those before it leave, and the first member that
 /// breaks a rule refuses the call.
 ///
@@ -141,7 +142,10 @@ pub fn apply(
             let book = book_of(world, id.as_str());
             Ok(unchanged(look(alloc, book, *include_grid_data)?))
         }
-        _ => Ok(unchanged(Err((Place::Alone, Rule::Unsupported)))),
+        Call::Create { spreadsheet } => {
+            let told = judged(create(alloc, world, caller.user.as_str(), spreadsheet))?;
+            Ok(made(alone(told)))
+        }
     }
 }
 
@@ -185,6 +189,19 @@ fn unchanged(told: Result<Answer, Refusal>) -> Applied
             Ok(answer) => Outcome::Answered(answer),
             Err((place, rule)) => Outcome::Refused { place, rule },
         },
+    }
+}
+
+/// A call that makes a spreadsheet, unless it breaks a rule.
+fn made(told: Result<(Answer, World), Refusal>) -> Applied
+    ensures { AreNext told result.outcome result.next }
+{
+    match told {
+        Ok((answer, next)) => Applied {
+            next: Some(next),
+            outcome: Outcome::Answered(answer),
+        },
+        Err(refusal) => unchanged(Err(refusal)),
     }
 }
 

@@ -3,6 +3,7 @@ ghost use Rattle.batch_engine.specs.Members.{IsDoneTo};
 ghost use Rattle.batch_engine.specs.Requests.{IsDoneAsAsked};
 
 mod add_sheet;
+mod append_cells;
 mod areas;
 mod delete_sheet;
 mod dimensions;
@@ -10,6 +11,7 @@ mod update_cells;
 mod update_sheet_properties;
 
 use add_sheet::add_sheet;
+use append_cells::append_cells;
 use delete_sheet::delete_sheet;
 use dimension_ops::{Book, Rule, RuleOr};
 use dimensions::{append_dimension, delete_dimension, insert_dimension, move_dimension};
@@ -35,6 +37,7 @@ pub(crate) fn done(
             sheet_id,
             properties,
         } => update_sheet_properties(book, *sheet_id, properties),
+        Request::AppendCells { sheet_id, rows } => append_cells(alloc, book, user, *sheet_id, rows),
         Request::InsertDimension {
             range,
             inherit_from_before,

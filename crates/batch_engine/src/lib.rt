@@ -6,6 +6,7 @@ mod answers;
 mod appends;
 mod batch;
 mod calls;
+mod create;
 mod kinds;
 mod laws;
 mod lists;

@@ -26,7 +26,7 @@ pub(crate) fn look(
 }
 
 /// The spreadsheet as it is shown.
-fn spreadsheet_of(alloc: Global, book: &Book) -> Result<Spreadsheet, NoMemory>
+pub(crate) fn spreadsheet_of(alloc: Global, book: &Book) -> Result<Spreadsheet, NoMemory>
     ensures { IfOk result (λ shown. shown ≡ spreadsheet_of book.now) }
 {
     Ok(Spreadsheet {

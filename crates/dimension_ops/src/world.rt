@@ -131,7 +131,7 @@ impl World {
     }
 
     /// How many spreadsheets there are.
-    fn count(&self) -> u64
+    pub fn count(&self) -> u64
         ensures count { result ≡ length self.now }
         ensures within { result ≤ most_books }
     {

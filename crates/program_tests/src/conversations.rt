@@ -4,6 +4,7 @@ use crate::batches::{
     SECOND_BATCHES, SEVENTH_BATCHES, SIXTH_BATCHES, THIRD_BATCHES,
 };
 use crate::common::check;
+use crate::creations::{APPENDED_ROWS, CREATED};
 use crate::deletions::DELETED_SHEETS;
 use crate::lines::{COLUMNS, INSERTED_AND_DELETED, LINES, MOVED};
 use crate::rows::{
@@ -302,8 +303,22 @@ fn shows_values_of_formulas(rt: HostRuntime) {
 }
 
 #[test]
+fn creates_spreadsheets(rt: HostRuntime) {
+    for row in &CREATED {
+        check(&rt, &row.3, is_answered(&rt, row));
+    }
+}
+
+#[test]
 fn shows_values_of_others(rt: HostRuntime) {
     for row in &VALUES_OF_OTHERS {
+        check(&rt, &row.3, is_answered(&rt, row));
+    }
+}
+
+#[test]
+fn appends_rows(rt: HostRuntime) {
+    for row in &APPENDED_ROWS {
         check(&rt, &row.3, is_answered(&rt, row));
     }
 }

@@ -15,6 +15,8 @@ mod common;
 #[cfg(test)]
 mod conversations;
 #[cfg(test)]
+mod creations;
+#[cfg(test)]
 mod deletions;
 #[cfg(test)]
 mod lines;

@@ -1,5 +1,5 @@
 -- A call makes something of the spreadsheets exactly where it writes and is answered.
-use Rattle.std.proofs.Common.{◌≡◌, ℕ, Bool, true, false, ◌&&◌, List, Option, Some, None, Result, Ok, Err, refl, sym, ap, subst, ◌∙◌}
+use Rattle.std.proofs.Common.{◌≡◌, ℕ, Bool, true, false, ◌&&◌, List, length, Option, Some, None, Result, Ok, Err, refl, sym, ap, subst, ◌∙◌}
 use Rattle.std.specs.Prelude.{is_ok, is_some, IsSomeAnd}
 use Rattle.world_model.specs.Book.{PlaceBook}
 use Rattle.world_model.specs.BookChange.{BookChange}
@@ -9,11 +9,15 @@ use Rattle.sheets_json.specs.declared.answer.Answer.{Answer}
 use Rattle.sheets_json.specs.declared.answer.Answer.TheVariants as answer
 use Rattle.sheets_json.specs.declared.call.Call.{Call}
 use Rattle.sheets_json.specs.declared.call.Call.TheVariants as call
+use Rattle.sheets_json.specs.declared.call.NewSpreadsheet.{NewSpreadsheet}
+use Rattle.json_shapes.specs.Reading.{Reading}
 use Rattle.sheets_json.specs.declared.place.Place.{Place}
 use Rattle.batch_engine.specs.Calls.{IsAnswered, IsAlone, IsMade, AreMade, OnBook, Refusal, alone, answered_at, answered_by, effect_of, effect_on, told_of}
+use Rattle.batch_engine.specs.Create.{IsCreateOf, makes_book, unless_broken}
 use Rattle.batch_engine.specs.Effects.{Effect, Becomes, IsNext}
-use Rattle.batch_engine.specs.Effects.Effect.{Nothing, Changes}
+use Rattle.batch_engine.specs.Effects.Effect.{Nothing, Changes, Makes}
 use Rattle.batch_engine.specs.Members.{Told}
+use Rattle.batch_engine.specs.Values.{rule_of}
 use Rattle.batch_engine.specs.declared.calls.Caller.{Caller}
 use Rattle.sheet_engine.specs.Answers.{Ends, as_fault, is_accepted, is_writing}
 use Rattle.sheet_engine.specs.declared.fault.Fault.{Fault}
@@ -22,6 +26,7 @@ use Rattle.sheet_engine.specs.declared.fault.Fault.{Fault}
 abbrev makes : Effect → Bool
 makes Nothing = false
 makes (Changes id changes) = true
+makes (Makes bare changes) = true
 
 -- what is told of a call that reads, and of one that writes
 abbrev Reads : Result Answer Refusal → Effect → Type 0
@@ -62,6 +67,24 @@ all_made {M} {A} Is members at answer_of book told effect is = go is.all is.told
     go (Ok all) same made = writes told (Ok (answer_of all)) effect (Changes book.id is.changes) refl same made
     go (Err (number, broken)) same made = writes told (Err (at number, broken)) effect Nothing refl same made
 
+-- a spreadsheet is made
+created : (owner : List ℕ) (asked : Reading NewSpreadsheet) (books : List PlaceBook) (told : Result Answer Refusal)
+    (effect : Effect) → IsAlone (IsCreateOf owner asked books) told effect → Writes told effect
+created owner (Ok asked) books told effect is = go is.judged refl
+  where
+    made : Effect
+    made = makes_book owner asked (length books) is.answered.placed
+
+    go : (judged : Result Answer Rule) → is.judged ≡ judged → Writes told effect
+    go (Ok shown) same =
+        writes told (Ok shown) effect made refl (is.told_is ∙ ap alone same)
+        (is.answered.effect_is ∙ ap (λ one. unless_broken one made) same)
+    go (Err broken) same =
+        writes told (alone (Err broken)) effect Nothing refl (is.told_is ∙ ap alone same)
+        (is.answered.effect_is ∙ ap (λ one. unless_broken one made) same)
+created owner (Err shape) books told effect is =
+    writes told (alone (Err (rule_of shape))) effect Nothing refl (is.told_is ∙ ap alone is.answered.0) is.answered.1
+
 -- what holds of the spreadsheet that is found
 on_book : {X : Type 0} (found : Option PlaceBook) (Holds : PlaceBook → Type 0) → IsSomeAnd found Holds
     → ((book : PlaceBook) → Holds book → X) → X
@@ -70,7 +93,7 @@ on_book (Some book) Holds is each = each book is
 
 pub call_makes : (caller : Caller) (called : Call) (books : List PlaceBook) (told : Result Answer Refusal) (effect : Effect)
     → IsAnswered caller called books told effect → makes effect ≡ (is_ok told && is_writing called)
-call_makes caller (call.Create spreadsheet) books told effect is = writes told (Err _) effect Nothing refl is.0 is.1
+call_makes caller (call.Create spreadsheet) books told effect is = created caller.user spreadsheet books told effect is
 call_makes caller (call.Get id grids) books told effect is =
     on_book (book_with id books) _ is (λ book look. reads told effect look.1)
 call_makes caller (call.Batch id requests) books told effect is =
@@ -98,6 +121,8 @@ next_made books Nothing None is = refl
 next_made books Nothing (Some after) is = absurd is
 next_made books (Changes id changes) None is = absurd is
 next_made books (Changes id changes) (Some after) is = refl
+next_made books (Makes bare changes) None is = absurd is
+next_made books (Makes bare changes) (Some after) is = refl
 
 accepted_as : (caller : Caller) (called : Call) (told : Result Answer Refusal)
     → is_accepted (Ok (caller, called)) (as_fault told) ≡ (is_ok told && is_writing called)
@@ -118,3 +143,4 @@ pub becomes_next : (books after : List PlaceBook) (effect : Effect) → IsNext b
     → Becomes effect books after
 becomes_next books after Nothing is = absurd is
 becomes_next books after (Changes id changes) is = is
+becomes_next books after (Makes bare changes) is = is

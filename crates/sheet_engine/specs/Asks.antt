@@ -22,9 +22,10 @@ use Rattle.sheet_engine.specs.declared.fault.Fault.TheVariants as fault
 
 -- ---- what is served
 
--- looks at a spreadsheet, batches of requests, appends, and reads, writes and clears of one range and of a list of them
--- are served
+-- new spreadsheets, looks at one, batches of requests, appends, and reads, writes and clears of one range and of a list of
+-- them are served
 abbrev pub is_served : Verb → Bool
+is_served verb.Create = true
 is_served verb.Get = true
 is_served verb.Batch = true
 is_served verb.Read = true

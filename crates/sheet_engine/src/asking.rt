@@ -123,7 +123,8 @@ fn is_served(verb: Verb) -> bool
 {
     matches!(
         verb,
-        Verb::Get
+        Verb::Create
+            | Verb::Get
             | Verb::Batch
             | Verb::Read
             | Verb::ReadMany

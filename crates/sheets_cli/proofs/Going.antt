@@ -14,6 +14,8 @@ gone_on books None Effect.Nothing is = record { names = λ world stands. stands 
 gone_on books (Some after) Effect.Nothing is = absurd is
 gone_on books None (Effect.Changes id changes) is = absurd is
 gone_on books (Some after) (Effect.Changes id changes) is = is
+gone_on books None (Effect.Makes bare changes) is = absurd is
+gone_on books (Some after) (Effect.Makes bare changes) is = is
 
 pub told_as_fault : (judged : Result Answer Refusal) → told_by (told_as judged) ≡ as_fault judged
 told_as_fault (Ok answer) = refl

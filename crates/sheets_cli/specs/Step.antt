@@ -1,7 +1,7 @@
 -- What one request is answered, and what it makes of the spreadsheets: the first fault of a request that is no user's
 -- or no call, and else what its call is answered (Google Sheets API v4 reference; Google's API errors; RFC 6750 for
 -- tokens).
-use Rattle.std.specs.Prelude.{◌≡◌, ◌≢◌, ℕ, Bool, true, false, ◌++◌, not, List, Result, Ok, Err, codes}
+use Rattle.std.specs.Prelude.{◌≡◌, ◌≢◌, ℕ, Bool, true, false, ◌++◌, ◌&&◌, not, List, Result, Ok, Err, codes}
 use Rattle.std.specs.Prelude.{if◌then◌else◌, Option, None, MatchOption}
 use Rattle.std.specs.Option.{is_none, option_and_then}
 use Rattle.serde_json.specs.Written.{compact_text}
@@ -37,9 +37,10 @@ use Rattle.sheets_cli.specs.declared.fault.Fault.TheVariants as fault
 
 -- ---- what is served
 
--- looks at a spreadsheet, batches of requests, appends, and reads, writes and clears of one range and of a list of them
--- are served
+-- new spreadsheets, looks at one, batches of requests, appends, and reads, writes and clears of one range and of a list of
+-- them are served
 abbrev pub is_served : Verb → Bool
+is_served verb.Create = true
 is_served verb.Get = true
 is_served verb.Batch = true
 is_served verb.Read = true
@@ -50,6 +51,15 @@ is_served verb.WriteMany = true
 is_served verb.Clear = true
 is_served verb.ClearMany = true
 is_served _ = false
+
+-- all name a spreadsheet but the call that makes one
+abbrev pub names_book : Verb → Bool
+names_book verb.Create = false
+names_book _ = true
+
+-- the spreadsheet that the route names isn't there
+abbrev pub lacks_book : Route → List PlaceBook → Bool
+lacks_book route books = names_book route.verb && is_none (book_with route.book books)
 
 -- ---- who asks
 
@@ -82,7 +92,7 @@ said_by (Err uncalled.NoMemory) = Err fault.BadBody
 abbrev pub asked_on : List PlaceBook → Wire → Route → Result Call Fault
 asked_on books request route =
     if not (is_served route.verb) then Err fault.NoRoute
-    else if is_none (book_with route.book books) then Err fault.NoBook
+    else if lacks_book route books then Err fault.NoBook
     else if request.coded then Err fault.BadBody
     else said_by (call_of route request.body)
 

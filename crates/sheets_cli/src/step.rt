@@ -1,7 +1,7 @@
 ghost use Rattle.std.specs.Prelude.{◌≡◌, IfOk};
 ghost use Rattle.std.specs.Option.{option_copied};
 ghost use Rattle.batch_engine.specs.Calls.{HasItsBook};
-ghost use Rattle.sheets_cli.specs.Step.{user_asking, caller_of, is_served, asked_on, AsksFor, IsAskedBy, IsAsked};
+ghost use Rattle.sheets_cli.specs.Step.{user_asking, caller_of, is_served, lacks_book, names_book, asked_on, AsksFor, IsAskedBy, IsAsked};
 ghost use Rattle.sheets_cli.specs.Step.{Makes, Performs, told_by};
 
 use crate::fault::Fault;
@@ -109,7 +109,7 @@ fn asked_on(
     if !is_served(route.verb) {
         return Ok(Err(Fault::NoRoute));
     }
-    if world.find(route.book.as_str()).is_none() {
+    if lacks_book(world, route) {
         return Ok(Err(Fault::NoBook));
     }
     if request.coded {
@@ -140,7 +140,8 @@ fn is_served(verb: Verb) -> bool
 {
     matches!(
         verb,
-        Verb::Get
+        Verb::Create
+            | Verb::Get
             | Verb::Batch
             | Verb::Read
             | Verb::ReadMany
@@ -150,6 +151,20 @@ fn is_served(verb: Verb) -> bool
             | Verb::Clear
             | Verb::ClearMany
     )
+}
+
+/// Whether the spreadsheet that the route names isn't there.
+fn lacks_book(world: &World, route: &Route) -> bool
+    ensures { result ≡ lacks_book route.now world.now }
+{
+    names_book(route.verb) && world.find(route.book.as_str()).is_none()
+}
+
+/// Whether the call is on a spreadsheet that its route names.
+fn names_book(verb: Verb) -> bool
+    ensures { result ≡ names_book verb }
+{
+    verb != Verb::Create
 }
 
 /// Makes a call on the spreadsheets, which stay as they are.

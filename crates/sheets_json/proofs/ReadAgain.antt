@@ -15,7 +15,7 @@ use Rattle.json_requests.specs.Areas.{grid_range}
 use Rattle.json_requests.specs.NamedRanges.{is_range_id, named_range_id, new_range_of}
 use Rattle.sheets_json.specs.Written.{text_data}
 use Rattle.sheets_json.specs.Spreadsheets.{area_data}
-use Rattle.sheets_json.specs.Laws.{HasIndices, IsIndexed, AreasAreReadAgain, NamedRangesAreReadAgain}
+use Rattle.sheets_json.specs.Laws.{HasIndices, AreasAreReadAgain, NamedRangesAreReadAgain}
 
 is_index : (n : ℕ) → n ≤ greatest_index → nat_le n greatest_index ≡ true
 is_index n small = le-leb n greatest_index small

@@ -1,5 +1,5 @@
 -- What is written is read again as the same value.
-use Rattle.std.specs.Prelude.{◌≡◌, ℕ, ◌≤◌, List, Some, Ok, ⊤, IsTrue}
+use Rattle.std.specs.Prelude.{◌≡◌, ◌≤◌, Some, Ok, ⊤, IsTrue}
 use Rattle.grid_range.specs.declared.band.Band.{Band}
 use Rattle.grid_range.specs.declared.band.Band.TheVariants.{Whole, From, Span}
 use Rattle.grid_range.specs.declared.area.Area.{Area}

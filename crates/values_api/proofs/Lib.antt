@@ -1,4 +1,5 @@
 pub mod Bands
+pub mod FilledRows
 pub mod Finding
 pub mod Ending
 pub mod Printable

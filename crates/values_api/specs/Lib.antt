@@ -7,5 +7,6 @@ pub mod Blocks
 pub mod Given
 pub mod Laws
 pub mod Tables
+pub mod Rows
 pub mod Appends
 pub mod Appending

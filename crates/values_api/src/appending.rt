@@ -208,6 +208,13 @@ fn add_on(book: &mut Book, sheet: u32, axis: Axis, at: u32, count: usize) -> Res
     }
 }
 
+/// How many rows values need, whatever stands in them.
+pub fn rows_needed(block: &Block) -> usize
+    ensures { result ≡ rows_needed block.now }
+{
+    needed(block).0
+}
+
 /// How many rows and columns the values need.
 fn needed(block: &Block) -> (usize, usize)
     ensures { result ≡ (rows_needed block.now, cols_needed block.now) }

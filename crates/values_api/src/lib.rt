@@ -1,4 +1,4 @@
-//! Values of a spreadsheet's cells by ranges: what a range text names, reads, writes and clears, and what
+//! Values of a spreadsheet's cells by ranges: what a range text names, reads, writes, appends and clears, and what
 //! formulas see of the sheets (Google Sheets API v4 reference, spreadsheets.values).
 #![tactic(auto)]
 
@@ -6,6 +6,7 @@ mod appending;
 mod clearing;
 mod cut;
 mod entry;
+mod filled;
 mod given;
 mod laws;
 mod printed;
@@ -15,8 +16,9 @@ mod shown;
 mod table;
 mod writing;
 
-pub use appending::append_values;
+pub use appending::{append_values, rows_needed};
 pub use clearing::clear_values;
+pub use filled::row_behind;
 pub use laws::{appends_once, shows_once, updates_once, writes_once};
 pub use printed::range_text;
 pub use ranges::resolve;

@@ -1,11 +1,9 @@
-use Rattle.std.proofs.Common.{Err, ap, sym, subst, ◌∙◌}
+use Rattle.std.proofs.Common.{ap, sym, subst, ◌∙◌}
 use Rattle.std.specs.Prelude.{IfOk}
 use Rattle.std.specs.Option.{IsSome}
 use Rattle.dimension_ops.specs.World.{book_with}
-use Rattle.dimension_ops.specs.declared.rule.Rule.TheVariants as rule
-use Rattle.sheets_json.specs.declared.place.Place.TheVariants as place
-use Rattle.batch_engine.specs.Calls.{IsAnswered, IsAppendOf, IsApplied, IsBatchOf, IsClearManyOf, IsInstalled, IsWriteManyOf, told_as}
-use Rattle.batch_engine.proofs.Installed.{applied_unchanged, if_ok, other_answered, read_applied, read_judged}
+use Rattle.batch_engine.specs.Calls.{AreNext, IsAnswered, IsAppendOf, IsApplied, IsBatchOf, IsClearManyOf, IsInstalled, IsWriteManyOf, told_as}
+use Rattle.batch_engine.proofs.Installed.{if_ok, made_applied, making_judged, read_applied, read_judged}
 use Rattle.batch_engine.proofs.Installed.{applied_change, change_there, look_applied, write_there, write_applied, clear_there, clear_applied, lone_applied, lone_there}
 use Rattle.batch_engine.proofs.calls.apply.Goals as goal
 
@@ -131,10 +129,11 @@ returns-in_ok-look-in-Get c =
     (rw c.as_str-in-Get.ensures at c.book_of-book-in-Get.ensures)
     c.in_ok-look-in-Get.field-0 c.in_ok-look-in-Get.ensures c.unchanged-in-Get.ensures.outcome
 
-pub returns-in_default : goal.returns-in_default
-returns-in_default c =
-    applied_unchanged c.args.caller.now c.args.call.now c.args.world.now (Err (place.Alone, rule.Unsupported))
-    c.unchanged-in_default.result.outcome c.unchanged-in_default.result.next
-    (other_answered c.args.caller.now c.args.call.now c.args.world.now c.in_default.not-Get c.in_default.not-Batch c.in_default.not-Read c.in_default.not-Write c.in_default.not-Append c.in_default.not-Clear
-    c.in_default.not-ReadMany c.in_default.not-WriteMany c.in_default.not-ClearMany)
-    c.unchanged-in_default.ensures.outcome c.unchanged-in_default.ensures.next
+pub returns-in_ok-told-in-Create : goal.returns-in_ok-told-in-Create
+returns-in_ok-told-in-Create c =
+    made_applied c.args.caller.now c.args.call.now c.args.world.now c.in-Create.spreadsheet c.in-Create.is
+    c.in_ok-told-in-Create.told
+    (making_judged c.args.caller.now.user c.in-Create.spreadsheet c.args.world.now c.create.result
+    c.in_ok-told-in-Create.told (rw c.as_str-in-Create.ensures at c.create.ensures) c.in_ok-told-in-Create.ensures)
+    c.made.result.outcome c.made.result.next
+    (subst (λ told. AreNext told c.made.result.outcome c.made.result.next) c.alone-in-Create.ensures c.made.ensures)

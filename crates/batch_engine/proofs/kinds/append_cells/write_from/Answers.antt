@@ -1,0 +1,38 @@
+use Rattle.std.proofs.Common.{true, sym, subst}
+use Rattle.std.proofs.lemmas.Result.{err_from_is_err_and}
+use Rattle.std.specs.Prelude.{Err, IsSomeAnd, Ok}
+use Rattle.grid_range.specs.declared.area.Area.{Area}
+use Rattle.world_model.specs.Sound.{place_sheet_with}
+use Rattle.dimension_ops.specs.Rules.{IsUnlessNoMemory}
+use Rattle.values_api.specs.Blocks.{IsWrite}
+use Rattle.values_api.specs.Ranges.{IsThere}
+use Rattle.batch_engine.proofs.RowsAppended.{found_refused, found_there, found_told}
+use Rattle.batch_engine.proofs.kinds.append_cells.write_from.Goals as goal
+
+pub write_values-requires : goal.write_values-requires
+write_values-requires c =
+    subst (λ (area : Area). IsThere c.add_rows.new.book.sheets area) (sym c.from_row-area.ensures)
+    (found_there c.args.sheet c.args.row c.args.rows.now c.args.book.now c.rows_missing-missing.result c.requires.there
+    c.rows_missing-missing.ensures c.add_rows.new.book c.in_ok-add_rows.ensures c.stays_sound.ensures c.requires.some)
+
+pub returns-in_err-write_values : goal.returns-in_err-write_values
+returns-in_err-write_values c =
+    let p = err_from_is_err_and c.from_residual-in_err-write_values.result c.from_residual-in_err-write_values.ensures.1 in
+    rw (p.1, p.2)
+    (found_refused c.args.sheet c.args.row c.args.rows.now c.args.book.now c.rows_missing-missing.result c.requires.there
+    c.rows_missing-missing.ensures c.add_rows.new.book c.in_ok-add_rows.ensures c.write_values.new.book
+    c.in_err-write_values.field-0.0
+    (subst (λ (area : Area). IsSomeAnd (place_sheet_with area.sheet c.add_rows.new.book.sheets)
+    (λ own. IsUnlessNoMemory (IsWrite true area c.args.rows.now own c.add_rows.new.book c.write_values.new.book)
+    (Err c.in_err-write_values.field-0.0)))
+    c.from_row-area.ensures c.in_err-write_values.ensures.written))
+
+pub returns : goal.returns
+returns c =
+    found_told c.args.sheet c.args.row c.args.rows.now c.args.book.now c.rows_missing-missing.result c.requires.there
+    c.rows_missing-missing.ensures c.add_rows.new.book c.in_ok-add_rows.ensures c.changes_in_turn.ensures
+    c.updates_are_changes.ensures c.write_values.new.book c.in_ok-write_values.field-0
+    (subst (λ (area : Area). IsSomeAnd (place_sheet_with area.sheet c.add_rows.new.book.sheets)
+    (λ own. IsUnlessNoMemory (IsWrite true area c.args.rows.now own c.add_rows.new.book c.write_values.new.book)
+    (Ok c.in_ok-write_values.field-0)))
+    c.from_row-area.ensures c.in_ok-write_values.ensures.written)
