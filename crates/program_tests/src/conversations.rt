@@ -14,7 +14,8 @@ use crate::rows::{
 use crate::sheets::{ADDED_SHEETS, PROPERTIES, REFUSED_PROPERTIES, REFUSED_SHEETS};
 use crate::values::{VALUES, VALUES_OF_OTHERS};
 use cell_value::{Bytes, Items};
-use sheets_cli::{cut_off_laws, reply_laws, sheets_main};
+use conversation::cut_off_laws;
+use sheets_cli::{reply_laws, sheets_main};
 use sheets_http::{MemorySink, MemorySource};
 use std::alloc::Global;
 

@@ -1,7 +1,5 @@
-pub mod ConversationLemmas
-pub mod ExchangeLemmas
+pub mod Statuses
 pub mod SendLemmas
-pub mod Sides
 pub mod Words
 pub mod Naming
 pub mod Going

@@ -1,13 +1,14 @@
 -- Sending one list of bytes after another, and lines that may be cut.
 use Rattle.std.proofs.Common.{◌≡◌, ℕ, ◌+◌, ◌≤◌, List, [], ◌++◌, length, min, take, drop, Option, None, Some}
-use Rattle.std.proofs.Common.{Result, Ok, Err, IfSome, inl, inr, refl, sym, ◌∙◌, ap, append_assoc, arith}
+use Rattle.std.proofs.Common.{Result, Ok, Err, IfSome, inl, inr, refl, sym, ◌∙◌, ap, arith}
 use Rattle.std.proofs.lemmas.List.{append-nil, take-append-drop, take-append-le, take_min}
 use Rattle.std.proofs.Math.Seq.{take-append-add}
 use Rattle.std.specs.Option.{option_map}
 use Rattle.sheets_http.specs.declared.outside.SinkFault.{SinkFault}
-use Rattle.sheets_cli.specs.Exchanges.{Sends}
+use Rattle.conversation.specs.Exchanges.{Sends}
 use Rattle.sheets_http.specs.declared.outside.SinkFault.TheVariants as fault
 use Rattle.cell_value.specs.FaultCount.{Rose}
+use Rattle.conversation.specs.Written.{nothing_more, append_twice}
 use Rattle.sheets_cli.specs.Program.{IsPrefix, Says}
 
 -- the first bytes of a line that were sent
@@ -32,11 +33,6 @@ says_what_is_sent before after faults faults' shortages shortages' line (Err fau
 says_what_is_sent before after faults faults' shortages shortages' line (Err fault.NoMemory) sends cause short =
     record { first = first_sent before after line (Err fault.NoMemory) sends; whole = inl (inr (short refl)) }
 
--- nothing more was written
-pub nothing_more : (before : Option (List ℕ)) → before ≡ option_map (λ said. said ++ []) before
-nothing_more None = refl
-nothing_more (Some said) = ap Some (sym (append-nil said))
-
 nothing_first : (before : Option (List ℕ))
     → IfSome before (λ said. (first : List ℕ) × IsPrefix first [] × (before ≡ Some (said ++ first)))
 nothing_first None = tt
@@ -51,13 +47,6 @@ says_nothing before faults shortages = record { first = nothing_first before; wh
 pub Rose-later : (count count' count'' : ℕ) → count ≤ count' → Rose count' count'' → Rose count count''
 Rose-later count count' count'' later (inl more) = inl (omega arith)
 Rose-later count count' count'' later (inr last) = inr last
-
--- appending twice is appending both
-pub append_twice : (before : Option (List ℕ)) (a b : List ℕ)
-    → option_map (λ bytes. bytes ++ b) (option_map (λ bytes. bytes ++ a) before) ≡ option_map
-    (λ bytes. bytes ++ (a ++ b)) before
-append_twice None a b = refl
-append_twice (Some bytes) a b = ap Some (append_assoc bytes a b)
 
 -- one list is sent, and then another
 pub Sends-then : (before middle after : Option (List ℕ)) (a b : List ℕ) (done : Unit {0})

@@ -3,17 +3,17 @@ use Rattle.std.specs.Prelude.{◌≡◌, ℕ, List, [], ◌∷◌, ◌++◌, ◌
 use Rattle.std.specs.Option.{option_map}
 use Rattle.std.specs.Fmt.{decimal}
 use Rattle.std.specs.declared.alloc.Global.{Global}
-use Rattle.sheets_cli.specs.declared.ended.Ended.{Ended}
-use Rattle.sheets_cli.specs.declared.ended.Ended.TheVariants.{End, Asked, Closed, Truncated, LongTalk, ReadFault}
-use Rattle.sheets_cli.specs.declared.ended.Ended.TheVariants.{WriteFault, NoMemory}
+use Rattle.conversation.specs.declared.ended.Ended.{Ended}
+use Rattle.conversation.specs.declared.ended.Ended.TheVariants.{End, Asked, Closed, Truncated, LongTalk, ReadFault}
+use Rattle.conversation.specs.declared.ended.Ended.TheVariants.{WriteFault, NoMemory}
 use Rattle.sheets_http.specs.Framing.{End as TalkEnd, ended, asked, closed, truncated, long_talk}
 use Rattle.cell_value.specs.FaultCount.{Rose}
 use Rattle.sheets_cli.specs.declared.program.TheConstants.{MOST}
 use Rattle.world_model.specs.World.{NameWorld}
 use Rattle.dimension_ops.specs.World.{opening_world}
-use Rattle.sheets_cli.specs.Reply.{IsReply}
+use Rattle.sheets_cli.specs.Reply.{IsReply, IsResponse}
 use Rattle.sheets_cli.specs.Step.{anyone}
-use Rattle.sheets_cli.specs.Conversation.{at_moment, IsConversation, EndsAs}
+use Rattle.conversation.specs.Conversation.{at_moment, IsConversation, EndsAs}
 
 -- the words are the command `run`
 abbrev pub IsRun : List (String Global) → Type 0
@@ -71,5 +71,5 @@ pub record Runs (left written written_after : Option (List ℕ)) (shortages shor
   pub status_is : status ≡ status_of end
   pub ends : IfSome left (λ bytes. EndsAs MOST bytes end)
   pub world : NameWorld
-  pub served : IsConversation (IsReply anyone) MOST left (at_moment opening_world written shortages)
+  pub served : IsConversation (IsResponse (IsReply anyone)) MOST left (at_moment opening_world written shortages)
       (at_moment world written_after shortages_after) end

@@ -1,11 +1,9 @@
 ghost use Rattle.std.specs.Prelude.{◌≡◌};
 ghost use Rattle.sheets_http.specs.Responses.{IsServedStatus};
 ghost use Rattle.sheets_json.specs.Refusals.{IsRefusal};
-ghost use Rattle.sheets_cli.specs.Reply.{status_of_head, message_of_head};
 ghost use Rattle.sheets_cli.specs.Step.{status_of_rule, status_of_fault};
 
 use dimension_ops::Rule;
-use sheets_http::HeadFault;
 use sheets_json::Place;
 use std::error::Error;
 use std::fmt;
@@ -42,31 +40,6 @@ impl Fault {
             Fault::BadQuery | Fault::BadBody | Fault::EmptyBatch => 400,
             Fault::Broken(_, rule) => status_of_rule(rule),
         }
-    }
-}
-
-/// The status of the refusal of a head (RFC 9110, sections 15.5.1 and 15.5.14; RFC 6585, section 5).
-pub(crate) fn head_status(refused: HeadFault) -> u16
-    ensures status { result ≡ status_of_head refused }
-    ensures served { IsServedStatus result }
-    ensures refusal { IsRefusal result }
-{
-    match refused {
-        HeadFault::HeadLong => 431,
-        HeadFault::BadHead | HeadFault::NoLength => 400,
-        HeadFault::BodyLong => 413,
-    }
-}
-
-/// The message of the refusal of a head.
-pub(crate) fn head_message(refused: HeadFault) -> &'static str
-    ensures { result.now ≡ message_of_head refused }
-{
-    match refused {
-        HeadFault::HeadLong => "HeadLong",
-        HeadFault::BadHead => "BadHead",
-        HeadFault::NoLength => "NoLength",
-        HeadFault::BodyLong => "BodyLong",
     }
 }
 

@@ -1,8 +1,7 @@
 //! The commands of the program.
 #![tactic(auto)]
 
-mod conversation;
-mod ended;
+mod answering;
 mod fault;
 mod laws;
 mod program;
@@ -11,9 +10,7 @@ mod report;
 mod standard;
 mod step;
 
-pub use conversation::converse;
-pub use ended::Ended;
 pub use fault::Fault;
-pub use laws::{cut_off_laws, reply_laws};
+pub use laws::reply_laws;
 pub use program::{MOST, USAGE, sheets_main};
 pub use standard::{Input, Output};

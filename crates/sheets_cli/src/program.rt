@@ -4,18 +4,19 @@ ghost use Rattle.sheets_http.specs.Framing.{End, truncated, long_talk, Talk};
 ghost use Rattle.cell_value.specs.FaultCount.{Rose};
 ghost use Rattle.world_model.specs.World.{NameWorld, WorldStandsFor};
 ghost use Rattle.dimension_ops.specs.World.{opening_world};
-ghost use Rattle.sheets_cli.specs.Reply.{IsReply};
-ghost use Rattle.sheets_cli.specs.Conversation.{at_moment, Counts, HasEnd, IsConversation, EndsAs};
+ghost use Rattle.sheets_cli.specs.Reply.{IsReply, IsResponse};
+ghost use Rattle.conversation.specs.Conversation.{at_moment, Counts, HasEnd, IsConversation, EndsAs};
 ghost use Rattle.sheets_cli.specs.Step.{anyone};
 ghost use Rattle.sheets_cli.specs.Program.{IsRun, status_of, status_at, line_of, Runs, Says};
 
-use crate::conversation::converse;
-use crate::ended::Ended;
+use crate::answering::Answering;
 use crate::report::{report, say};
 use cell_value::NoMemory;
+use conversation::{Ended, converse};
 use dimension_ops::{World, opening_stands};
-use sheets_http::{Link, Sink, Source, Users, conversation_laws};
+use sheets_http::{Duplex, Link, Sink, Source, Users, conversation_laws};
 use std::alloc::Global;
+use std::sync::Wait;
 
 /// The most bytes of one conversation, 2^40.
 pub const MOST: u64 = 1_099_511_627_776;
@@ -28,7 +29,7 @@ pub const USAGE: u8 = 2;
 ///
 /// The only command is `run`: it serves one conversation over input and output, on the one spreadsheet
 /// that there is at first. A request comes from the user whom its token names.
-pub fn sheets_main<R: AllocGlobal, I: Source, O: Sink>(
+pub fn sheets_main<R: AllocGlobal + Wait, I: Source, O: Sink>(
     rt: &R,
     words: &[String],
     input: &mut I,
@@ -101,7 +102,7 @@ fn is_word_run(word: &String) -> bool
 }
 
 /// Serves one conversation over input and output, and says how it failed, if it did.
-fn run<R: AllocGlobal, I: Source, O: Sink>(
+fn run<R: AllocGlobal + Wait, I: Source, O: Sink>(
     rt: &R,
     input: &mut I,
     output: &mut O,
@@ -121,14 +122,18 @@ fn run<R: AllocGlobal, I: Source, O: Sink>(
     ensures faults { Counts (O.sink_faults faults.old) (O.sink_faults faults.new) (O.sink_steady faults.old)
         (O.sink_steady faults.new) }
 {
-    let ended = converse_anew(rt.alloc(), input, output);
+    let ended = converse_anew(rt, input, output);
     report(faults, ended);
     status(ended)
 }
 
 /// Serves one conversation over input and output, on the one spreadsheet that there is at first.
-fn converse_anew<I: Source, O: Sink>(alloc: Global, input: &mut I, output: &mut O) -> Ended
-    ensures served { (after : NameWorld) × IsConversation (IsReply anyone) MOST (I.left input.old)
+fn converse_anew<R: AllocGlobal + Wait, I: Source, O: Sink>(
+    rt: &R,
+    input: &mut I,
+    output: &mut O,
+) -> Ended
+    ensures served { (after : NameWorld) × IsConversation (IsResponse (IsReply anyone)) MOST (I.left input.old)
         (at_moment opening_world (O.written output.old) (O.sink_shortages output.old))
         (at_moment after (O.written output.new) (O.sink_shortages output.new)) result }
     ensures ends { IfSome (I.left input.old) (λ bytes. EndsAs MOST bytes result) }
@@ -141,23 +146,24 @@ fn converse_anew<I: Source, O: Sink>(alloc: Global, input: &mut I, output: &mut 
         (O.sink_steady output.new) }
 {
     opening_stands();
-    match World::opening(alloc) {
-        Ok(mut world) => converse_over(alloc, &mut world, input, output),
+    match World::opening(rt.alloc()) {
+        Ok(world) => converse_over(rt, world, input, output),
         Err(NoMemory) => Ended::NoMemory,
     }
 }
 
 /// Serves one conversation over input and output.
-fn converse_over<I: Source, O: Sink>(
-    alloc: Global,
-    world: &mut World,
+fn converse_over<R: AllocGlobal + Wait, I: Source, O: Sink>(
+    rt: &R,
+    world: World,
     input: &mut I,
     output: &mut O,
 ) -> Ended
-    ensures served { (before : NameWorld) → WorldStandsFor world.old before → (after : NameWorld)
-        × IsConversation (IsReply anyone) MOST (I.left input.old)
+    ensures served { (before : NameWorld) → WorldStandsFor world before → (after : NameWorld)
+        × IsConversation (IsResponse (IsReply anyone)) MOST (I.left input.old)
         (at_moment before (O.written output.old) (O.sink_shortages output.old))
         (at_moment after (O.written output.new) (O.sink_shortages output.new)) result }
+    ensures ends { IfSome (I.left input.old) (λ bytes. EndsAs MOST bytes result) }
     ensures read { result ≡ Ended.ReadFault → Rose (I.faults input.old) (I.faults input.new) }
     ensures write { result ≡ Ended.WriteFault → Rose (O.sink_faults output.old) (O.sink_faults output.new) }
     ensures steady_read { IsTrue (I.steady input.old) → result ≢ Ended.ReadFault }
@@ -166,8 +172,33 @@ fn converse_over<I: Source, O: Sink>(
     ensures output { Counts (O.sink_faults output.old) (O.sink_faults output.new) (O.sink_steady output.old)
         (O.sink_steady output.new) }
 {
+    converse_on(rt, world, &mut Link { input, output })
+}
+
+/// Serves one conversation over a link, with users who are anyone.
+fn converse_on<R: AllocGlobal + Wait, L: Duplex>(rt: &R, world: World, link: &mut L) -> Ended
+    ensures served { (before : NameWorld) → WorldStandsFor world before → (after : NameWorld)
+        × IsConversation (IsResponse (IsReply anyone)) MOST (L.left link.old)
+        (at_moment before (L.written link.old) (L.sink_shortages link.old))
+        (at_moment after (L.written link.new) (L.sink_shortages link.new)) result }
+    ensures ends { IfSome (L.left link.old) (λ bytes. EndsAs MOST bytes result) }
+    ensures read { result ≡ Ended.ReadFault → Rose (L.faults link.old) (L.faults link.new) }
+    ensures write { result ≡ Ended.WriteFault → Rose (L.sink_faults link.old) (L.sink_faults link.new) }
+    ensures steady_read { IsTrue (L.steady link.old) → result ≢ Ended.ReadFault }
+    ensures steady_write { IsTrue (L.sink_steady link.old) → result ≢ Ended.WriteFault }
+    ensures input { Counts (L.faults link.old) (L.faults link.new) (L.steady link.old) (L.steady link.new) }
+    ensures output { Counts (L.sink_faults link.old) (L.sink_faults link.new) (L.sink_steady link.old)
+        (L.sink_steady link.new) }
+    ensures references { L.references link.new ≡ L.references link.old }
+{
     let users = Users::anyone();
-    converse(alloc, world, &users, &mut Link { input, output }, MOST)
+    let answering = Answering {
+        alloc: rt.alloc(),
+        users: &users,
+        world,
+    };
+    let (ended, _) = converse(rt, rt.alloc(), answering, link, MOST);
+    ended
 }
 
 /// The status of a conversation that ended so.

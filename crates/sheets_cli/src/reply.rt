@@ -1,12 +1,12 @@
 ghost use Rattle.std.specs.Prelude.{◌≡◌, IfOk, OnErr, unwrap_or};
-ghost use Rattle.sheets_cli.specs.Reply.{Replies, no_memory_text, closing_text};
+ghost use Rattle.sheets_cli.specs.Reply.{RepliesByPlaces};
 ghost use Rattle.sheets_cli.specs.Step.{response_of};
 
-use crate::fault::{Fault, head_message, head_status};
+use crate::fault::Fault;
 use crate::step::{Stepped, step};
 use cell_value::{Bytes, NoMemory};
 use dimension_ops::World;
-use sheets_http::{HeadFault, Users, Wire, no_memory_response, response_text};
+use sheets_http::{Users, Wire, response_text};
 use sheets_json::{Answer, answer_text, refusal_text};
 use std::alloc::Global;
 
@@ -21,7 +21,7 @@ pub(crate) fn reply_to(
     users: &Users,
     request: &Wire,
 ) -> Result<Bytes, NoMemory>
-    ensures ok { IfOk result (λ response. Replies users.now world.old request.now world.new response) }
+    ensures ok { IfOk result (λ response. RepliesByPlaces users.now world.old request.now world.new response) }
     ensures err { OnErr result (world.new ≡ world.old) }
 {
     let Stepped { told, next } = step(alloc, world, users, request)?;
@@ -60,23 +60,4 @@ fn refusal(alloc: Global, close: bool, fault: Fault) -> Result<Bytes, NoMemory>
     let message = format!(in alloc; "{}", fault)?;
     let body = refusal_text(alloc, fault.status(), message.as_str())?;
     response_text(alloc, fault.status(), close, body.as_slice())
-}
-
-/// The response where memory runs out, for which none is taken.
-pub(crate) fn no_memory_reply(close: bool) -> &'static [u8]
-    ensures { result.now ≡ no_memory_text close }
-{
-    no_memory_response(close)
-}
-
-/// The response that closes a conversation at a refused head.
-///
-/// # Errors
-///
-/// [`NoMemory`] where memory runs out.
-pub(crate) fn closing_reply(alloc: Global, refused: HeadFault) -> Result<Bytes, NoMemory>
-    ensures { IfOk result (λ response. response ≡ closing_text refused) }
-{
-    let body = refusal_text(alloc, head_status(refused), head_message(refused))?;
-    response_text(alloc, head_status(refused), true, body.as_slice())
 }

@@ -1,11 +1,11 @@
 ghost use Rattle.std.specs.Prelude.{◌≡◌, ◌≤◌, ◌++◌, codes};
 ghost use Rattle.std.specs.Fmt.{decimal};
 ghost use Rattle.cell_value.specs.FaultCount.{Rose};
-ghost use Rattle.sheets_cli.specs.Conversation.{Counts};
-ghost use Rattle.sheets_cli.specs.Exchanges.{Sends};
+ghost use Rattle.conversation.specs.Conversation.{Counts};
+ghost use Rattle.conversation.specs.Exchanges.{Sends};
 ghost use Rattle.sheets_cli.specs.Program.{truncated_line, line_of, Says};
 
-use crate::ended::Ended;
+use conversation::Ended;
 use sheets_http::{Sink, SinkFault, send_all};
 
 /// Writes a line; where that fails, it is cut.

@@ -2,18 +2,17 @@ use Rattle.std.proofs.Common.{sym, subst}
 use Rattle.sheets_cli.specs.declared.program.TheConstants.{MOST}
 use Rattle.world_model.specs.World.{WorldStandsFor}
 use Rattle.dimension_ops.specs.World.{opening_world}
-use Rattle.sheets_cli.specs.Conversation.{at_moment}
-use Rattle.sheets_cli.specs.Reply.{IsReply}
+use Rattle.conversation.specs.Conversation.{at_moment}
+use Rattle.conversation.specs.Idle.{idle_at_once}
+use Rattle.sheets_cli.specs.Reply.{IsReply, IsResponse}
 use Rattle.sheets_cli.specs.Step.{anyone}
-use Rattle.sheets_cli.proofs.ConversationLemmas.{ends_as}
-use Rattle.sheets_cli.proofs.ExchangeLemmas.{idle_at_once}
 use Rattle.sheets_cli.proofs.program.converse_anew.Goals as goal
 
 -- where there is no memory for a spreadsheet, nothing is done
 pub returns-in-Err-clause-served : goal.returns-in-Err-clause-served
 returns-in-Err-clause-served g c = (
   opening_world,
-  idle_at_once (IsReply anyone) MOST (g.I.Source.left c.args.input.now)
+  idle_at_once (IsResponse (IsReply anyone)) MOST (g.I.Source.left c.args.input.now)
       (at_moment opening_world (g.O.Sink.written c.args.output.now) (g.O.Sink.sink_shortages c.args.output.now)),
 )
 
@@ -21,12 +20,3 @@ returns-in-Err-clause-served g c = (
 pub returns-in-Ok-clause-served : goal.returns-in-Ok-clause-served
 returns-in-Ok-clause-served g c = c.converse_over.ensures.served opening_world
     (subst (λ books. WorldStandsFor books opening_world) (sym c.in-Ok.ensures) c.opening_stands.ensures)
-
-pub returns-in-Ok-clause-ends : goal.returns-in-Ok-clause-ends
-returns-in-Ok-clause-ends g c =
-    let (after, conversation) = c.converse_over.ensures.served opening_world
-    (subst (λ books. WorldStandsFor books opening_world) (sym c.in-Ok.ensures) c.opening_stands.ensures) in
-    ends_as (IsReply anyone) MOST (g.I.Source.left c.args.input.now)
-    (at_moment opening_world (g.O.Sink.written c.args.output.now) (g.O.Sink.sink_shortages c.args.output.now))
-    (at_moment after (g.O.Sink.written c.converse_over.new.output) (g.O.Sink.sink_shortages c.converse_over.new.output))
-    c.converse_over.result conversation

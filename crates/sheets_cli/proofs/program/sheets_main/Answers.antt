@@ -1,6 +1,6 @@
 use Rattle.cell_value.specs.FaultCount.{Rose}
 use Rattle.sheets_cli.specs.declared.program.TheConstants.{MOST}
-use Rattle.sheets_cli.proofs.ConversationLemmas.{exactly_as}
+use Rattle.sheets_cli.proofs.Statuses.{exactly_as}
 use Rattle.sheets_cli.proofs.program.sheets_main.Goals as goal
 
 -- an end that the talk doesn't have comes only with a fault or for want of memory

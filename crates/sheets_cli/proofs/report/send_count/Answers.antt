@@ -1,6 +1,6 @@
 use Rattle.std.proofs.Common.{◌≡◌, ℕ, List, Ok, Err, codes, subst, ◌∙◌}
 use Rattle.std.specs.Fmt.{decimal}
-use Rattle.sheets_cli.specs.Exchanges.{Sends}
+use Rattle.conversation.specs.Exchanges.{Sends}
 use Rattle.sheets_cli.proofs.SendLemmas.{Sends-then, Sends-cut}
 use Rattle.sheets_cli.proofs.report.send_count.Goals as goal
 

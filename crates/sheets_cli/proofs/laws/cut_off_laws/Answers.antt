@@ -1,5 +1,0 @@
-use Rattle.sheets_cli.proofs.ConversationLemmas.{begins_talk}
-use Rattle.sheets_cli.proofs.laws.cut_off_laws.Goals as goal
-
-pub returns : goal.returns
-returns c = begins_talk c.conversation_laws.ensures.one_next
