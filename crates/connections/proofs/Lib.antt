@@ -1,0 +1,4 @@
+pub mod Histories
+pub mod Responding
+pub mod Conversations
+pub mod Visits

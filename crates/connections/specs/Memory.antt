@@ -1,0 +1,35 @@
+-- Links in memory in the place of connections.
+use Rattle.std.specs.Prelude.{◌≡◌, ℕ, List, Some, map}
+use Rattle.std.specs.Option.{option_map}
+use Rattle.cell_value.specs.Calls.{CallCount}
+use Rattle.connections.specs.Doors.{LinkSeen, IsFresh, Connection, Shown}
+use Rattle.connections.specs.declared.memory.Visit.{Visit}
+
+-- the links that are still to be accepted, of which the last comes first, the connections that were accepted, the ports
+-- on which the doors were opened, how often they were asked for a connection, and their calls
+pub record LinksInMemory (L : Type 0) : Type 0 where
+  pub coming : List (L × List ℕ)
+  pub accepted : List (Visit L)
+  pub opened : List ℕ
+  pub accepts : ℕ
+  pub calls : CallCount
+
+-- a link holds the bytes beside it, nothing was written to it yet, and it hasn't failed
+pub record IsComing {L : Type 0} (seen : L → LinkSeen) (link : L × List ℕ) : Type 0 where
+  pub fresh : IsFresh (seen link.0)
+  pub held : (seen link.0).left ≡ Some link.1
+
+-- an accepted connection as doors show it
+abbrev pub connection_of : {L : Type 0} → (L → LinkSeen) → Visit L → Connection
+connection_of seen visit = record {
+  held = Some visit.held;
+  back = option_map (λ back. record { ended = back.0; link = seen back.1 }) visit.back;
+}
+
+-- what the doors show
+abbrev pub shown_by : {L : Type 0} → (L → LinkSeen) → LinksInMemory L → Shown
+shown_by seen doors = record {
+  opened = doors.opened;
+  accepts = doors.accepts;
+  connections = map (connection_of seen) doors.accepted;
+}
