@@ -72,6 +72,14 @@ module _ (news : NewSheetsOnce) (writes : WritesOnce) (apart : ChangesApart) (tu
   asked_once (request.AddNamedRange range) = refused_once _
   asked_once (request.UpdateNamedRange id name range) = refused_once _
   asked_once (request.DeleteNamedRange id) = refused_once _
+  asked_once (request.AddProtectedRange id patch) = refused_once _
+  asked_once (request.UpdateProtectedRange id patch) = refused_once _
+  asked_once (request.DeleteProtectedRange id) = refused_once _
+  asked_once (request.SetBasicFilter filter) = refused_once _
+  asked_once (request.ClearBasicFilter sheet) = refused_once _
+  asked_once (request.CreateDeveloperMetadata item) = refused_once _
+  asked_once (request.UpdateDeveloperMetadata filters patch) = refused_once _
+  asked_once (request.DeleteDeveloperMetadata filter) = refused_once _
 
   pub requested_once : (asked : Step) → IsOne (IsRequested book asked)
   requested_once (step.Read asked) = asked_once asked

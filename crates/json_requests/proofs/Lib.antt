@@ -1,0 +1,2 @@
+pub mod WholeTextLemmas
+pub mod FilterLemmas

@@ -6,4 +6,8 @@ pub mod Cells
 pub mod Dimensions
 pub mod Merges
 pub mod NamedRanges
+pub mod ProtectedRanges
+pub mod WholeTexts
+pub mod Filters
+pub mod Metadata
 pub mod Requests

@@ -20,6 +20,9 @@ use Rattle.json_requests.specs.Cells.{update_cells, append_cells}
 use Rattle.json_requests.specs.Dimensions.{insert_dimension, delete_dimension, append_dimension, move_dimension}
 use Rattle.json_requests.specs.Merges.{merge_cells, unmerge_cells}
 use Rattle.json_requests.specs.NamedRanges.{add_named_range, update_named_range, delete_named_range}
+use Rattle.json_requests.specs.ProtectedRanges.{add_protected_range, update_shape, delete_protected_range}
+use Rattle.json_requests.specs.Filters.{set_basic_filter, clear_basic_filter}
+use Rattle.json_requests.specs.Metadata.{create_developer_metadata, update_developer_metadata, delete_developer_metadata}
 
 -- ---- kinds
 
@@ -39,6 +42,14 @@ kind_named name =
     else if bytes_eq name (codes "addNamedRange") then Some kind.AddNamedRange
     else if bytes_eq name (codes "updateNamedRange") then Some kind.UpdateNamedRange
     else if bytes_eq name (codes "deleteNamedRange") then Some kind.DeleteNamedRange
+    else if bytes_eq name (codes "addProtectedRange") then Some kind.AddProtectedRange
+    else if bytes_eq name (codes "updateProtectedRange") then Some kind.UpdateProtectedRange
+    else if bytes_eq name (codes "deleteProtectedRange") then Some kind.DeleteProtectedRange
+    else if bytes_eq name (codes "setBasicFilter") then Some kind.SetBasicFilter
+    else if bytes_eq name (codes "clearBasicFilter") then Some kind.ClearBasicFilter
+    else if bytes_eq name (codes "createDeveloperMetadata") then Some kind.CreateDeveloperMetadata
+    else if bytes_eq name (codes "updateDeveloperMetadata") then Some kind.UpdateDeveloperMetadata
+    else if bytes_eq name (codes "deleteDeveloperMetadata") then Some kind.DeleteDeveloperMetadata
     else None
 
 abbrev pub of_kind : RequestKind → Shape Request
@@ -56,6 +67,14 @@ of_kind kind.UnmergeCells = object_of unmerge_cells
 of_kind kind.AddNamedRange = object_of add_named_range
 of_kind kind.UpdateNamedRange = object_of update_named_range
 of_kind kind.DeleteNamedRange = object_of delete_named_range
+of_kind kind.AddProtectedRange = object_of add_protected_range
+of_kind kind.UpdateProtectedRange = update_shape
+of_kind kind.DeleteProtectedRange = object_of delete_protected_range
+of_kind kind.SetBasicFilter = object_of set_basic_filter
+of_kind kind.ClearBasicFilter = object_of clear_basic_filter
+of_kind kind.CreateDeveloperMetadata = object_of create_developer_metadata
+of_kind kind.UpdateDeveloperMetadata = object_of update_developer_metadata
+of_kind kind.DeleteDeveloperMetadata = object_of delete_developer_metadata
 
 -- another kind is judged by nothing but that its value is an object
 abbrev pub of_no_kind : Shape Request

@@ -38,7 +38,7 @@ impl Fields for StartMembers {
 
 /// A DimensionRange.
 #[derive(Clone, Copy)]
-struct DimensionRangeMembers;
+pub(crate) struct DimensionRangeMembers;
 
 impl Fields for DimensionRangeMembers {
     type Output = DimensionRange;

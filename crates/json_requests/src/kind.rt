@@ -18,6 +18,14 @@ pub(crate) enum RequestKind {
     AddNamedRange,
     UpdateNamedRange,
     DeleteNamedRange,
+    AddProtectedRange,
+    UpdateProtectedRange,
+    DeleteProtectedRange,
+    SetBasicFilter,
+    ClearBasicFilter,
+    CreateDeveloperMetadata,
+    UpdateDeveloperMetadata,
+    DeleteDeveloperMetadata,
 }
 
 /// The kind of that name.
@@ -39,6 +47,14 @@ pub(crate) fn kind_named(name: &str) -> Option<RequestKind>
         "addNamedRange" => Some(RequestKind::AddNamedRange),
         "updateNamedRange" => Some(RequestKind::UpdateNamedRange),
         "deleteNamedRange" => Some(RequestKind::DeleteNamedRange),
+        "addProtectedRange" => Some(RequestKind::AddProtectedRange),
+        "updateProtectedRange" => Some(RequestKind::UpdateProtectedRange),
+        "deleteProtectedRange" => Some(RequestKind::DeleteProtectedRange),
+        "setBasicFilter" => Some(RequestKind::SetBasicFilter),
+        "clearBasicFilter" => Some(RequestKind::ClearBasicFilter),
+        "createDeveloperMetadata" => Some(RequestKind::CreateDeveloperMetadata),
+        "updateDeveloperMetadata" => Some(RequestKind::UpdateDeveloperMetadata),
+        "deleteDeveloperMetadata" => Some(RequestKind::DeleteDeveloperMetadata),
         _ => None,
     }
 }

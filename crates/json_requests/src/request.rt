@@ -1,6 +1,9 @@
-use cell_value::{Block, SheetProperties, Text};
+use basic_filter::Filter;
+use cell_value::{Block, Items, SheetProperties, Text};
+use dev_metadata::{SightKind, SpotKind};
 use grid_range::{Area, Axis};
 use json_shapes::ShapeFault;
+use protection::ProtectionPatch;
 
 /// A change that a batch asks for (Google Sheets API v4 reference, Request).
 #[derive(Debug, Drop)]
@@ -96,6 +99,52 @@ pub enum Request {
         /// The named range's id.
         named_range_id: Text,
     },
+    /// AddProtectedRangeRequest
+    AddProtectedRange {
+        /// The protected range's id, if one is given.
+        protected_range_id: Option<u32>,
+        /// What is asked of it; its area is given.
+        patch: ProtectionPatch,
+    },
+    /// UpdateProtectedRangeRequest
+    UpdateProtectedRange {
+        /// The protected range's id.
+        protected_range_id: u32,
+        /// What the mask takes of its members.
+        patch: ProtectionPatch,
+    },
+    /// DeleteProtectedRangeRequest
+    DeleteProtectedRange {
+        /// The protected range's id.
+        protected_range_id: u32,
+    },
+    /// SetBasicFilterRequest
+    SetBasicFilter {
+        /// The filter; its criteria stand in the byte order of their keys.
+        filter: Filter,
+    },
+    /// ClearBasicFilterRequest
+    ClearBasicFilter {
+        /// The sheet's id.
+        sheet_id: u32,
+    },
+    /// CreateDeveloperMetadataRequest
+    CreateDeveloperMetadata {
+        /// What is asked of the item.
+        developer_metadata: NewMetadata,
+    },
+    /// UpdateDeveloperMetadataRequest
+    UpdateDeveloperMetadata {
+        /// The look-ups, one of which finds each item that is changed.
+        data_filters: Items<MetadataLookup>,
+        /// What the mask takes of the item's members.
+        developer_metadata: MetadataPatch,
+    },
+    /// DeleteDeveloperMetadataRequest
+    DeleteDeveloperMetadata {
+        /// The look-up that finds the items.
+        data_filter: MetadataLookup,
+    },
 }
 
 /// Where the rows of an update are written (Sheets API v4 reference, UpdateCellsRequest).
@@ -151,6 +200,86 @@ pub struct NewNamedRange {
     pub name: Text,
     /// The cells that it names.
     pub range: Area,
+}
+
+/// Where an item of metadata lies (Sheets API v4 reference, DeveloperMetadataLocation).
+#[derive(Clone, Copy, Debug)]
+pub enum Location {
+    /// The spreadsheet.
+    Spreadsheet,
+    /// The sheet with the id.
+    Sheet(u32),
+    /// A row or a column, where it is one line.
+    DimensionRange(DimensionRange),
+}
+
+/// What is asked of a new item of metadata (Sheets API v4 reference, DeveloperMetadata).
+#[derive(Debug, Drop)]
+pub struct NewMetadata {
+    /// The id, if one is given.
+    pub metadata_id: Option<u32>,
+    /// The key, 1 to 1,000 bytes.
+    pub metadata_key: Text,
+    /// The value, if one is given.
+    pub metadata_value: Option<Text>,
+    /// Where it lies.
+    pub location: Location,
+    /// Under which projects it is seen.
+    pub visibility: SightKind,
+}
+
+/// The members of items of metadata that an update gives (Sheets API v4 reference, DeveloperMetadata).
+#[derive(Debug, Drop)]
+pub struct MetadataPatch {
+    /// The key, 1 to 1,000 bytes.
+    pub metadata_key: Option<Text>,
+    /// The value.
+    pub metadata_value: Option<Text>,
+    /// Where they lie.
+    pub location: Option<Location>,
+    /// Under which projects they are seen.
+    pub visibility: Option<SightKind>,
+}
+
+/// How a location that is asked for is compared (Sheets API v4 reference,
+/// DeveloperMetadataLocationMatchingStrategy).
+#[derive(Clone, Copy, Debug, PartialEq, Eq)]
+pub enum MatchingStrategy {
+    /// `EXACT_LOCATION`: it is the item's.
+    Exact,
+    /// `INTERSECTING_LOCATION`: it meets the item's.
+    Intersecting,
+}
+
+/// Which items of metadata are looked up (Sheets API v4 reference, DeveloperMetadataLookup): those of
+/// which all hold that is given.
+#[derive(Debug, Drop)]
+pub struct MetadataLookup {
+    /// The kind of location.
+    pub location_type: Option<SpotKind>,
+    /// The location.
+    pub metadata_location: Option<Location>,
+    /// How it is compared.
+    pub location_matching_strategy: Option<MatchingStrategy>,
+    /// The id.
+    pub metadata_id: Option<u32>,
+    /// The key.
+    pub metadata_key: Option<Text>,
+    /// The value.
+    pub metadata_value: Option<Text>,
+    /// Under which projects they are seen.
+    pub visibility: Option<SightKind>,
+}
+
+/// Which cells or which items of metadata are meant (Sheets API v4 reference, DataFilter).
+#[derive(Debug, Drop)]
+pub enum DataFilter {
+    /// The items that the look-up finds.
+    DeveloperMetadataLookup(MetadataLookup),
+    /// The cells of a range text.
+    A1Range(Text),
+    /// The cells of an area.
+    GridRange(Area),
 }
 
 /// A request of a batch as it was read. Its fault is told in its turn.

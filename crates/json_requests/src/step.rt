@@ -9,14 +9,20 @@ use crate::cells::{AppendCellsMembers, UpdateCellsMembers};
 use crate::dimension::{
     AppendDimensionMembers, DeleteDimensionMembers, InsertDimensionMembers, MoveDimensionMembers,
 };
+use crate::filter::{ClearBasicFilterMembers, SetBasicFilterMembers};
 use crate::kind::{RequestKind, kind_named};
 use crate::merge::{MergeCellsMembers, UnmergeCellsMembers};
+use crate::metadata::{CreateMetadataMembers, DeleteMetadataMembers, UpdateMetadataMembers};
 use crate::named_range::{AddNamedRangeMembers, DeleteNamedRangeMembers, UpdateNamedRangeMembers};
+use crate::protected_range::{
+    AddProtectedRangeMembers, DeleteProtectedRangeMembers, KeepsTakenParts,
+    UpdateProtectedRangeMembers,
+};
 use crate::sheet::{AddSheetMembers, DeleteSheetMembers};
 use crate::sheet_update::UpdateSheetPropertiesMembers;
 use crate::{Request, Step};
 use cell_value::NoMemory;
-use json_shapes::{ObjectOf, Read, Shape, ShapeFault, are_null, is_null};
+use json_shapes::{ObjectOf, Read, Shape, ShapeFault, SuchThat, are_null, is_null};
 use serde_json::{Map, Value as Json};
 use std::alloc::Global;
 
@@ -138,5 +144,18 @@ fn read_kind(alloc: Global, kind: RequestKind, value: Json) -> Result<Read<Reque
         RequestKind::AddNamedRange => ObjectOf(AddNamedRangeMembers).read(alloc, value),
         RequestKind::UpdateNamedRange => ObjectOf(UpdateNamedRangeMembers).read(alloc, value),
         RequestKind::DeleteNamedRange => ObjectOf(DeleteNamedRangeMembers).read(alloc, value),
+        RequestKind::AddProtectedRange => ObjectOf(AddProtectedRangeMembers).read(alloc, value),
+        RequestKind::UpdateProtectedRange => SuchThat(
+            KeepsTakenParts,
+            ObjectOf(UpdateProtectedRangeMembers),
+        ).read(alloc, value),
+        RequestKind::DeleteProtectedRange => ObjectOf(DeleteProtectedRangeMembers).read(
+            alloc, value,
+        ),
+        RequestKind::SetBasicFilter => ObjectOf(SetBasicFilterMembers).read(alloc, value),
+        RequestKind::ClearBasicFilter => ObjectOf(ClearBasicFilterMembers).read(alloc, value),
+        RequestKind::CreateDeveloperMetadata => ObjectOf(CreateMetadataMembers).read(alloc, value),
+        RequestKind::UpdateDeveloperMetadata => ObjectOf(UpdateMetadataMembers).read(alloc, value),
+        RequestKind::DeleteDeveloperMetadata => ObjectOf(DeleteMetadataMembers).read(alloc, value),
     }
 }

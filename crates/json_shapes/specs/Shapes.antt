@@ -1,7 +1,7 @@
 -- Shapes of single JSON values, and of lists.
 use Rattle.std.specs.Prelude.{ℕ, Bool, List, [], ◌∷◌, true, false, ⊤, if◌then◌else◌, Option, option_map, option_and_then, unwrap_or, Result, Ok, Err}
 use Rattle.std.specs.Option.{is_some}
-use Rattle.serde_json.specs.Data.{Data, null, boolean, number, string, array, object, Items, no_items, item}
+use Rattle.serde_json.specs.Data.{Data, null, boolean, number, string, array, object, Items, no_items, item, Members, no_members, member}
 use Rattle.serde_json.specs.Find.{as_bool, as_number, as_str}
 use Rattle.cell_value.specs.Entered.{entered_input}
 use Rattle.cell_value.specs.Typed.{is_formula}
@@ -12,6 +12,7 @@ use Rattle.cell_value.specs.declared.entered.Bad.TheVariants as bad
 use Rattle.json_shapes.specs.declared.fault.ShapeFault.{ShapeFault}
 use Rattle.json_shapes.specs.declared.fault.ShapeFault.TheVariants.{BadShape, BadNumber, TextLong}
 use Rattle.json_shapes.specs.Reading.{Reading, Shape, both, made, or_bad_shape}
+use Rattle.json_shapes.specs.Members.{is_null}
 
 abbrev pub text : Shape (List ℕ)
 text value = or_bad_shape (as_str value)
@@ -85,3 +86,19 @@ list_of shape (number n) = Err BadShape
 list_of shape (string bytes) = Err BadShape
 list_of shape (array items) = each shape items
 list_of shape (object _) = Err BadShape
+
+-- the members that aren't null of an object whose names are free
+abbrev pub each_member : {A : Type 0} → (List ℕ → Shape A) → Members → Reading (List A)
+each_member keyed no_members = Ok []
+each_member keyed (member name value members) =
+    if is_null value then each_member keyed members
+    else made one_more (both (keyed name value) (each_member keyed members))
+
+-- an object of such members
+abbrev pub map_of : {A : Type 0} → (List ℕ → Shape A) → Shape (List A)
+map_of keyed null = Err BadShape
+map_of keyed (boolean truth) = Err BadShape
+map_of keyed (number n) = Err BadShape
+map_of keyed (string bytes) = Err BadShape
+map_of keyed (array items) = Err BadShape
+map_of keyed (object members) = each_member keyed members

@@ -4,6 +4,7 @@
 
 mod condition;
 mod fault;
+mod keyed;
 mod list;
 mod mask;
 mod members;
@@ -15,10 +16,13 @@ mod words;
 
 pub use condition::{Condition, IsFormulaText, IsNumber, IsText, IsTruth, SuchThat};
 pub use fault::{Read, ShapeFault, both, or_bad_shape};
+pub use keyed::{Keyed, MapOf};
 pub use list::ListOf;
-pub use mask::{BodyPaths, Mask, Paths, masked, states, states_within, taken};
-pub use members::{ObjectOf, are_null, first_part, is_null, optional, required};
-pub use scalar::{Index, Truth};
+pub use mask::{
+    BodyPaths, Mask, Paths, given_member, has_member, masked, states, states_within, taken, takes,
+};
+pub use members::{ObjectOf, are_null, demanded, first_part, is_null, optional, required};
+pub use scalar::{Index, Truth, within_index};
 pub use shape::{Fields, Shape};
 pub use single::{AnyText, Anything, Entered, Kept, OnlyFalse, as_text};
 pub use ways::{either, just_one, way};

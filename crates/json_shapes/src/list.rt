@@ -52,7 +52,7 @@ fn read_each<S: Shape>(
 }
 
 /// The first of the faults so far and one more.
-fn first_fault(so_far: Option<ShapeFault>, other: ShapeFault) -> ShapeFault
+pub(crate) fn first_fault(so_far: Option<ShapeFault>, other: ShapeFault) -> ShapeFault
     ensures { result ≡ with_fault so_far other }
 {
     match so_far {

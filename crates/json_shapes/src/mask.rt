@@ -69,7 +69,7 @@ fn has_within(value: &Json, outer: &str, name: &str) -> bool
 }
 
 /// Whether a value has a member that isn't null.
-fn has_member(value: &Json, name: &str) -> bool
+pub fn has_member(value: &Json, name: &str) -> bool
     ensures { result ≡ states name.now (Some (view value.now)) }
 {
     match given_member(value, name) {
@@ -79,7 +79,7 @@ fn has_member(value: &Json, name: &str) -> bool
 }
 
 /// A member of a value, unless it is null.
-fn given_member<'a>(value: &'a Json, name: &str) -> Option<&'a Json>
+pub fn given_member<'a>(value: &'a Json, name: &str) -> Option<&'a Json>
     ensures { option_map (λ json. view json.now) result ≡ member_of name.now (Some (view value.now)) }
 {
     match value.get(name) {
@@ -157,7 +157,7 @@ fn is_every(path: &str) -> bool
 }
 
 /// Whether the mask takes the path.
-fn takes(mask: &str, path: &str) -> bool
+pub fn takes(mask: &str, path: &str) -> bool
     ensures { result ≡ takes mask.now path.now }
 {
     mask.split(',')

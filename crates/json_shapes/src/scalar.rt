@@ -41,8 +41,8 @@ fn index_of(number: &Number) -> Option<u32>
     }
 }
 
-/// The number, if it isn't too great.
-fn within_index(whole: u64) -> Option<u32>
+/// The number as an index, an id or a count, if it isn't above 2,147,483,647.
+pub fn within_index(whole: u64) -> Option<u32>
     ensures { result ≡ within_index whole }
 {
     if whole <= GREATEST_INDEX {

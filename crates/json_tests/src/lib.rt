@@ -16,7 +16,13 @@ mod common;
 #[cfg(test)]
 mod creations;
 #[cfg(test)]
+mod filters;
+#[cfg(test)]
 mod lines;
+#[cfg(test)]
+mod metadata;
+#[cfg(test)]
+mod protections;
 #[cfg(test)]
 mod ranges;
 #[cfg(test)]
