@@ -30,7 +30,7 @@ use Rattle.ref_rewrite.specs.declared.pieces.Piece.TheVariants as piece
 use Rattle.world_model.specs.Counts.{is_formula, formulas_at, formulas_in}
 use Rattle.world_model.specs.Laws.{FormulasCounted}
 use Rattle.world_model.specs.PlaceChange.{FollowsInPlace, content_followed}
-use Rattle.dimension_ops.specs.References.{AreReferring, AreWithinOn, IsContentWithinOn, followed_at, is_formula_at, is_reference_to, refers_at, refers_to}
+use Rattle.dimension_ops.specs.References.{AreMarked, AreReferring, AreWithinOn, IsContentWithinOn, followed_at, is_formula_at, is_reference_to, refers_at, refers_to}
 use Rattle.dimension_ops.proofs.Places.{all_followed, among, by_rows_total, same, size_stays}
 
 -- ---- what has no reference to the sheet stays
@@ -116,27 +116,30 @@ module _ (sheet : ℕ) (axis : Axis) (count : ℕ) (change : Change) where
   formula_stays (content.Truth truth) = refl
   formula_stays (content.Formula formula) = refl
 
--- ---- the filled places are those of the formulas with a reference, and others
+-- ---- the marked places are those of the formulas with a reference, and others
 
-pub referring : (sheet : ℕ) (table : Table Content) (places : List (ℕ × ℕ))
-    → AreFilledPlaces (record { sheet = 0; rows = Whole; cols = Whole }) table places
+-- what has a reference is a formula
+is_formula_then : (sheet : ℕ) (held : Option Content) → option_map_or (refers_to sheet) held false ≡ true
+    → option_map_or is_formula held false ≡ true
+is_formula_then sheet None refers = refers
+is_formula_then sheet (Some (content.Formula formula)) refers = refl
+is_formula_then sheet (Some (content.Number number)) refers = refers
+is_formula_then sheet (Some (content.Text text)) refers = refers
+is_formula_then sheet (Some (content.Truth truth)) refers = refers
+
+pub referring : {M : Type 0} (sheet : ℕ) (table : Table Content) (marks : Table M) (places : List (ℕ × ℕ))
+    → AreMarked table marks
+    → AreFilledPlaces (record { sheet = 0; rows = Whole; cols = Whole }) marks places
     → AreReferring sheet table (filter (refers_at sheet table) places)
-referring sheet table places are = record {
+referring sheet table marks places marked are = record {
   in_order = IsStrictlySortedBy-filter by_rows (refers_at sheet table) places are.in_order;
   exactly = λ row col. (
     λ there. (Contains-filter_from (refers_at sheet table) places (row, col) there).1,
     λ refers. Contains-filter (refers_at sheet table) places (row, col)
-        ((are.exactly row col).1 ((tt, tt), filled (item_at table row col) refers)) refers,
+        ((are.exactly row col).1 ((tt, tt), marked.each row col (is_formula_then sheet (item_at table row col) refers)))
+        refers,
   );
 }
-  where
-    filled : (held : Option Content) → option_map_or (refers_to sheet) held false ≡ true → is_some held ≡ true
-    filled None refers = absurd (false≢true refers)
-    filled (Some item) refers = refl
-
-none_sorted : IsStrictlySortedBy by_rows []
-unfolding IsStrictlySortedBy
-none_sorted = tt
 
 -- ---- how many formulas there are
 
@@ -186,40 +189,8 @@ module _ (counted : FormulasCounted) (tables : TablesByItems Content) where
       still true held held' is none = ap formulas_at is
       still false held held' is none = ap formulas_at is ∙ none
 
-  no_formula_at : (table : Table Content) → formulas_in table ≡ 0 → (row col : ℕ) → formulas_at (item_at table row col) ≡ 0
-  no_formula_at table none row col = omega (arith, none, taken (row, col) table)
-
   all_keys : (table : Table Content) → AreAll (finite.keys table.cells) table
   all_keys table row col some = sym (finite.contains_key-keys table.cells (row, col)) ∙ some
-
-  -- a change of lines makes none
-  pub none_moved : (axis : Axis) (change : Change) (before moved : Table Content) → GoesWithLines axis change before moved
-      → formulas_in before ≡ 0 → formulas_in moved ≡ 0
-  none_moved axis change before moved goes none =
-      no_formulas (finite.keys moved.cells) moved (all_keys moved) (λ row col. came row col (item_at moved row col) refl)
-    where
-      came : (row col : ℕ) (held : Option Content) → item_at moved row col ≡ held → formulas_at held ≡ 0
-      came row col None is = refl
-      came row col (Some item) is =
-          let from = (goes.items row col item).0 is in
-          ap formulas_at (sym from.held) ∙ no_formula_at before none from.old_row from.old_col
-
-  -- with none there is none with a reference
-  pub none_referring : (sheet : ℕ) (table : Table Content) → formulas_in table ≡ 0 → AreReferring sheet table []
-  none_referring sheet table none = record {
-    in_order = none_sorted;
-    exactly = λ row col. (
-      λ there. absurd (omega (arith, there.1)),
-      λ refers. absurd (no_reference (item_at table row col) (no_formula_at table none row col) refers),
-    );
-  }
-    where
-      no_reference : (held : Option Content) → formulas_at held ≡ 0 → option_map_or (refers_to sheet) held false ≡ true → ⊥
-      no_reference None none refers = false≢true refers
-      no_reference (Some (content.Number number)) none refers = false≢true refers
-      no_reference (Some (content.Text text)) none refers = false≢true refers
-      no_reference (Some (content.Truth truth)) none refers = false≢true refers
-      no_reference (Some (content.Formula formula)) none refers = absurd (omega (arith, none))
 
   one_at : (held : Option Content) → cond (option_map_or is_formula held false) 1 0 ≡ formulas_at held
   one_at None = refl
@@ -241,22 +212,48 @@ module _ (counted : FormulasCounted) (tables : TablesByItems Content) where
       ∙ ap (λ n. cond (is_formula_at without other) 1 0 + n) (elsewhere place table others less.1)
       ∙ sym (sum_by-cons (λ p. cond (is_formula_at without p) 1 0) other others)
 
-  pub all_counted : (places : List (ℕ × ℕ)) (table : Table Content) → IsStrictlySortedBy by_rows places
-      → AreAll places table → count_by (is_formula_at table) places ≡ formulas_in table
-  all_counted [] table sorted all = sym (nothing table all)
+  -- each formula is listed
+  abbrev AreListed : List (ℕ × ℕ) → Table Content → Type 0
+  AreListed places table = (row col : ℕ) → is_formula_at table (row, col) ≡ true → among places (row, col) ≡ true
+
+  none_at : (held : Option Content) → (option_map_or is_formula held false ≡ true → false ≡ true) → formulas_at held ≡ 0
+  none_at None none = refl
+  none_at (Some (content.Formula formula)) none = absurd (false≢true (none refl))
+  none_at (Some (content.Number number)) none = refl
+  none_at (Some (content.Text text)) none = refl
+  none_at (Some (content.Truth truth)) none = refl
+
+  listed_without : (place : ℕ × ℕ) (places : List (ℕ × ℕ)) (table : Table Content) → AreListed (place ∷ places) table
+      → AreListed places (without_item table place.0 place.1)
+  listed_without place places table all row col is =
+      behind (same (row, col) place) (item_at table row col) (among places (row, col))
+      (ap (λ held. option_map_or is_formula held false)
+      (sym (finite.get-remove by_rows_total table.cells place (row, col))) ∙ is) (all row col)
+    where
+      behind : (b : Bool) (held : Option Content) (rest : Bool) → option_map_or is_formula (cond b None held) false ≡ true
+          → (option_map_or is_formula held false ≡ true → (b || rest) ≡ true) → rest ≡ true
+      behind true held rest is listed = absurd (false≢true is)
+      behind false held rest is listed = listed is
+
+  all_counted : (places : List (ℕ × ℕ)) (table : Table Content) → IsStrictlySortedBy by_rows places
+      → AreListed places table → count_by (is_formula_at table) places ≡ formulas_in table
+  all_counted [] table sorted all = sym (no_formulas (finite.keys table.cells) table (all_keys table)
+      (λ row col. none_at (item_at table row col) (all row col)))
   all_counted (place ∷ places) table sorted all =
       let without = without_item table place.0 place.1 in
       let first = sum_by-cons (λ p. cond (is_formula_at table p) 1 0) place places in
       let one = one_at (item_at table place.0 place.1) in
       let others = elsewhere place table places (sorted_head by_rows place places sorted) in
       let rest = all_counted places without (sorted_tail by_rows place places sorted)
-      (without_first place places table all) in
+      (listed_without place places table all) in
       first ∙ ap (λ n. n + count_by (is_formula_at table) places) one
       ∙ ap (λ n. formulas_at (item_at table place.0 place.1) + n) (others ∙ rest)
       ∙ omega (arith, taken place table)
 
-  pub filled_counted : (table : Table Content) (places : List (ℕ × ℕ))
-      → AreFilledPlaces (record { sheet = 0; rows = Whole; cols = Whole }) table places
+  pub marked_counted : {M : Type 0} (table : Table Content) (marks : Table M) (places : List (ℕ × ℕ))
+      → AreMarked table marks
+      → AreFilledPlaces (record { sheet = 0; rows = Whole; cols = Whole }) marks places
       → count_by (is_formula_at table) places ≡ formulas_in table
-  filled_counted table places are = all_counted places table are.in_order (λ row col some.
-      list_any-from_Contains (eq_by_cmp_equiv by_rows_total) (row, col) places ((are.exactly row col).1 ((tt, tt), some)))
+  marked_counted table marks places marked are = all_counted places table are.in_order (λ row col is.
+      list_any-from_Contains (eq_by_cmp_equiv by_rows_total) (row, col) places
+      ((are.exactly row col).1 ((tt, tt), marked.each row col is)))

@@ -13,6 +13,7 @@ pub mod Making
 pub mod Marking
 pub mod Places
 pub mod Formulas
+pub mod Marked
 pub mod Unmoved
 pub mod Changed
 pub mod PastLines

@@ -1,7 +1,7 @@
 -- The formulas of a sheet with a reference to a sheet: only they follow a change of its lines.
 use Rattle.std.specs.Prelude.{◌≡◌, ◌↔◌, ℕ, Bool, true, false, List, Contains, IfSome, ◌==◌, ⊤}
 use Rattle.std.specs.List.{All, list_any}
-use Rattle.std.specs.Option.{option_map_or}
+use Rattle.std.specs.Option.{IsSome, option_map_or}
 use Rattle.std.specs.List.Sorted.{IsStrictlySortedBy}
 use Rattle.grid_range.specs.Area.{by_rows}
 use Rattle.grid_range.specs.declared.axis.Axis.{Axis}
@@ -13,7 +13,7 @@ use Rattle.ref_rewrite.specs.declared.cell_content.Content.{Content}
 use Rattle.ref_rewrite.specs.declared.cell_content.Content.TheVariants as content
 use Rattle.ref_rewrite.specs.declared.pieces.Piece.{Piece}
 use Rattle.ref_rewrite.specs.declared.pieces.Piece.TheVariants as piece
-use Rattle.world_model.specs.Counts.{is_formula}
+use Rattle.world_model.specs.Counts.{formulas_in, is_formula}
 use Rattle.world_model.specs.PlaceChange.{content_followed}
 use Rattle.world_model.specs.Sheet.{PlaceSheet}
 
@@ -37,6 +37,19 @@ refers_at sheet table place = option_map_or (refers_to sheet) (item_at table pla
 -- a formula stands at the place
 abbrev pub is_formula_at : Table Content → ℕ × ℕ → Bool
 is_formula_at table place = option_map_or is_formula (item_at table place.0 place.1) false
+
+-- the marks are those of a sheet of that size, and there is one wherever a formula stands
+pub record AreMarked {M : Type 0} (table : Table Content) (marks : Table M) : Type 0 where
+  pub rows : marks.rows ≡ table.rows
+  pub cols : marks.cols ≡ table.cols
+  pub each : (row col : ℕ) → is_formula_at table (row, col) ≡ true → IsSome (item_at marks row col)
+
+-- formulas stand where they stood, in a sheet of the same size
+pub record KeepsFormulas (before after : Table Content) : Type 0 where
+  pub rows : after.rows ≡ before.rows
+  pub cols : after.cols ≡ before.cols
+  pub each : (row col : ℕ) → is_formula_at after (row, col) ≡ is_formula_at before (row, col)
+  pub count : formulas_in after ≡ formulas_in before
 
 -- these are the places of the formulas with a reference to the sheet, each once, by rows
 pub record AreReferring (sheet : ℕ) (table : Table Content) (places : List (ℕ × ℕ)) : Type 0 where

@@ -10,10 +10,10 @@ ghost use Rattle.cell_store.specs.Table.{item_at};
 ghost use Rattle.world_model.specs.Counts.{formulas_in, is_formula};
 ghost use Rattle.grid_range.specs.declared.band.Band.TheVariants.{Whole};
 ghost use Rattle.world_model.specs.PlaceChange.{content_followed};
-ghost use Rattle.dimension_ops.specs.References.{AreReferring, AreWithinOn, IsContentWithinOn};
+ghost use Rattle.dimension_ops.specs.References.{AreMarked, AreReferring, AreWithinOn, IsContentWithinOn, KeepsFormulas};
 ghost use Rattle.dimension_ops.specs.References.{followed_at, is_formula_at, is_reference_to, refers_at, refers_to};
 
-use crate::sheet::Cells;
+use crate::sheet::{Cells, Marks};
 use cell_store::{CellStore, tables_by_items};
 use cell_value::NoMemory;
 use grid_range::{Area, Band, SheetChange};
@@ -21,12 +21,12 @@ use ref_rewrite::{Content, Piece, follow};
 use std::alloc::Global;
 use world_model::formulas_counted;
 
-/// All filled places of the cells, by rows.
-fn filled_places(cells: &Cells) -> Result<Vec<(u32, u32)>, NoMemory>
+/// The places that are marked, by rows.
+fn marked_places(marks: &Marks) -> Result<Vec<(u32, u32)>, NoMemory>
     ensures { IfOk result
-        (λ places. AreFilledPlaces (record { sheet = 0; rows = Whole; cols = Whole }) cells.now.table places.items) }
+        (λ places. AreFilledPlaces (record { sheet = 0; rows = Whole; cols = Whole }) marks.now.table places.items) }
 {
-    let places = cells.places(&Area {
+    let places = marks.places(&Area {
         sheet: 0,
         rows: Band::Whole,
         cols: Band::Whole,
@@ -34,13 +34,14 @@ fn filled_places(cells: &Cells) -> Result<Vec<(u32, u32)>, NoMemory>
     Ok(places.into_vec())
 }
 
-/// How many formulas the cells hold.
-pub(crate) fn count_formulas(cells: &Cells) -> Result<u64, NoMemory>
+/// How many formulas the cells hold, each of which is marked.
+pub(crate) fn count_formulas(cells: &Cells, marks: &Marks) -> Result<u64, NoMemory>
+    requires { AreMarked cells.now.table marks.now.table }
     ensures { IfOk result (λ count. count ≡ formulas_in cells.now.table) }
 {
     formulas_counted();
     tables_by_items::<Content>();
-    let places = filled_places(cells)?;
+    let places = marked_places(marks)?;
     Ok(formulas_among(cells, &places))
 }
 
@@ -73,11 +74,16 @@ fn is_formula(content: &Content) -> bool
     }
 }
 
-/// The places of the formulas with a reference to the sheet, by rows.
-pub(crate) fn references(cells: &Cells, sheet: u32) -> Result<Vec<(u32, u32)>, NoMemory>
+/// The places of the formulas, each of which is marked, with a reference to the sheet, by rows.
+pub(crate) fn references(
+    cells: &Cells,
+    marks: &Marks,
+    sheet: u32,
+) -> Result<Vec<(u32, u32)>, NoMemory>
+    requires { AreMarked cells.now.table marks.now.table }
     ensures { IfOk result (λ places. AreReferring sheet cells.now.table places.items) }
 {
-    let mut places = filled_places(cells)?;
+    let mut places = marked_places(marks)?;
     places.retain(|place| refers_at(cells, place.0, place.1, sheet));
     Ok(places)
 }
@@ -133,7 +139,7 @@ pub(crate) fn follow_places(
     requires within { AreWithinOn by.now.sheet by.now.axis by.now.count cells.old.table }
     ensures followed { OnOk result (cells.new.table
         ≡ fold (followed_at by.now.sheet by.now.axis by.now.count by.now.change.now) cells.old.table places.now) }
-    ensures formulas_stay { formulas_in cells.new.table ≡ formulas_in cells.old.table }
+    ensures formulas { KeepsFormulas cells.old.table cells.new.table }
 {
     for place in places {
         follow_at(cells, place.0, place.1, by)?;
@@ -151,7 +157,7 @@ fn follow_at(cells: &mut Cells, row: u32, column: u32, by: &SheetChange) -> Resu
     requires within { IfSome (item_at cells.old.table row column) (IsContentWithinOn by.now.sheet by.now.axis by.now.count) }
     ensures followed { OnOk result (cells.new.table
         ≡ followed_at by.now.sheet by.now.axis by.now.count by.now.change.now cells.old.table (row, column)) }
-    ensures formulas_stay { formulas_in cells.new.table ≡ formulas_in cells.old.table }
+    ensures formulas { KeepsFormulas cells.old.table cells.new.table }
 {
     formulas_counted();
     if cells.get(row, column).is_none() {

@@ -104,7 +104,7 @@ fn lines_of(book: &Book, sheet: u32, axis: Axis) -> u32
 }
 
 /// The lines on the axis of a sheet of that size.
-fn lines_on(axis: Axis, rows: u32, cols: u32) -> u32
+pub(crate) fn lines_on(axis: Axis, rows: u32, cols: u32) -> u32
     ensures { result ≡ lines_on axis rows cols }
 {
     match axis {
@@ -222,7 +222,7 @@ fn sheet_changed(alloc: Global, sheet: Arc<Sheet>, by: &SheetChange) -> Result<A
         SheetChanged by.now.sheet by.now.axis by.now.count by.now.change.now (arc_value sheet) (arc_value changed)) }
 {
     if sheet.id() == by.sheet {
-        let changed = own_changed(alloc, owned(sheet)?, by)?;
+        let changed = own_changed(owned(sheet)?, by)?;
         shared(alloc, changed)
     } else {
         another_followed(alloc, sheet, by)
@@ -231,7 +231,7 @@ fn sheet_changed(alloc: Global, sheet: Arc<Sheet>, by: &SheetChange) -> Result<A
 
 /// The sheet whose lines are changed, after the change: its items went with their lines, and its formulas
 /// followed, unless none changes.
-fn own_changed(alloc: Global, sheet: Sheet, by: &SheetChange) -> Result<Sheet, NoMemory>
+fn own_changed(sheet: Sheet, by: &SheetChange) -> Result<Sheet, NoMemory>
     requires fits { Fits by.now.change.now by.now.count }
     requires own { sheet.id ≡ by.now.sheet }
     requires ready { CanChange by.now.sheet by.now.axis by.now.count by.now.change.now sheet }
@@ -241,7 +241,7 @@ fn own_changed(alloc: Global, sheet: Sheet, by: &SheetChange) -> Result<Sheet, N
     if keeps_places(by.change, by.count) {
         return Ok(moved);
     }
-    let places = moved.references(alloc, by.sheet)?;
+    let places = moved.references(by.sheet)?;
     moved.follow(&places, by)?;
     Ok(moved)
 }
@@ -261,7 +261,7 @@ fn another_followed(
     if keeps_places(by.change, by.count) {
         return Ok(sheet);
     }
-    let places = sheet.references(alloc, by.sheet)?;
+    let places = sheet.references(by.sheet)?;
     if places.as_slice().is_empty() {
         return Ok(sheet);
     }
@@ -272,7 +272,7 @@ fn another_followed(
 
 /// Whether each of so many lines stays where it is: lines come behind the last one, or some are moved to where
 /// they stand. No reference to them changes then.
-fn keeps_places(change: &Change, count: u32) -> bool
+pub(crate) fn keeps_places(change: &Change, count: u32) -> bool
     ensures { result ≡ keeps_places change.now count }
 {
     match *change {

@@ -3,9 +3,9 @@
 ghost use Rattle.std.specs.Prelude.{◌≡◌, IfOk, OnOk, map};
 ghost use Rattle.std.specs.Arc.{arc_value};
 ghost use Rattle.std.specs.List.{AllZip, fold};
-ghost use Rattle.world_model.specs.Counts.{formulas_in};
 ghost use Rattle.world_model.specs.SheetChange.{LosesReferences, content_without, other_sheets};
 ghost use Rattle.dimension_ops.specs.Losing.{lost_at};
+ghost use Rattle.dimension_ops.specs.References.{KeepsFormulas};
 
 use crate::sheet::{Cells, Sheet};
 use cell_store::CellStore;
@@ -42,7 +42,7 @@ pub(crate) fn sheets_left(
 fn sheet_left(alloc: Global, sheet: Arc<Sheet>, deleted: u32) -> Result<Arc<Sheet>, NoMemory>
     ensures { IfOk result (λ left. LosesReferences deleted (arc_value sheet) (arc_value left)) }
 {
-    let places = sheet.references(alloc, deleted)?;
+    let places = sheet.references(deleted)?;
     if places.as_slice().is_empty() {
         return Ok(sheet);
     }
@@ -62,7 +62,7 @@ pub(crate) fn lose_places(
     sheet: u32,
 ) -> Result<(), NoMemory>
     ensures lost { OnOk result (cells.new.table ≡ fold (lost_at sheet) cells.old.table places.now) }
-    ensures formulas_stay { formulas_in cells.new.table ≡ formulas_in cells.old.table }
+    ensures formulas { KeepsFormulas cells.old.table cells.new.table }
 {
     for place in places {
         lose_at(cells, place.0, place.1, sheet)?;
@@ -77,7 +77,7 @@ pub(crate) fn lose_places(
 /// [`NoMemory`] where memory runs out; the cells are as they were.
 fn lose_at(cells: &mut Cells, row: u32, column: u32, sheet: u32) -> Result<(), NoMemory>
     ensures lost { OnOk result (cells.new.table ≡ lost_at sheet cells.old.table (row, column)) }
-    ensures formulas_stay { formulas_in cells.new.table ≡ formulas_in cells.old.table }
+    ensures formulas { KeepsFormulas cells.old.table cells.new.table }
 {
     formulas_counted();
     if cells.get(row, column).is_none() {

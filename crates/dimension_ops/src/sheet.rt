@@ -1,16 +1,18 @@
-ghost use Rattle.std.specs.Prelude.{◌≡◌, [], None, IfOk, OnOk, OnErr, ◌+◌, ◌<◌, ◌≤◌};
-ghost use Rattle.std.specs.Option.{option_copied};
+ghost use Rattle.std.specs.Prelude.{◌≡◌, [], None, IfOk, IsTrue, OnOk, OnErr, ◌+◌, ◌<◌, ◌≤◌};
+ghost use Rattle.std.specs.Option.{option_copied, IsSome};
+ghost use Rattle.ref_rewrite.specs.declared.cell_content.Content.{Content};
 ghost use Rattle.cell_store.specs.Places.{AreFilledPlaces};
-ghost use Rattle.cell_store.specs.Table.{item_at, filled_places, empty_table, most_filled, most_lines, HasPlace, HasItemsInside};
+ghost use Rattle.cell_store.specs.Table.{Table, item_at, filled_places, empty_table, most_filled, most_lines, HasPlace, HasItemsInside};
 ghost use Rattle.world_model.specs.Counts.{formulas_at, formulas_in};
 ghost use Rattle.world_model.specs.SheetChange.{LosesReferences, place_marked_hidden, place_titled};
 ghost use Rattle.world_model.specs.Writing.{table_written};
 ghost use Rattle.grid_range.specs.Change.{Fits};
 ghost use Rattle.cell_store.specs.Moved.{IsRoomAfter, lines_on};
-ghost use Rattle.dimension_ops.specs.References.{AreReferring, AreWithinOn};
+ghost use Rattle.dimension_ops.specs.References.{AreMarked, AreReferring, AreWithinOn, is_formula_at};
 ghost use Rattle.dimension_ops.specs.Lines.{SheetFollows, SheetMoves};
 
 use crate::following::{count_formulas, follow_places, references};
+use crate::lines::{keeps_places, lines_on};
 use crate::losing::lose_places;
 use basic_filter::Filter;
 use cell_store::{CellStore, tables_by_items};
@@ -18,13 +20,16 @@ use cell_value::{Duplicate, Items, NoMemory, Text};
 use grid_range::{Area, Axis, Change, SheetChange};
 use merge_ranges::Merges;
 use ref_rewrite::Content;
-use shared_grid::SharedGrid;
+use shared_grid::{Mark, SharedGrid};
 use std::alloc::{AllocError, Global};
 use std::marker::Model;
 use world_model::formulas_counted;
 
 /// What the cells of a sheet stand in.
 pub(crate) type Cells = SharedGrid<Content>;
+
+/// Where the formulas of a sheet stand.
+pub(crate) type Marks = SharedGrid<Mark>;
 
 /// A sheet of a spreadsheet (Sheets API v4 reference, Sheet).
 #[derive(Drop)]
@@ -33,6 +38,8 @@ pub struct Sheet {
     title: Text,
     hidden: bool,
     cells: Cells,
+    /// A mark wherever a formula stands. Where memory ended within a write one may stand where none does.
+    marks: Marks,
     formulas: u64,
     merges: Merges,
     filter: Option<Filter>,
@@ -42,6 +49,7 @@ impl Model for Sheet {
     ghost use Rattle.std.specs.Prelude.{◌≡◌, [], None};
     ghost use Rattle.world_model.specs.Counts.{formulas_in};
     ghost use Rattle.world_model.specs.Sheet.{PlaceSheet};
+    ghost use Rattle.dimension_ops.specs.References.{AreMarked};
     ghost use Rattle.dimension_ops.specs.Coded.{sheet_code};
 
     ghost Value = { PlaceSheet };
@@ -50,7 +58,8 @@ impl Model for Sheet {
 
     ghost view = { λ s. record { id = s.id; title = s.title; hidden = s.hidden; table = s.cells.table } };
 
-    ghost invariant = { λ s. (s.formulas ≡ formulas_in s.cells.table) × (s.merges ≡ []) × (s.filter ≡ None) };
+    ghost invariant = { λ s. (s.formulas ≡ formulas_in s.cells.table) × AreMarked s.cells.table s.marks.table
+        × (s.merges ≡ []) × (s.filter ≡ None) };
 }
 
 impl Sheet {
@@ -76,6 +85,7 @@ impl Sheet {
             title,
             hidden: false,
             cells: SharedGrid::new(alloc, rows, cols)?,
+            marks: SharedGrid::new(alloc, rows, cols)?,
             formulas: 0,
             merges: Merges::new(alloc),
             filter: None,
@@ -196,26 +206,24 @@ impl Sheet {
     {
         formulas_counted();
         let added = formulas_at(&content);
+        put_mark(&mut self.marks, row, column, added)?;
         let old = exchange(&mut self.cells, row, column, content)?;
-        self.formulas = self.formulas + added - formulas_at(&old);
+        let taken = formulas_at(&old);
+        take_mark(&mut self.marks, row, column, added);
+        self.formulas = self.formulas + added - taken;
         Ok(())
     }
 
-    /// The places of the formulas with a reference to the sheet with the id, by rows. A sheet without
-    /// formulas isn't walked.
+    /// The places of the formulas with a reference to the sheet with the id, by rows. No other cells than
+    /// those of formulas are visited.
     ///
     /// # Errors
     ///
     /// [`NoMemory`] where memory runs out.
-    pub(crate) fn references(&self, alloc: Global, sheet: u32) -> Result<Vec<(u32, u32)>, NoMemory>
+    pub(crate) fn references(&self, sheet: u32) -> Result<Vec<(u32, u32)>, NoMemory>
         ensures { IfOk result (λ places. AreReferring sheet self.now.table places.items) }
     {
-        formulas_counted();
-        tables_by_items::<Content>();
-        if self.formulas == 0 {
-            return Ok(Vec::new(alloc));
-        }
-        references(&self.cells, sheet)
+        references(&self.cells, &self.marks, sheet)
     }
 
     /// Has those formulas follow the change in their places.
@@ -244,16 +252,20 @@ impl Sheet {
         requires room { IsRoomAfter axis change.now self.table }
         ensures { IfOk result (SheetMoves axis change.now self) }
     {
-        formulas_counted();
         tables_by_items::<Content>();
         let mut cells = self.cells;
+        let mut marks = self.marks;
+        items_inside(&cells);
+        let stay = keeps_places(change, lines_on(axis, cells.rows(), cells.cols()));
         cells.change(axis, change)?;
-        let formulas = counted_again(&cells, self.formulas)?;
+        marks.change(axis, change)?;
+        let formulas = counted_again(&cells, &marks, self.formulas, stay)?;
         Ok(Sheet {
             id: self.id,
             title: self.title,
             hidden: self.hidden,
             cells,
+            marks,
             formulas,
             merges: self.merges,
             filter: self.filter,
@@ -274,15 +286,55 @@ impl Sheet {
     }
 }
 
-/// How many formulas the cells hold, of which they held that many before; without any they aren't walked.
-fn counted_again(cells: &Cells, before: u64) -> Result<u64, NoMemory>
-    requires { before ≡ 0 → formulas_in cells.now.table ≡ 0 }
+/// Each item of the cells stands in the sheet.
+fn items_inside(cells: &Cells)
+    ensures { HasItemsInside cells.now.table }
+{
+    let _held = cells.get(0, 0);
+}
+
+/// How many formulas the cells hold: as many as before where they stayed in their places, and else they are
+/// counted where marks stand.
+fn counted_again(cells: &Cells, marks: &Marks, before: u64, stay: bool) -> Result<u64, NoMemory>
+    requires marked { AreMarked cells.now.table marks.now.table }
+    requires stay { IsTrue stay → formulas_in cells.now.table ≡ before }
     ensures { IfOk result (λ count. count ≡ formulas_in cells.now.table) }
 {
-    if before == 0 {
-        return Ok(0);
+    if stay {
+        return Ok(before);
     }
-    count_formulas(cells)
+    count_formulas(cells, marks)
+}
+
+/// Marks the place where a formula comes to stand there.
+///
+/// # Errors
+///
+/// [`NoMemory`] where memory runs out.
+fn put_mark(marks: &mut Marks, row: u32, column: u32, formulas: u64) -> Result<(), NoMemory>
+    requires { HasPlace marks.old.table row column }
+    ensures others { (table : Table Content) → AreMarked table marks.old.table → AreMarked table marks.new.table }
+    ensures marked { OnOk result (0 < formulas → IsSome (item_at marks.new.table row column)) }
+{
+    tables_by_items::<Mark>();
+    if formulas == 0 {
+        return Ok(());
+    }
+    match marks.put(row, column, Mark) {
+        Ok(_) => Ok(()),
+        Err(_) => Err(NoMemory),
+    }
+}
+
+/// Takes the mark from the place where no formula came to stand there. It stays where memory runs out.
+fn take_mark(marks: &mut Marks, row: u32, column: u32, formulas: u64)
+    ensures { (table : Table Content) → (formulas ≡ 0 → is_formula_at table (row, column) ≡ Rattle.std.specs.Prelude.false)
+        → AreMarked table marks.old.table → AreMarked table marks.new.table }
+{
+    tables_by_items::<Mark>();
+    if formulas == 0 {
+        drop(marks.take(row, column));
+    }
 }
 
 /// One where what a place holds is a formula, or else none.
@@ -327,6 +379,7 @@ impl Duplicate for Sheet {
             title: self.title.duplicate()?,
             hidden: self.hidden,
             cells: self.cells.copy()?,
+            marks: self.marks.copy()?,
             formulas: self.formulas,
             merges: self.merges.duplicate()?,
             filter: None,

@@ -4,6 +4,7 @@ use Rattle.std.specs.Option.{option_map}
 use Rattle.cell_store.specs.Table.{item_at}
 use Rattle.world_model.specs.PlaceChange.{content_followed}
 use Rattle.dimension_ops.specs.References.{IsContentWithinOn, followed_at}
+use Rattle.dimension_ops.proofs.Marked.{keeps_on}
 use Rattle.dimension_ops.proofs.Places.{apart_behind, fold_more, item_at_place}
 use Rattle.dimension_ops.proofs.following.follow_places.Goals as goal
 
@@ -30,5 +31,6 @@ loop-place-preserved c =
           ∙ ap (λ b. cond b (option_map after held) held)
           (apart_behind c.args.places.now c.loop-place.place-index k d (0, 0) c.requires.in_order (omega arith) there)
           ∙ c.loop-place.invariant.others k d (omega arith) there;
-      formulas = c.follow_at.ensures.formulas_stay ∙ c.loop-place.invariant.formulas;
+      formulas = keeps_on c.args.cells.now.table c.loop-place.cells.table c.follow_at.new.cells.table
+          c.loop-place.invariant.formulas c.follow_at.ensures.formulas;
     }

@@ -1,8 +1,7 @@
 use Rattle.std.proofs.Common.{◌≡◌, ℕ, ◌≤◌, ◌<◌, length, get_or, take}
 use Rattle.std.specs.List.{fold}
 use Rattle.cell_store.specs.Table.{item_at}
-use Rattle.world_model.specs.Counts.{formulas_in}
-use Rattle.dimension_ops.specs.References.{followed_at}
+use Rattle.dimension_ops.specs.References.{KeepsFormulas, followed_at}
 use Rattle.dimension_ops.proofs.following.follow_places.Given as goal
 
 -- what stands at the places so far has followed, and what stands at the others is as it was
@@ -13,5 +12,5 @@ invariant-loop-place l = record {
   others : (k : ℕ) (d : ℕ × ℕ) → l.place-index ≤ k → k < length l.places
       → item_at l.cells.table (get_or l.places k d).0 (get_or l.places k d).1
       ≡ item_at l.initial.cells.table (get_or l.places k d).0 (get_or l.places k d).1;
-  formulas : formulas_in l.cells.table ≡ formulas_in l.initial.cells.table;
+  formulas : KeepsFormulas l.initial.cells.table l.cells.table;
 }

@@ -9,4 +9,5 @@ returns c =
     subst (AreReferring c.args.sheet c.args.cells.now.table)
     (sym (filter_same _ (refers_at c.args.sheet c.args.cells.now.table) _ (λ x b f' k. (search rules, search rules)) _ _
     c.retain.ensures.filtered))
-    (referring c.args.sheet c.args.cells.now.table c.in_ok-places.places.items c.in_ok-places.ensures)
+    (referring c.args.sheet c.args.cells.now.table c.args.marks.now.table c.in_ok-places.places.items c.requires
+    c.in_ok-places.ensures)

@@ -1,8 +1,9 @@
-use Rattle.std.proofs.Common.{sym, ap, subst}
+use Rattle.std.proofs.Common.{sym, ap, subst, ◌∙◌}
 use Rattle.world_model.specs.PlaceChange.{FollowsInPlace}
 use Rattle.world_model.specs.Sheet.{PlaceSheet}
 use Rattle.dimension_ops.specs.References.{AreReferring}
 use Rattle.dimension_ops.proofs.Formulas.{sheet_follows}
+use Rattle.dimension_ops.proofs.Marked.{kept_marked}
 use Rattle.dimension_ops.proofs.sheet.Sheet.follow.Goals as goal
 
 pub returns : goal.returns
@@ -19,3 +20,21 @@ returns c = record {
       (subst (λ (sheet : PlaceSheet). AreReferring c.args.by.now.sheet sheet.table c.args.places.now) (sym c.self.view_is)
       c.requires.places)));
 }
+
+pub invariant_of-self : goal.invariant_of-self
+invariant_of-self c = (
+  c.self.invariant.0 ∙ sym c.follow_places.ensures.formulas.count,
+  kept_marked c.self.inside.cells.table c.follow_places.new.cells.table c.self.inside.marks.table c.follow_places.ensures.formulas
+      c.self.invariant.1,
+  c.self.invariant.2,
+  c.self.invariant.3,
+)
+
+pub invariant_of-self-2 : goal.invariant_of-self-2
+invariant_of-self-2 c = (
+  c.self.invariant.0 ∙ sym c.follow_places.ensures.formulas.count,
+  kept_marked c.self.inside.cells.table c.follow_places.new.cells.table c.self.inside.marks.table c.follow_places.ensures.formulas
+      c.self.invariant.1,
+  c.self.invariant.2,
+  c.self.invariant.3,
+)

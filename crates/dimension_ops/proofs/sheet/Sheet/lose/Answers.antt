@@ -5,6 +5,7 @@ use Rattle.world_model.specs.Sheet.{PlaceSheet}
 use Rattle.world_model.specs.SheetChange.{content_without}
 use Rattle.dimension_ops.specs.References.{AreReferring}
 use Rattle.dimension_ops.proofs.LostReferences.{cols_stay, items_lost, rows_stay}
+use Rattle.dimension_ops.proofs.Marked.{kept_marked}
 use Rattle.dimension_ops.proofs.sheet.Sheet.lose.Goals as goal
 
 pub returns : goal.returns
@@ -27,3 +28,21 @@ returns c =
           ∙ ap (λ (sheet : PlaceSheet). option_map (content_without c.args.sheet) (item_at sheet.table row col))
           c.self.view_is;
     }
+
+pub invariant_of-self : goal.invariant_of-self
+invariant_of-self c = (
+  c.self.invariant.0 ∙ sym c.lose_places.ensures.formulas.count,
+  kept_marked c.self.inside.cells.table c.lose_places.new.cells.table c.self.inside.marks.table c.lose_places.ensures.formulas
+      c.self.invariant.1,
+  c.self.invariant.2,
+  c.self.invariant.3,
+)
+
+pub invariant_of-self-2 : goal.invariant_of-self-2
+invariant_of-self-2 c = (
+  c.self.invariant.0 ∙ sym c.lose_places.ensures.formulas.count,
+  kept_marked c.self.inside.cells.table c.lose_places.new.cells.table c.self.inside.marks.table c.lose_places.ensures.formulas
+      c.self.invariant.1,
+  c.self.invariant.2,
+  c.self.invariant.3,
+)
