@@ -19,7 +19,8 @@ pub struct Visit<L> {
     pub(crate) back: Option<(Ended, L)>,
 }
 
-/// Links in memory as doors, some of whose calls fail. They fail also where no link is left, or no room for a port.
+/// Links in memory as doors, some of whose calls are to fail; a call fails also where no link is left, or no room for a
+/// port. Contracts see of each call what [`Doors`] says of it.
 pub struct MemoryDoors<L: Duplex + Drop> {
     coming: Vec<(L, Bytes)>,
     accepted: Vec<Visit<L>>,
