@@ -18,6 +18,7 @@ use conversation::cut_off_laws;
 use sheets_cli::{reply_laws, sheets_main};
 use sheets_http::{MemorySink, MemorySource};
 use std::alloc::Global;
+use std::sync::Wait;
 
 /// How the program ended: its status, its output and its faults.
 #[derive(Drop)]
@@ -38,7 +39,14 @@ impl Ran {
 
 /// Runs the program on a stream that is read and written in pieces of that size; the read and the
 /// write of these numbers fail, counted from 1.
-fn run(rt: &HostRuntime, word: &str, stream: &[u8], piece: u64, read: u64, write: u64) -> Ran {
+fn run<R: AllocGlobal + Wait>(
+    rt: &R,
+    word: &str,
+    stream: &[u8],
+    piece: u64,
+    read: u64,
+    write: u64,
+) -> Ran {
     let alloc = rt.alloc();
     let words = words_of(alloc, word);
     let mut input = MemorySource::new(bytes_of(alloc, stream), piece.max(1), calls(alloc, read));
@@ -89,7 +97,7 @@ fn answers_conversations_however_they_are_cut(rt: HostRuntime) {
     }
 }
 
-fn is_answered_in_pieces(rt: &HostRuntime, row: &Conversation, piece: u64) -> bool {
+fn is_answered_in_pieces<R: AllocGlobal + Wait>(rt: &R, row: &Conversation, piece: u64) -> bool {
     run(rt, row.1, row.2, piece, 0, 0).is(row.3, row.4, row.5)
 }
 
@@ -366,7 +374,7 @@ fn bounds_the_texts_of_batches(rt: HostRuntime) {
 }
 
 /// Whether a batch that enters a text of so many bytes is answered so.
-fn is_entered(rt: &HostRuntime, row: &(usize, &str, &str)) -> bool {
+fn is_entered<R: AllocGlobal + Wait>(rt: &R, row: &(usize, &str, &str)) -> bool {
     let stream = entering(rt.alloc(), row.0);
     let response = response_of(rt.alloc(), row.1, "", row.2);
     let ran = run(rt, "run", stream.as_bytes(), 100_000, 0, 0);
@@ -401,13 +409,13 @@ fn entering(alloc: Global, bytes: usize) -> String {
 }
 
 /// Whether requests of the owner are served to their end, and the last one is answered so.
-fn is_answered(rt: &HostRuntime, row: &Exchange) -> bool {
+fn is_answered<R: AllocGlobal + Wait>(rt: &R, row: &Exchange) -> bool {
     is_answered_to(rt, row, OWNER)
 }
 
 /// Whether requests, each with that field, are served to their end, and the last one is answered so: the
 /// rest of its status line, a further field, and its body.
-fn is_answered_to(rt: &HostRuntime, row: &Exchange, user: &str) -> bool {
+fn is_answered_to<R: AllocGlobal + Wait>(rt: &R, row: &Exchange, user: &str) -> bool {
     let stream = stream_of(rt.alloc(), row.0, user);
     let response = response_of(rt.alloc(), row.1, row.2, row.3);
     let ran = run(rt, "run", stream.as_bytes(), 100_000, 0, 0);
@@ -467,7 +475,7 @@ fn keeps_heads_within_their_bounds(rt: HostRuntime) {
 }
 
 /// Whether a stream is answered so, and ends so.
-fn is_answered_at_length(rt: &HostRuntime, row: &LongHead) -> bool {
+fn is_answered_at_length<R: AllocGlobal + Wait>(rt: &R, row: &LongHead) -> bool {
     let alloc = rt.alloc();
     let mut stream = String::new(alloc);
     add(&mut stream, row.0);
@@ -518,7 +526,7 @@ fn answers_whole_requests_before_a_cut(rt: HostRuntime) {
 }
 
 /// Whether of that many bytes of the stream the whole requests are answered, and the rest is told.
-fn is_answered_before(rt: &HostRuntime, stream: &[u8], cut: usize) -> bool {
+fn is_answered_before<R: AllocGlobal + Wait>(rt: &R, stream: &[u8], cut: usize) -> bool {
     let alloc = rt.alloc();
     let begun = stream.get(..cut).unwrap_or(stream);
     let first = REQUESTS[0].len();
@@ -584,7 +592,7 @@ fn ends_at_a_failed_write(rt: HostRuntime) {
 }
 
 /// Runs the program on the requests; the read and the write of these numbers fail, counted from 1.
-fn run_requests(rt: &HostRuntime, read: u64, write: u64) -> Ran {
+fn run_requests<R: AllocGlobal + Wait>(rt: &R, read: u64, write: u64) -> Ran {
     let stream = joined(rt.alloc(), &REQUESTS, 2);
     run(rt, "run", stream.as_slice(), PIECE, read, write)
 }
