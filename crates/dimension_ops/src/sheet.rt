@@ -214,8 +214,8 @@ impl Sheet {
         Ok(())
     }
 
-    /// The places of the formulas with a reference to the sheet with the id, by rows. No other cells than
-    /// those of formulas are visited.
+    /// The places of the formulas with a reference to the sheet with the id, by rows. Only marked cells are
+    /// visited: those of formulas, and any where memory ended within a write.
     ///
     /// # Errors
     ///

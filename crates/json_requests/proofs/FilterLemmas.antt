@@ -1,5 +1,5 @@
 -- Lists of some values.
-use Rattle.std.proofs.Common.{◌≡◌, ◌∙◌, ◌≤◌, ap, sym, ℕ, List, Option, [], ◌∷◌, ◌++◌, true, None, length, refl, arith}
+use Rattle.std.proofs.Common.{◌≡◌, ◌∙◌, ◌≤◌, ap, sym, List, Option, [], ◌∷◌, ◌++◌, true, None, length, refl, arith}
 use Rattle.std.specs.Prelude.{Err}
 use Rattle.std.specs.Option.{option_map}
 use Rattle.serde_json.specs.Data.{Data, array}

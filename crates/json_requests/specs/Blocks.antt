@@ -1,6 +1,6 @@
 -- The values of a write (Google Sheets API v4 reference, `values` and `majorDimension` of ValueRange, and `rows` of
 -- UpdateCellsRequest).
-use Rattle.std.specs.Prelude.{ℕ, Bool, true, false, List, [], Option, None, Some, unwrap_or}
+use Rattle.std.specs.Prelude.{Bool, true, false, List, [], Option, None, Some, unwrap_or}
 use Rattle.grid_range.specs.declared.axis.Axis.{Axis}
 use Rattle.grid_range.specs.declared.axis.Axis.TheVariants.{Rows, Columns}
 use Rattle.cell_value.specs.declared.cell.Block.{Block}

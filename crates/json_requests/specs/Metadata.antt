@@ -1,10 +1,9 @@
 -- DeveloperMetadata, its location, its look-up and data filters (Google Sheets API v4 reference), and the requests for
 -- metadata.
-use Rattle.std.specs.Prelude.{ℕ, Bool, true, false, ◌&&◌, List, codes, length, nat_lt, nat_le, if◌then◌else◌, Option, None, Some, option_map, unwrap_or, Ok, Err, ⊤}
+use Rattle.std.specs.Prelude.{ℕ, Bool, true, false, ◌&&◌, List, codes, length, nat_lt, nat_le, if◌then◌else◌, Option, None, Some, option_map, unwrap_or, Ok, Err}
 use Rattle.std.specs.Str.{bytes_eq}
 use Rattle.serde_json.specs.Data.{Data, null, boolean, number, string, array, object}
 use Rattle.serde_json.specs.Find.{as_str}
-use Rattle.grid_range.specs.declared.area.Area.{Area}
 use Rattle.dev_metadata.specs.declared.types.SpotKind.{SpotKind}
 use Rattle.dev_metadata.specs.declared.types.SpotKind.TheVariants as spot
 use Rattle.dev_metadata.specs.declared.types.SightKind.{SightKind}
@@ -24,7 +23,7 @@ use Rattle.json_requests.specs.declared.request.Request.{Request}
 use Rattle.json_requests.specs.declared.request.Request.TheVariants as request
 use Rattle.json_shapes.specs.declared.fault.ShapeFault.TheVariants.{BadShape, Unsupported}
 use Rattle.json_shapes.specs.Reading.{Reading, Shape, made}
-use Rattle.json_shapes.specs.Members.{Fields, Ways, optional, required, also, making, way, or_else, just_one, first_part, object_of}
+use Rattle.json_shapes.specs.Members.{Fields, optional, required, also, making, way, or_else, just_one, first_part, object_of}
 use Rattle.json_shapes.specs.Shapes.{text, word, anything, list_of, such_that}
 use Rattle.json_shapes.specs.Scalars.{index}
 use Rattle.json_shapes.specs.Masks.{PathList, states, taken, masked}

@@ -1,5 +1,5 @@
 -- The requests of a batch (Google Sheets API v4 reference, Request).
-use Rattle.std.specs.Prelude.{ℕ, List, codes, if◌then◌else◌, Option, None, Some, Ok, Err, ⊤, String, string_bytes}
+use Rattle.std.specs.Prelude.{ℕ, List, codes, if◌then◌else◌, Option, None, Some, Ok, Err, String, string_bytes}
 use Rattle.std.specs.Str.{bytes_eq}
 use Rattle.serde_json.specs.Data.{Data, null, boolean, number, string, array, object, Members, no_members, member}
 use Rattle.serde_json.specs.View.{view}
@@ -12,8 +12,7 @@ use Rattle.json_requests.specs.declared.request.Step.TheVariants as step
 use Rattle.json_requests.specs.declared.kind.RequestKind.{RequestKind}
 use Rattle.json_requests.specs.declared.kind.RequestKind.TheVariants as kind
 use Rattle.json_shapes.specs.Reading.{Reading, Shape}
-use Rattle.json_shapes.specs.Members.{Fields, is_null, are_null, required, optional, also, making, object_of}
-use Rattle.json_shapes.specs.Shapes.{list_of, only_false}
+use Rattle.json_shapes.specs.Members.{is_null, are_null, object_of}
 use Rattle.json_requests.specs.Sheets.{add_sheet, delete_sheet}
 use Rattle.json_requests.specs.SheetUpdates.{update_sheet_properties}
 use Rattle.json_requests.specs.Cells.{update_cells, append_cells}

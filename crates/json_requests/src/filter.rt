@@ -1,5 +1,4 @@
-ghost use Rattle.std.specs.Prelude.{◌≡◌, [], unwrap_or, IfOk};
-ghost use Rattle.serde_json.specs.View.{view};
+ghost use Rattle.std.specs.Prelude.{◌≡◌, [], unwrap_or};
 ghost use Rattle.json_shapes.specs.Reading.{made};
 ghost use Rattle.json_requests.specs.declared.request.Request.TheVariants.{SetBasicFilter, ClearBasicFilter};
 ghost use Rattle.json_requests.specs.Filters.{criterion_of, criterion, criterion_under, filter_of, basic_filter, set_basic_filter, clear_basic_filter};

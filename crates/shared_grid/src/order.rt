@@ -149,8 +149,8 @@ impl Order {
         Ok(order)
     }
 
-    /// [`Order::changed`], with a step for each line before, whose entry is passed over or given up, and
-    /// one for each line after, whose entry is made.
+    /// [`Order::changed`], with a step for each line before and one for each line after, which are the most
+    /// that it takes: where each line stays where it is, none is passed over.
     ///
     /// # Errors
     ///
