@@ -171,7 +171,9 @@ module _ {T E : Type 0} (list : T → List E) (pair : T → ℕ × ℕ) (caller 
       let x = home.value in
       let w : View E = record v { stage = Holds; seen = list x } in
       let known = k.kept.known id v at (away_live away) in
-      let sees : StartsWith (list x) v.seen = (known.seen.0, home.list_is ∙ known.seen.1) in (
+      let sees : StartsWith (list x) v.seen = (known.seen.0, home.list_is ∙ known.seen.1) in
+      let entries : All (λ e. caller e < k.drawn) (drop (length (list start)) (list x)) =
+      subst (λ all. All (λ e. caller e < k.drawn) (drop (length (list start)) all)) (sym home.list_is) k.kept.entries in (
         w,
         takes 0 (Some x),
         ap (λ hs. get_elem? hs 0) home.home,
@@ -185,8 +187,7 @@ module _ {T E : Type 0} (list : T → List E) (pair : T → ℕ × ℕ) (caller 
               (set s.homes 0 none) s.views k.all (list x) id w k.kept
               (turns_held list pair caller start most (set s.homes 0 none) s.views (list x) id v w at
               (ap (λ hs. set hs 0 none) home.home) refl (λ j u _ there. home.free j u there))
-              k.kept.bound (subst (λ all. All (λ e. caller e < k.drawn) (drop (length (list start)) all))
-              (sym home.list_is) k.kept.entries)
+              k.kept.bound entries
               (λ j u _ there m. subst (λ all. Known list pair caller start most k.drawn all u) (sym home.list_is) m)
               (λ _. known_whole list pair caller start most k.drawn k.all (list x) v Holds sees known)
               (λ g. absurd (let y : Holds ≡ Gone = g in cc))
@@ -200,6 +201,10 @@ module _ {T E : Type 0} (list : T → List E) (pair : T → ℕ × ℕ) (caller 
             sees,
             subst (λ all. NoneOf caller v.number
                 (drop (length v.seen) all)) (sym home.list_is) (known.own numbered),
+            All-weaker (λ e. caller e < k.drawn) (λ e. caller e < v.most)
+                (λ e below. let bound = k.kept.bound in let most_is = known.most_is in omega arith)
+                (drop (length v.start) (list x))
+                (subst (λ l. All (λ e. caller e < k.drawn) (drop (length l) (list x))) (sym known.start_is) entries),
             home.pair_is ∙ sym known.pair_is,
           )),
           (λ else. absurd (else (found_word s k ∙ free))),

@@ -1,5 +1,5 @@
 -- What each step tells of a seat, before and after it, and of the number that it found.
-use Rattle.std.specs.Prelude.{◌≡◌, ◌≢◌, ℕ, ◌+◌, ◌<◌, ◌≤◌, true, false, List, [], ◌∷◌, drop, length, ◌++◌, max}
+use Rattle.std.specs.Prelude.{◌≡◌, ◌≢◌, ℕ, ◌+◌, ◌<◌, ◌≤◌, true, false, List, [], ◌∷◌, All, drop, length, ◌++◌, max}
 use Rattle.std.specs.Prelude.{Option as Maybe, Some, None, IfSome}
 use Rattle.atomic_table.specs.Table.{Me}
 use Rattle.history_lock.specs.declared.view.View.{View}
@@ -51,12 +51,14 @@ Stayed before after = after ≡ before
 abbrev pub Opened : {T E : Type 0} → Me (Maybe T) (View E) → Me (Maybe T) (View E) → Type 0
 Opened before after = after ≡ (record before.0 { stage = Holds }, (0, None) ∷ [])
 
--- with 0 found the turn is taken. The list begins with what was seen, and has no further entry of the own number
+-- with 0 found the turn is taken. The list begins with what was seen, and has no further entry of the own number. Each
+-- entry since the opening is from one of so many callers
 abbrev pub Took : {T E : Type 0} → (T → List E) → (T → ℕ × ℕ) → (E → ℕ) → Me (Maybe T) (View E) → ℕ
     → Me (Maybe T) (View E) → Type 0
 Took {T} list pair caller before found after =
     (found ≡ 0 → (value : T) × (after ≡ (record before.0 { stage = Holds; seen = list value }, (0, Some value) ∷ []))
     × StartsWith (list value) before.0.seen × NoneOf caller before.0.number (drop (length before.0.seen) (list value))
+    × All (λ entry. caller entry < before.0.most) (drop (length before.0.start) (list value))
     × (pair value ≡ before.0.pair))
     × (found ≢ 0 → after ≡ before)
 

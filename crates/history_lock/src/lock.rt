@@ -1,4 +1,4 @@
-ghost use Rattle.std.specs.Prelude.{◌≡◌, ◌≢◌, ℕ, ◌+◌, ◌<◌, ◌≤◌, true, [], ◌∷◌, drop, length, Some, None, IfOk, IfErr};
+ghost use Rattle.std.specs.Prelude.{◌≡◌, ◌≢◌, ℕ, ◌+◌, ◌<◌, ◌≤◌, true, [], ◌∷◌, All, drop, length, Some, None, IfOk, IfErr};
 ghost use Rattle.std.specs.Prelude.{IfSome};
 ghost use Rattle.history_lock.specs.declared.view.Stage.TheVariants.{Away, Holds};
 ghost use Rattle.history_lock.specs.History.{StartsWith, NoneOf, AllOf, longer};
@@ -92,6 +92,10 @@ impl<T: Told, A: Allocator> Lock<T, A> {
         // The list begins with what the pass has seen. What follows has no entry of the pass's number.
         ensures list { StartsWith (T.list result.1) (seen_by pass) }
         ensures own { NoneOf T.caller (number_of pass) (drop (length (seen_by pass)) (T.list result.1)) }
+
+        // Each entry since the opening is from one of so many callers.
+        ensures callers { All (λ entry. T.caller entry < callers_of self.now)
+            (drop (length (T.list (opened_with self.now))) (T.list result.1)) }
         ensures pair { T.pair result.1 ≡ T.pair (opened_with self.now) }
     {
         let (number, badge) = pass.into_parts();
@@ -270,6 +274,8 @@ impl<T: Told, A: Allocator> Lock<T, A> {
         requires { IsPassOf T.list T.pair self pass }
         ensures list { StartsWith (T.list result) (seen_by pass) }
         ensures own { NoneOf T.caller (number_of pass) (drop (length (seen_by pass)) (T.list result)) }
+        ensures callers { All (λ entry. T.caller entry < callers_of self)
+            (drop (length (T.list (opened_with self))) (T.list result)) }
         ensures pair { T.pair result ≡ T.pair (opened_with self) }
     {
         let (turn, value) = self.take(rt, pass);
