@@ -2,3 +2,4 @@ pub mod Histories
 pub mod Responding
 pub mod Conversations
 pub mod Visits
+pub mod NobodyElse

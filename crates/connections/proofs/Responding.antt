@@ -1,6 +1,6 @@
 -- Replies of a desk's calls as responses.
 use Rattle.std.proofs.Common.{◌≡◌, inl, inr, ℕ, Bool, true, false, List, [], ◌∷◌, ◌++◌, length, refl, sym, ap, subst, ◌∙◌, rules}
-use Rattle.std.specs.Prelude.{Option, Some, None, IfSome, ◌≢◌, ◌==◌, ◌&&◌, if◌then◌else◌, IsTrue}
+use Rattle.std.specs.Prelude.{Option, Some, None, IfSome, ◌≢◌, ◌<◌, ◌==◌, ◌&&◌, if◌then◌else◌, IsTrue}
 use Rattle.std.specs.Option.{option_map_or}
 use Rattle.std.specs.List.{list_any}
 use Rattle.history_lock.specs.History.{StartsWith}
@@ -12,7 +12,9 @@ use Rattle.desk.specs.declared.entry.Noted.{Noted}
 use Rattle.desk.specs.declared.entry.Noted.TheVariants as noted
 use Rattle.desk.specs.declared.entry.Reply.{Reply}
 use Rattle.desk.specs.Steps.{Outcome, IsServed, served, entry_of, is_full, StepsTo, history_full}
-use Rattle.desk.specs.Points.{IsCallAt, caller_of, entries_of, last_counted}
+use Rattle.desk.specs.declared.desk.Desk.{Desk}
+use Rattle.desk.specs.Desks.{pair_at, callers_at}
+use Rattle.desk.specs.Points.{IsCallAt, AreCountsOf, caller_of, entries_of, last_counted}
 use Rattle.conversation.specs.declared.replies.Said.{Said}
 use Rattle.conversation.specs.declared.replies.Said.TheVariants as said
 use Rattle.conversation.specs.declared.ended.Ended.{Ended}
@@ -43,9 +45,9 @@ module _ (plain : List Entry → Ask → Outcome → Type 0)
       cases false = served_too plainly.status (is_served es ask plainly made).status_is
 
   -- a reply with a body has a status that a response has
-  pub call_served : (pair : ℕ × ℕ) (caller : ℕ) (ask : Ask) (before after : List Noted) (reply : Reply)
-      → IsCallAt plain pair caller ask before after reply → IfSome reply.body (λ _. IsServedStatus reply.status)
-  call_served pair caller ask before after reply call = elim call.happens.one_of [
+  pub call_served : (pair : ℕ × ℕ) (callers caller : ℕ) (ask : Ask) (before after : List Noted) (reply : Reply)
+      → IsCallAt plain pair callers caller ask before after reply → IfSome reply.body (λ _. IsServedStatus reply.status)
+  call_served pair callers caller ask before after reply call = elim call.happens.one_of [
     | inl is ↦ subst (λ (o : Option (List ℕ)). IfSome o (λ _. IsServedStatus reply.status)) (sym is.body_is)
         (subst IsServedStatus (sym is.status_is) (steps_served pair.0 (entries_of call.told) ask is.outcome is.steps))
     | inr (inl is) ↦ subst (λ (o : Option (List ℕ)). IfSome o (λ _. IsServedStatus reply.status)) (sym is.body_is)
@@ -72,42 +74,55 @@ no_memory pair told = record {
   faults = (last_counted pair.1 told, last_counted pair.1 told);
 }
 
-module _ (plain : List Entry → Ask → Outcome → Type 0) (pair : ℕ × ℕ) (users : UserTable) (caller : ℕ) where
+-- what is true of every value is true of one that may be there
+anyway : {A : Type 0} {P : A → Type 0} (o : Option A) → ((a : A) → P a) → IfSome o P
+anyway None always = tt
+anyway (Some a) always = always a
+
+module _ {E K W : Type 0} (plain : List Entry → Ask → Outcome → Type 0) (failures : K → ℕ) (steady : K → Bool)
+    (desk : Desk E K W) (users : UserTable) (caller : ℕ) where
   -- what is said of a call's reply is said of an answer
   pub said_answer : (before : List Noted) (wire : Wire) (after : List Noted) (reply : Reply) (ask : Ask)
-      → ask ≡ ask_of users wire → IsCallAt plain pair caller ask before after reply → (what : Said)
-      → IsSaid (λ response. response ≡ response_of wire.close reply) wire.close what
-      → IsSaid (IsAnswer plain pair users caller before wire after) wire.close what
-  said_answer before wire after reply ask same call what h = cases what h
+      → ask ≡ ask_of users wire → IsCallAt plain (pair_at desk) (callers_at desk) caller ask before after reply
+      → (earlier : K) × (later : K) × AreCountsOf failures steady reply.faults earlier later
+      → (what : Said) → IsSaid (λ response. response ≡ response_of wire.close reply) wire.close what
+      → IsSaid (IsAnswer plain failures steady desk users caller before wire after) wire.close what
+  said_answer before wire after reply ask same call counts what h = cases what h
     where
       answer : (response : List ℕ) → response ≡ response_of wire.close reply
-          → IsAnswer plain pair users caller before wire after response
+          → IsAnswer plain failures steady desk users caller before wire after response
       answer response is = record {
         reply = reply;
-        call = subst (λ (a : Ask). IsCallAt plain pair caller a before after reply) same call;
+        call = subst (λ (a : Ask). IsCallAt plain (pair_at desk) (callers_at desk) caller a before after reply) same
+            call;
+        counts = anyway reply.body (λ body. counts);
         response_is = is;
       }
 
       cases : (what : Said) → IsSaid (λ response. response ≡ response_of wire.close reply) wire.close what
-          → IsSaid (IsAnswer plain pair users caller before wire after) wire.close what
+          → IsSaid (IsAnswer plain failures steady desk users caller before wire after) wire.close what
       cases (said.Response bytes) h = answer bytes h
       cases said.Constant h = answer (no_memory_text wire.close) h
       cases said.Lost h = (h.0, answer h.0 h.1)
 
   -- a request for whose ask no memory is found is answered at once
   pub answered_for_memory : (told : List Noted) (wire : Wire)
-      → IsAnswer plain pair users caller told wire told (no_memory_text wire.close)
+      → IsAnswer plain failures steady desk users caller told wire told (no_memory_text wire.close)
   answered_for_memory told wire = record {
-    reply = no_memory pair told;
+    reply = no_memory (pair_at desk) told;
     call = record {
       told = told;
       begins = starts_whole told;
-      others = nothing_behind (λ item. caller_of item ≢ caller) told;
+      others = record {
+        not_own = nothing_behind (λ item. caller_of item ≢ caller) told;
+        numbered = nothing_behind (λ item. caller_of item < callers_at desk) told;
+      };
       happens = record {
         at_is = refl;
         one_of = inr (inr (record { status_is = refl; body_is = refl; item = refl; counts_are = refl }));
       };
     };
+    counts = tt;
     response_is = refl;
   }
 
@@ -117,7 +132,7 @@ module _ (plain : List Entry → Ask → Outcome → Type 0) (pair : ℕ × ℕ)
 
   -- behind a call the list begins with what stood there before it
   call_goes : (ask : Ask) (before after : List Noted) (reply : Reply)
-      → IsCallAt plain pair caller ask before after reply → StartsWith after before
+      → IsCallAt plain (pair_at desk) (callers_at desk) caller ask before after reply → StartsWith after before
   call_goes ask before after reply call =
       starts_through after call.told before (elim call.happens.one_of [
         | inl is ↦ subst (λ (l : List Noted). StartsWith l call.told) (sym is.item)
@@ -128,8 +143,8 @@ module _ (plain : List Entry → Ask → Outcome → Type 0) (pair : ℕ × ℕ)
       ]) call.begins
 
   pub served_goes : (room : ℕ) (stream : Option (List ℕ)) (before after : Moment (List Noted)) (end : Ended)
-      → IsConversation (IsAnswer plain pair users caller) room stream before after end
+      → IsConversation (IsAnswer plain failures steady desk users caller) room stream before after end
       → StartsWith after.state before.state
-  served_goes = conversation_goes (IsAnswer plain pair users caller) (λ s t. StartsWith t s) starts_whole
-      (λ s t u p q. starts_through u t s q p)
+  served_goes = conversation_goes (IsAnswer plain failures steady desk users caller) (λ s t. StartsWith t s)
+      starts_whole (λ s t u p q. starts_through u t s q p)
       (λ s wire t response answer. call_goes (ask_of users wire) s t answer.reply answer.call)

@@ -1,5 +1,5 @@
 -- Requests that are answered by calls of a desk.
-use Rattle.std.specs.Prelude.{◌≡◌, ℕ, Bool, List, ◌++◌, Option, codes}
+use Rattle.std.specs.Prelude.{◌≡◌, ℕ, Bool, List, ◌++◌, Option, IfSome, codes}
 use Rattle.std.specs.Option.{option_and_then, option_map_or}
 use Rattle.sheets_http.specs.declared.request.Wire.{Wire}
 use Rattle.sheets_http.specs.Responses.{text_of_response}
@@ -11,7 +11,8 @@ use Rattle.desk.specs.declared.entry.Entry.{Entry}
 use Rattle.desk.specs.declared.entry.Noted.{Noted}
 use Rattle.desk.specs.declared.entry.Reply.{Reply}
 use Rattle.desk.specs.Steps.{Outcome}
-use Rattle.desk.specs.Points.{IsCallAt}
+use Rattle.desk.specs.Points.{IsCallAt, AreCountsOf}
+use Rattle.desk.specs.Desks.{pair_at, callers_at}
 use Rattle.conversation.specs.Responses.{no_memory_text}
 
 -- the tokens that are known, each with its user, where there is a table of them
@@ -34,11 +35,15 @@ response_of close reply =
     option_map_or (λ body. text_of_response reply.status close body) reply.body (no_memory_text close)
 
 -- A request of this caller is answered by a call at a point of the desk's list: the caller had seen the items before,
--- and has then seen those after.
-pub record IsAnswer (plain : List Entry → Ask → Outcome → Type 0) (pair : ℕ × ℕ) (users : UserTable) (caller : ℕ)
-    (before : List Noted) (wire : Wire) (after : List Noted) (response : List ℕ) : Type 0 where
+-- and has then seen those after. `failures` and `steady` are what a keeper tells of its faults.
+pub record IsAnswer {E K W : Type 0} (plain : List Entry → Ask → Outcome → Type 0) (failures : K → ℕ)
+    (steady : K → Bool) (desk : Desk E K W) (users : UserTable) (caller : ℕ) (before : List Noted) (wire : Wire)
+    (after : List Noted) (response : List ℕ) : Type 0 where
   pub reply : Reply
-  pub call : IsCallAt plain pair caller (ask_of users wire) before after reply
+  pub call : IsCallAt plain (pair_at desk) (callers_at desk) caller (ask_of users wire) before after reply
+  -- where there was a call, its counts of faults are those of a keeper before it and after it
+  pub counts : IfSome reply.body
+      (λ _. (earlier : K) × (later : K) × AreCountsOf failures steady reply.faults earlier later)
   pub response_is : response ≡ response_of wire.close reply
 
 -- who calls a desk for a connection: the desk, the users, and the pass

@@ -1,3 +1,4 @@
 pub mod Doors
 pub mod Calls
 pub mod Memory
+pub mod Alone

@@ -5,8 +5,8 @@ ghost use Rattle.history_lock.specs.History.{StartsWith};
 ghost use Rattle.history_lock.specs.Passes.{seen_by, number_of, given_by, count_of};
 ghost use Rattle.sheets_http.specs.Users.{user_of};
 ghost use Rattle.sheets_http.specs.Responses.{IsServedStatus};
-ghost use Rattle.desk.specs.Points.{IsCallAt};
-ghost use Rattle.desk.specs.Desks.{IsPass, pair_at};
+ghost use Rattle.desk.specs.Points.{IsCallAt, AreCountsOf};
+ghost use Rattle.desk.specs.Desks.{IsPass, pair_at, callers_at};
 ghost use Rattle.conversation.specs.Conversation.{at_moment, IsConversation, EndsAs, Counts, LosesFirst};
 ghost use Rattle.conversation.specs.Responses.{IsSaid};
 ghost use Rattle.connections.specs.Calls.{IsAnswer, ask_of, response_of};
@@ -41,7 +41,6 @@ impl<'a, E: Engine, K: Keeper> Model for Caller<'a, E, K> {
 
 impl<E: Engine, K: Keeper> Replies for Caller<'_, E, K> {
     ghost use Rattle.history_lock.specs.Passes.{seen_by, number_of, given_by, count_of};
-    ghost use Rattle.desk.specs.Desks.{pair_at};
     ghost use Rattle.connections.specs.Calls.{IsAnswer};
 
     type Context = (Desk<E, K>, Users, u32, Option<u64>, u64);
@@ -52,7 +51,7 @@ impl<E: Engine, K: Keeper> Replies for Caller<'_, E, K> {
 
     ghost at = { λ caller. seen_by caller.pass };
 
-    ghost answers = { λ about. IsAnswer E.plain (pair_at about.0) about.1 about.2 };
+    ghost answers = { λ about. IsAnswer E.plain K.failures K.steady about.0 about.1 about.2 };
 
     fn reply<R: Wait>(self, rt: &R, request: Wire) -> (Self, Said) {
         let close = request.close;
@@ -74,8 +73,9 @@ impl<'a, E: Engine, K: Keeper> Caller<'a, E, K> {
         ensures number { number_of result.0.pass ≡ number_of self.entry.pass }
         ensures drawn { (given_by result.0.pass ≡ given_by self.entry.pass)
             × (count_of result.0.pass ≡ count_of self.entry.pass) }
-        ensures call { IsCallAt E.plain (pair_at self.entry.desk) (number_of self.entry.pass) ask.now (seen_by self.entry.pass)
-            (seen_by result.0.pass) result.1 }
+        ensures call { IsCallAt E.plain (pair_at self.entry.desk) (callers_at self.entry.desk)
+            (number_of self.entry.pass) ask.now (seen_by self.entry.pass) (seen_by result.0.pass) result.1 }
+        ensures faults { (before : K) × (after : K) × AreCountsOf K.failures K.steady result.1.faults before after }
     {
         let Caller {
             alloc,
@@ -194,7 +194,7 @@ pub fn converse<R: Wait, L: Duplex, E: Engine, K: Keeper>(
     ensures begins { StartsWith (seen_by result.1) (seen_by pass) }
 
     // What was answered and written, whatever the link tells of itself.
-    ensures served { IsConversation (IsAnswer E.plain (pair_at desk.now) users.now (number_of pass)) most
+    ensures served { IsConversation (IsAnswer E.plain K.failures K.steady desk.now users.now (number_of pass)) most
         (L.left link.old)
         (at_moment (seen_by pass) (L.written link.old) (L.sink_shortages link.old))
         (at_moment (seen_by result.1) (L.written link.new) (L.sink_shortages link.new)) result.0 }

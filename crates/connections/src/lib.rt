@@ -1,12 +1,15 @@
-//! Many connections over one history.
+//! Connections over one history.
 //!
-//! [`converse`] serves one connection at a desk that many callers share. [`Doors`] are where connections come in.
+//! [`converse`] serves one connection at a desk that many callers share, and [`converse_alone`] one at a desk that
+//! nobody else has. [`Doors`] are where connections come in.
 #![tactic(auto)]
 
+mod alone;
 mod caller;
 mod doors;
 mod memory;
 
+pub use alone::{converse_alone, one_reply};
 pub use caller::converse;
 pub use doors::Doors;
 pub use memory::{MemoryDoors, Visit};

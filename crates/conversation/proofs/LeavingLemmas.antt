@@ -5,11 +5,7 @@ use Rattle.sheets_http.specs.declared.request.Next.TheVariants as next
 use Rattle.sheets_http.specs.Laws.{TakesBytes}
 use Rattle.sheets_http.specs.Requests.{Buffered, stream_of, IsRequest, IsAnswer}
 use Rattle.conversation.specs.Conversation.{LosesFirst}
-
--- nothing is taken
-pub left_alone : (stream : Option (List ℕ)) → LosesFirst stream stream
-left_alone None = tt
-left_alone (Some bytes) = ([], bytes, refl, refl)
+use Rattle.conversation.specs.Idle.{left_alone}
 
 -- some bytes are taken, and then others
 pub left_twice : (stream middle stream' : Option (List ℕ)) → LosesFirst stream middle → LosesFirst middle stream'

@@ -1,10 +1,10 @@
--- A law for the proofs of this crate and of those above it: a conversation in which nothing was done ends for want of
--- memory.
+-- Laws for the proofs of this crate and of those above it: a conversation in which nothing was done ends for want of
+-- memory, and takes nothing of its stream.
 use Rattle.std.specs.Prelude.{◌≡◌, ℕ, List, [], Option, Some, None, IfSome}
 use Rattle.std.proofs.Common.{refl, arith}
 use Rattle.sheets_http.specs.declared.request.Wire.{Wire}
 use Rattle.conversation.specs.declared.ended.Ended.TheVariants as how
-use Rattle.conversation.specs.Conversation.{StartsWithRequests, Moment, HasAnswered, idle, IsConversation}
+use Rattle.conversation.specs.Conversation.{StartsWithRequests, Moment, HasAnswered, idle, IsConversation, LosesFirst}
 use Rattle.conversation.specs.Written.{nothing_more}
 
 -- no request was answered
@@ -35,3 +35,8 @@ idle_at_once IsReply room stream now = record {
   answered = HasAnswered-none IsReply room stream now;
   stops = idle (record { state_is = refl; written_is = refl });
 }
+
+-- a stream that stays loses no bytes
+pub left_alone : (stream : Option (List ℕ)) → LosesFirst stream stream
+left_alone None = tt
+left_alone (Some bytes) = ([], bytes, refl, refl)

@@ -4,3 +4,4 @@ pub mod Conversation
 pub mod Exchanges
 pub mod Laws
 pub mod Idle
+pub mod Seen

@@ -11,19 +11,7 @@ use Rattle.desk.specs.Journal.{field_text, entry_text, entries_text, journal_tex
 use Rattle.desk.specs.Keeping.{with_piece, IsTornPut}
 use Rattle.desk.specs.Noting.{piece_of, is_first, place_of}
 use Rattle.desk.specs.Steps.{entry_of}
-use Rattle.desk.specs.Points.{entries_of, last_counted, Keeps}
-
-pub entries_entry : (list : List Noted) (e : Entry) → entries_of (list ++ noted.Entry e ∷ []) ≡ entries_of list
-    ++ e ∷ []
-entries_entry [] e = refl
-entries_entry (noted.Entry first ∷ list) e = ap (λ (l : List Entry). first ∷ l) (entries_entry list e)
-entries_entry (noted.Mark first before after ∷ list) e = entries_entry list e
-
-pub entries_mark : (list : List Noted) (e : Entry) (b a : ℕ) → entries_of (list ++ noted.Mark e b a ∷ [])
-    ≡ entries_of list
-entries_mark [] e b a = refl
-entries_mark (noted.Entry first ∷ list) e b a = ap (λ (l : List Entry). first ∷ l) (entries_mark list e b a)
-entries_mark (noted.Mark first before after ∷ list) e b a = entries_mark list e b a
+use Rattle.desk.specs.Points.{last_counted, Keeps}
 
 pub counted_entry : (count : ℕ) (list : List Noted) (e : Entry)
     → last_counted count (list ++ noted.Entry e ∷ []) ≡ last_counted count list

@@ -1,17 +1,17 @@
--- What a call adds to the told list.
-use Rattle.std.proofs.Common.{◌≡◌, inl, inr, ℕ, Bool, true, false, List, [], ◌∷◌, ◌++◌, length, drop, refl, sym, subst, ◌∙◌}
-use Rattle.std.specs.Prelude.{if◌then◌else◌}
-use Rattle.std.proofs.lemmas.List.{append-nil}
-use Rattle.std.proofs.lemmas.List.Elements.{All-nil, All-cons}
+-- What a call adds to the told list, and what others added.
+use Rattle.std.proofs.Common.{◌≡◌, inl, inr, ℕ, ◌<◌, Bool, true, false, List, [], ◌∷◌, ◌++◌, length, drop, refl, sym, ap, subst, ◌∙◌, length-append}
+use Rattle.std.specs.Prelude.{All, if◌then◌else◌}
+use Rattle.std.proofs.lemmas.List.{append-nil, drop-drop}
+use Rattle.std.proofs.lemmas.List.Elements.{All-nil, All-cons, All-drop}
 use Rattle.std.proofs.Math.Seq.{drop-append_seam}
-use Rattle.history_lock.specs.History.{StartsWith, AllOf}
+use Rattle.history_lock.specs.History.{StartsWith, NoneOf, AllOf}
 use Rattle.desk.specs.declared.entry.Entry.{Entry}
 use Rattle.desk.specs.declared.entry.Ask.{Ask}
 use Rattle.desk.specs.declared.entry.Reply.{Reply}
 use Rattle.desk.specs.declared.entry.Noted.{Noted}
 use Rattle.desk.specs.declared.entry.Noted.TheVariants as noted
 use Rattle.desk.specs.Steps.{Outcome, entry_of}
-use Rattle.desk.specs.Points.{caller_of, Happens}
+use Rattle.desk.specs.Points.{caller_of, Happens, AreOthers}
 
 -- the list is the told one, or one item of the caller more
 abbrev Grows : ℕ → List Noted → List Noted → Type 0
@@ -53,3 +53,16 @@ module _ (plain : List Entry → Ask → Outcome → Type 0) (pair : ℕ × ℕ)
       let (more, parts, own) = grows plain pair caller ask told after reply happens in
       subst (λ (l : List Noted). AllOf caller_of caller (drop (length told) l)) (sym parts)
       (subst (λ (l : List Noted). AllOf caller_of caller l) (sym (drop-append_seam told more)) own)
+
+-- items behind what was seen are behind the list at the opening, with which that begins
+pub others_behind : (callers caller : ℕ) (opening seen told : List Noted) → StartsWith seen opening
+    → NoneOf caller_of caller (drop (length seen) told)
+    → All (λ item. caller_of item < callers) (drop (length opening) told)
+    → AreOthers callers caller (drop (length seen) told)
+others_behind callers caller opening seen told (rest, parts) not_own numbered = record {
+  not_own = not_own;
+  numbered = subst (λ items. All (λ item. caller_of item < callers) items)
+      (drop-drop (length rest) (length opening) told
+      ∙ ap (λ n. drop n told) (sym (ap (λ (l : List Noted). length l) parts ∙ length-append opening rest)))
+      (All-drop (λ item. caller_of item < callers) (length rest) (drop (length opening) told) numbered);
+}

@@ -10,8 +10,8 @@ use Rattle.desk.specs.declared.entry.Reply.{Reply}
 use Rattle.desk.specs.declared.entry.Noted.{Noted}
 use Rattle.desk.specs.declared.entry.Noted.TheVariants as noted
 use Rattle.desk.specs.Steps.{Outcome, Answers, IsServed, served, entry_of, is_full, within_limit, StepsTo, StepsOnce, history_full, unavailable_body}
-use Rattle.desk.specs.Points.{entries_of, last_counted, AreCountsOf, IsStep, IsAnswered, Happens}
-use Rattle.desk.proofs.Lists.{entries_mark}
+use Rattle.desk.specs.Points.{entries_of, last_counted, AreCountsOf, IsAnswered, Happens}
+use Rattle.desk.specs.Entries.{entries_mark}
 
 module _ (limit : ℕ) (es : List Entry) (ask : Ask) (o : Outcome) where
   pub within_refused : o.accepts ≡ false → o ≡ within_limit limit es ask o

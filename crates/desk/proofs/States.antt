@@ -15,7 +15,8 @@ use Rattle.desk.specs.declared.noting.Noting.{Noting}
 use Rattle.desk.specs.declared.noting.Noting.TheVariants as noting
 use Rattle.desk.specs.Steps.{entry_of, is_full}
 use Rattle.desk.specs.Points.{entries_of, last_counted, Keeps, IsSound}
-use Rattle.desk.proofs.Lists.{entries_entry, entries_mark, counted_entry, counted_mark, journal_length, few_entries, put_keeps, torn_keeps, entry_length, size_same}
+use Rattle.desk.specs.Entries.{entries_entry, entries_mark}
+use Rattle.desk.proofs.Lists.{counted_entry, counted_mark, journal_length, few_entries, put_keeps, torn_keeps, entry_length, size_same}
 use Rattle.std.proofs.lemmas.List.{append-nil}
 
 -- ---- the world, the counts and what is kept

@@ -1,5 +1,5 @@
 -- The list that a desk tells, and what a call is at a point of it.
-use Rattle.std.specs.Prelude.{◌≡◌, ◌≢◌, ◌⊎◌, ℕ, ◌≤◌, Bool, true, List, [], ◌∷◌, ◌++◌, length, drop, Option, Some, None, IfSome, if◌then◌else◌}
+use Rattle.std.specs.Prelude.{◌≡◌, ◌≢◌, ◌⊎◌, ℕ, ◌≤◌, ◌<◌, Bool, true, List, [], ◌∷◌, ◌++◌, All, length, drop, Option, Some, None, IfSome, if◌then◌else◌}
 use Rattle.cell_value.specs.FaultCount.{Rose}
 use Rattle.history_lock.specs.History.{StartsWith, NoneOf}
 use Rattle.desk.specs.declared.entry.Entry.{Entry}
@@ -104,21 +104,26 @@ module _ (plain : List Entry → Ask → Outcome → Type 0) (pair : ℕ × ℕ)
     pub at_is : reply.at ≡ length (entries_of told)
     pub one_of : IsStep ⊎ (IsUnavailable ⊎ IsOutOfMemory)
 
+-- items that others added: none is from this caller, and each is from one of so many callers
+pub record AreOthers (callers caller : ℕ) (items : List Noted) : Type 0 where
+  pub not_own : NoneOf caller_of caller items
+  pub numbered : All (λ item. caller_of item < callers) items
+
 -- A call at a point of the list, of a caller that had seen the items before and has seen those after: others may have
--- added items, none of them is this caller's, and behind these the call happens.
-pub record IsCallAt (plain : List Entry → Ask → Outcome → Type 0) (pair : ℕ × ℕ) (caller : ℕ) (ask : Ask)
+-- added items, and behind these the call happens.
+pub record IsCallAt (plain : List Entry → Ask → Outcome → Type 0) (pair : ℕ × ℕ) (callers caller : ℕ) (ask : Ask)
     (before after : List Noted) (reply : Reply) : Type 0 where
   pub told : List Noted
   pub begins : StartsWith told before
-  pub others : NoneOf caller_of caller (drop (length before) told)
+  pub others : AreOthers callers caller (drop (length before) told)
   pub happens : Happens plain pair caller ask told after reply
 
 -- What a closed desk's history is, of a caller that had seen these items: the entries of a list that begins with them,
--- in which none behind them is this caller's; the keeper's count of faults is that of the list's last mark.
-pub record IsClosed (opened : ℕ) (caller : ℕ) (seen : List Noted) (entries : List Entry) (failures : ℕ) : Type 0 where
+-- to which others may have added items; the keeper's count of faults is that of the list's last mark.
+pub record IsClosed (opened callers caller : ℕ) (seen : List Noted) (entries : List Entry) (failures : ℕ) : Type 0 where
   pub told : List Noted
   pub begins : StartsWith told seen
-  pub others : NoneOf caller_of caller (drop (length seen) told)
+  pub others : AreOthers callers caller (drop (length seen) told)
   pub entries_are : entries ≡ entries_of told
   pub counted : failures ≡ last_counted opened told
 

@@ -102,8 +102,8 @@ impl<E: Engine, K: Keeper> Desk<E, K> {
         ensures pass { IsPass self.now result.0 }
         ensures number { number_of result.0 ≡ number_of pass }
         ensures drawn { (count_of result.0 ≡ count_of pass) × (given_by result.0 ≡ given_by pass) }
-        ensures call { IsCallAt E.plain (pair_at self.now) (number_of pass) ask.now (seen_by pass) (seen_by result.0)
-            result.1 }
+        ensures call { IsCallAt E.plain (pair_at self.now) (callers_at self.now) (number_of pass) ask.now (seen_by pass)
+            (seen_by result.0) result.1 }
 
         // The counts of faults are those of a keeper before the call and after it: a steady one is never unavailable.
         ensures faults { (before : K) × (after : K) × AreCountsOf K.failures K.steady result.1.faults before after }
@@ -133,7 +133,8 @@ impl<E: Engine, K: Keeper> Desk<E, K> {
     /// tells. What the keeper has begins with the journal of the entries, where there is one. It takes no memory.
     pub fn close<R: Wait>(self, rt: &R, pass: Pass) -> (History<E>, K)
         requires { IsPass self pass }
-        ensures history { IsClosed (pair_at self).1 (number_of pass) (seen_by pass) result.0 (K.failures result.1) }
+        ensures history { IsClosed (pair_at self).1 (callers_at self) (number_of pass) (seen_by pass) result.0
+            (K.failures result.1) }
         ensures kept { Keeps (K.kept result.1) result.0 }
     {
         let Desk { lock } = self;

@@ -1,8 +1,8 @@
 use Rattle.conversation.specs.Conversation.{at_moment}
 use Rattle.conversation.proofs.ConversationLemmas.{ends_as}
 use Rattle.conversation.proofs.ExchangeLemmas.{opened}
-use Rattle.conversation.specs.Idle.{idle_at_once}
-use Rattle.conversation.proofs.LeavingLemmas.{left_alone, left_of}
+use Rattle.conversation.specs.Idle.{idle_at_once, left_alone}
+use Rattle.conversation.proofs.LeavingLemmas.{left_of}
 use Rattle.conversation.proofs.conversation.converse.Goals as goal
 
 -- a new buffer holds nothing

@@ -1,10 +1,10 @@
 use Rattle.std.proofs.Common.{◌∙◌, refl, arith}
 use Rattle.sheets_http.specs.Requests.{room_of, stream_of}
 use Rattle.conversation.specs.Conversation.{at_moment}
-use Rattle.conversation.specs.Idle.{HasAnswered-none}
+use Rattle.conversation.specs.Idle.{HasAnswered-none, left_alone}
 use Rattle.conversation.proofs.ConversationLemmas.{HasAnswered-then, IsConversation-behind}
 use Rattle.conversation.proofs.ExchangeLemmas.{Counts-then}
-use Rattle.conversation.proofs.LeavingLemmas.{left_alone, left_twice}
+use Rattle.conversation.proofs.LeavingLemmas.{left_twice}
 use Rattle.conversation.proofs.conversation.serve.Goals as goal
 
 -- no request was answered yet
