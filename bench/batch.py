@@ -17,30 +17,44 @@ DELETED = {
 }
 ROWS_MORE = {"appendDimension": {"sheetId": 0, "dimension": "ROWS", "length": 3_000}}
 UPDATES = 100_000
+ROWS = 1_000
 CHANGES = 1_000
 FOLLOWED = 50
 
 
-def updated(number):
-    """A request that writes a number to one cell of its own."""
+def updated(number, apart):
+    """A request that writes a number to one cell of its own, in every row that is so far from the one before."""
+    place = number * apart
     return {
         "updateCells": {
-            "start": {"sheetId": 0, "rowIndex": number % 1_000, "columnIndex": number // 1_000 % COLUMNS},
+            "start": {"sheetId": 0, "rowIndex": place % ROWS, "columnIndex": place // ROWS % COLUMNS},
             "rows": [{"values": [{"userEnteredValue": {"numberValue": number}}]}],
             "fields": "userEnteredValue",
         }
     }
 
 
+def update(full, count, apart):
+    """How many seconds an update of one cell takes in batches of so many."""
+    asked = batch(*(updated(number, apart) for number in range(count)))
+    return seconds(full, asked, UPDATES // count) / UPDATES
+
+
 def updates(long, short):
-    """Prints what an update of one cell takes in a long batch and in a short one, in a sheet of 26,000 cells."""
-    full = filled("A1:Z1000", 1_000)
-    figures = [
-        seconds(full, batch(*map(updated, range(count))), UPDATES // count) / UPDATES for count in (long, short)
-    ]
+    """Prints what an update of one cell takes in a long batch and in a short one, in a sheet of 26,000 cells:
+    with the cells of both spread over all of its rows, and with those of the short one in its first rows alone,
+    which share what is copied for them."""
+    full = filled("A1:Z1000", ROWS)
+    spread = update(full, long, ROWS // long)
+    few = update(full, short, ROWS // short)
+    close = update(full, short, 1)
     print(
-        f"an update of one cell: {figures[0] * 1e6:.1f} microseconds in a batch of {long}, {figures[1] * 1e6:.1f} in"
-        f" one of {short}: ratio {figures[0] / figures[1]:.2f}"
+        f"an update of one cell: {spread * 1e6:.1f} microseconds in a batch of {long}, {few * 1e6:.1f} in one of"
+        f" {short} that is spread as far: ratio {spread / few:.2f}"
+    )
+    print(
+        f"the same beside a batch of {short} in the first rows: {close * 1e6:.1f} microseconds: ratio"
+        f" {spread / close:.2f}"
     )
 
 

@@ -1,5 +1,5 @@
 -- A call on a spreadsheet that is there, from its answer and from what takes its place.
-use Rattle.std.proofs.Common.{◌≡◌, ℕ, refl, sym, subst, ◌∙◌, List}
+use Rattle.std.proofs.Common.{◌≡◌, ℕ, refl, sym, ap, subst, ◌∙◌, List}
 use Rattle.std.specs.Prelude.{Bool, Option, Some, None, IsSomeAnd, IfOk, Result, Ok, Err}
 use Rattle.std.specs.Option.{IsSome}
 use Rattle.world_model.specs.Book.{PlaceBook}
@@ -217,12 +217,12 @@ module _ (books : List PlaceBook) (book : PlaceBook) (caller : Caller) (called :
       outcome next (record { judged = told; answered = holds; told_is = refl }) is none
 
   pub look_applied : (id : List ℕ) (grids : Option Bool) → called ≡ call.Get id grids
-      → book_with id books ≡ Some book → (told : Result Answer Refusal) → told ≡ looked grids book
-      → outcome ≡ told_as told → IsApplied caller called books outcome next
+      → book_with id books ≡ Some book → (told : Answer) → told ≡ looked grids book
+      → outcome ≡ told_as (Ok told) → IsApplied caller called books outcome next
   look_applied id grids called_is found told holds is =
       applied_read caller called id books (IsLookOf grids)
-      (λ answered effect on. subst (λ one. IsAnswered caller one books answered effect) (sym called_is) on) book found told outcome
-      next (holds, refl) is none
+      (λ answered effect on. subst (λ one. IsAnswered caller one books answered effect) (sym called_is) on) book found
+      (Ok told) outcome next (ap (λ shown. Ok shown) holds, refl) is none
 
   pub read_many_applied : (id : List ℕ) (ranges : List (List ℕ)) (dimension : Option Axis) (render : Option Render)
       → called ≡ call.ReadMany id ranges dimension render → book_with id books ≡ Some book

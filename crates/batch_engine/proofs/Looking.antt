@@ -1,6 +1,6 @@
 -- Sheets that are looked at one after another.
 use Rattle.std.proofs.Common.{◌≡◌, ℕ, ◌+◌, ◌<◌, List, [], ◌∷◌, ◌++◌, length, map, take, get_or, refl, sym, ap, ◌∙◌, arith, Bor}
-use Rattle.std.specs.Prelude.{Option, Some, None}
+use Rattle.std.specs.Prelude.{Bool, Option, Some, None}
 use Rattle.std.specs.Option.{IsSome, option_copied}
 use Rattle.std.proofs.lemmas.List.{get_or-map, length-take-le, take_more}
 use Rattle.world_model.specs.Book.{PlaceBook}
@@ -9,22 +9,26 @@ use Rattle.world_model.specs.Sheet.{PlaceSheet}
 use Rattle.world_model.specs.Sound.{IsSound, place_sheet_with}
 use Rattle.batch_engine.specs.Looks.{shown_from, shown_sheet}
 
--- one sheet more
-shown_more : (index : ℕ) (sheets : List PlaceSheet) (last : PlaceSheet)
-    → shown_from index (sheets ++ last ∷ []) ≡ shown_from index sheets ++ shown_sheet (index + length sheets) last ∷ []
-shown_more index [] last = ap (λ place. shown_sheet place last ∷ []) (omega arith)
-shown_more index (sheet ∷ sheets) last =
-    ap (λ shown. shown_sheet index sheet ∷ shown) (shown_more (index + 1) sheets last)
-    ∙ ap (λ place. shown_sheet index sheet ∷ (shown_from (index + 1) sheets ++ shown_sheet place last ∷ [])) (omega arith)
+module _ (grids : Bool) where
+  -- one sheet more
+  shown_more : (index : ℕ) (sheets : List PlaceSheet) (last : PlaceSheet)
+      → shown_from grids index (sheets ++ last ∷ [])
+      ≡ shown_from grids index sheets ++ shown_sheet grids (index + length sheets) last ∷ []
+  shown_more index [] last = ap (λ place. shown_sheet grids place last ∷ []) (omega arith)
+  shown_more index (sheet ∷ sheets) last =
+      let first = shown_sheet grids index sheet in
+      ap (λ shown. first ∷ shown) (shown_more (index + 1) sheets last)
+      ∙ ap (λ place. first ∷ (shown_from grids (index + 1) sheets ++ shown_sheet grids place last ∷ [])) (omega arith)
 
-pub shown_next : (sheets : List PlaceSheet) (at : ℕ) (d : PlaceSheet) → at < length sheets
-    → shown_from 0 (take at sheets) ++ shown_sheet at (get_or sheets at d) ∷ [] ≡ shown_from 0 (take (at + 1) sheets)
-shown_next sheets at d there =
-    let short = length-take-le at sheets (omega (arith, there)) in
-    let long : at ≡ 0 + length (take at sheets) = omega (arith, short) in
-    ap (λ place. shown_from 0 (take at sheets) ++ shown_sheet place (get_or sheets at d) ∷ []) long
-    ∙ sym (shown_more 0 (take at sheets) (get_or sheets at d))
-    ∙ ap (shown_from 0) (sym (take_more sheets at d there))
+  pub shown_next : (sheets : List PlaceSheet) (at : ℕ) (d : PlaceSheet) → at < length sheets
+      → shown_from grids 0 (take at sheets) ++ shown_sheet grids at (get_or sheets at d) ∷ []
+      ≡ shown_from grids 0 (take (at + 1) sheets)
+  shown_next sheets at d there =
+      let short = length-take-le at sheets (omega (arith, there)) in
+      let long : at ≡ 0 + length (take at sheets) = omega (arith, short) in
+      ap (λ place. shown_from grids 0 (take at sheets) ++ shown_sheet grids place (get_or sheets at d) ∷ []) long
+      ∙ sym (shown_more 0 (take at sheets) (get_or sheets at d))
+      ∙ ap (shown_from grids 0) (sym (take_more sheets at d there))
 
 -- the sheet at a place is found by its id
 pub found_at : (book : PlaceBook) → IdsFind → IsSound book → (at : ℕ) → at < length book.sheets → (d : PlaceSheet)

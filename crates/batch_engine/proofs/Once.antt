@@ -349,7 +349,7 @@ module _ (one_reading : HasOneReading) (news : NewSheetsOnce) (reads : ReadsOnce
     answered_once caller (call.Create spreadsheet) =
         alone_once (IsCreateOf caller.user spreadsheet books) (create_once news caller.user spreadsheet books)
     answered_once caller (call.Get id grids) =
-        on_book_once id (IsLookOf grids) (λ book sound. said_once (looked grids book) Nothing)
+        on_book_once id (IsLookOf grids) (λ book sound. said_once (Ok (looked grids book)) Nothing)
     answered_once caller (call.Batch id requests) =
         on_book_once id (IsBatchOf requests)
         (λ book sound. are_made_once IsRequested (requested_once news writes apart turns) requests place.Requests

@@ -1,6 +1,6 @@
 -- Rows that are appended: what is told of them, and that one thing is.
-use Rattle.std.proofs.Common.{◌≡◌, ◌≢◌, ℕ, ◌+◌, ◌<◌, ◌≤◌, refl, sym, ap, subst, ◌∙◌, List, [], ◌∷◌, ◌++◌, cond, Bool, true, false, arith}
-use Rattle.std.specs.Prelude.{◌==◌, nat_lt, Option, Some, None, IsSomeAnd, MatchOption, Result, Ok, Err, OnOk, option_map}
+use Rattle.std.proofs.Common.{◌≡◌, ◌≢◌, ℕ, ◌+◌, ◌<◌, ◌≤◌, refl, sym, ap, subst, ◌∙◌, List, [], ◌∷◌, cond, Bool, true, false, arith}
+use Rattle.std.specs.Prelude.{◌==◌, Option, Some, None, IsSomeAnd, MatchOption, Result, Ok, Err, option_map}
 use Rattle.std.specs.Option.{IsSome, option_map_or}
 use Rattle.std.proofs.lemmas.Bool.{eq-eqb, false≢true, lt-ltb, ne_eqb}
 use Rattle.cell_value.specs.declared.cell.Block.{Block}
@@ -13,7 +13,7 @@ use Rattle.world_model.specs.ChangingLaws.{ChangesApart, ChangesInTurn, UpdatesA
 use Rattle.world_model.specs.Laws.{size_of}
 use Rattle.world_model.specs.Sheet.{PlaceSheet}
 use Rattle.world_model.specs.Sound.{IsSound, place_sheet_with}
-use Rattle.dimension_ops.specs.Broken.{first_broken, first_of, first_passed, judged_by, unbroken}
+use Rattle.dimension_ops.specs.Broken.{first_broken, first_of, first_passed, unbroken}
 use Rattle.dimension_ops.specs.Lines.{IsLinesAnswer, lines_broken, passes_size, places_changed, size_changed}
 use Rattle.dimension_ops.specs.Rules.{IsUnlessNoMemory}
 use Rattle.dimension_ops.specs.declared.rule.Limit.{Limit}
@@ -22,7 +22,7 @@ use Rattle.dimension_ops.specs.declared.rule.Rule.{Rule}
 use Rattle.dimension_ops.specs.declared.rule.Rule.TheVariants as rule
 use Rattle.dimension_ops.specs.declared.rule.RuleOr.{RuleOr}
 use Rattle.dimension_ops.specs.declared.rule.RuleOr.TheVariants as refusal
-use Rattle.values_api.specs.Appends.{added_on, missing}
+use Rattle.values_api.specs.Appends.{added_on}
 use Rattle.values_api.specs.Blocks.{IsWrite, rows_needed}
 use Rattle.values_api.specs.Laws.{WritesOnce}
 use Rattle.values_api.specs.Ranges.{IsThere}

@@ -10,7 +10,7 @@ use Rattle.dimension_ops.specs.SheetRequests.{IsNewSheet, new_place, sheet_added
 use Rattle.dimension_ops.specs.declared.rule.Rule.{Rule}
 use Rattle.sheets_json.specs.declared.spreadsheet.Reply.{Reply}
 use Rattle.sheets_json.specs.declared.spreadsheet.Reply.TheVariants as reply
-use Rattle.batch_engine.specs.Looks.{shown_sheet}
+use Rattle.batch_engine.specs.Looks.{shown_properties}
 
 -- nothing is asked for the sheet
 abbrev pub any_properties : SheetProperties
@@ -19,7 +19,7 @@ any_properties = record { id = None; title = None; index = None; hidden = None; 
 -- a new sheet at its place, as a look at the spreadsheet shows it then
 abbrev pub sheet_reply : SheetProperties → List PlaceSheet → NewSheet → Reply
 sheet_reply properties sheets new =
-    reply.AddSheet (shown_sheet (new_place properties sheets) (new_place_sheet new)).properties
+    reply.AddSheet (shown_properties (new_place properties sheets) (new_place_sheet new))
 
 -- what is told where that is the first broken rule, or else of the sheet
 abbrev pub IsAdded : SheetProperties → List PlaceSheet → Option Rule → Result (Reply × List BookChange) Rule → Type 0

@@ -171,7 +171,7 @@ OnBook id books Holds = IsSomeAnd (book_with id books) Holds
 
 -- a look at the spreadsheet changes nothing
 abbrev pub IsLookOf : Option Bool → PlaceBook → Result Answer Refusal → Effect → Type 0
-IsLookOf grids book told effect = (told ≡ looked grids book) × (effect ≡ Nothing)
+IsLookOf grids book told effect = (told ≡ Ok (looked grids book)) × (effect ≡ Nothing)
 
 -- the call of its caller is answered so, or breaks that rule there, and makes that of the spreadsheets
 abbrev pub IsAnswered : Caller → Call → List PlaceBook → Result Answer Refusal → Effect → Type 0

@@ -140,7 +140,8 @@ pub fn apply(
             include_grid_data,
         } => {
             let book = book_of(world, id.as_str());
-            Ok(unchanged(look(alloc, book, *include_grid_data)?))
+            let told = look(alloc, book, *include_grid_data)?;
+            Ok(unchanged(Ok(told)))
         }
         Call::Create { spreadsheet } => {
             let told = judged(create(alloc, world, caller.user.as_str(), spreadsheet))?;

@@ -1,4 +1,4 @@
-ghost use Rattle.std.specs.Prelude.{◌≡◌, ◌<◌, IfOk, codes, get_or, length};
+ghost use Rattle.std.specs.Prelude.{◌≡◌, ◌<◌, IfOk, codes, false, get_or, length};
 ghost use Rattle.dimension_ops.specs.Rules.{IsUnlessNoMemory};
 ghost use Rattle.world_model.specs.Book.{PlaceBook};
 ghost use Rattle.batch_engine.specs.Calls.{IsMaking};
@@ -57,8 +57,8 @@ fn title_or_untitled(asked: &NewSpreadsheet) -> &str
 fn shown_at(alloc: Global, world: &World, at: u64) -> Result<Spreadsheet, NoMemory>
     requires there { at < length world.now }
     requires few { at < 4294967296 }
-    ensures { IfOk result (λ shown. (other : PlaceBook) → shown ≡ spreadsheet_of (get_or world.now at other)) }
+    ensures { IfOk result (λ shown. (other : PlaceBook) → shown ≡ spreadsheet_of false (get_or world.now at other)) }
 {
     let book = world.at(at as u32).unwrap();
-    spreadsheet_of(alloc, book)
+    spreadsheet_of(alloc, book, false)
 }

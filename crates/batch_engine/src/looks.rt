@@ -1,50 +1,46 @@
 ghost use Rattle.std.specs.Prelude.{◌≡◌, ◌<◌, IfOk, length, get_or};
 ghost use Rattle.world_model.specs.Sheet.{PlaceSheet};
 ghost use Rattle.world_model.specs.Sound.{most_sheets};
-ghost use Rattle.batch_engine.specs.Looks.{looked, spreadsheet_of, shown_from, shown_sheet};
+ghost use Rattle.batch_engine.specs.Looks.{looked, spreadsheet_of, shown_from, shown_sheet, rows_shown, shown_properties};
 
-use crate::lists::Refusal;
 use cell_value::{Duplicate, Items, NoMemory};
-use dimension_ops::{Book, Rule, Sheet};
-use sheets_json::{Answer, Place, ShownProperties, ShownSheet, Spreadsheet};
+use dimension_ops::{Book, Sheet};
+use sheets_json::{Answer, GridData, ShownProperties, ShownSheet, Spreadsheet};
 use std::alloc::Global;
 use world_model::ids_find;
 
-/// What a look at a spreadsheet is answered; what is known of its rows isn't shown yet.
-pub(crate) fn look(
-    alloc: Global,
-    book: &Book,
-    grids: Option<bool>,
-) -> Result<Result<Answer, Refusal>, NoMemory>
+/// What a look at a spreadsheet is answered, with what is known of its rows where that is asked for.
+pub(crate) fn look(alloc: Global, book: &Book, grids: Option<bool>) -> Result<Answer, NoMemory>
     ensures { IfOk result (λ told. told ≡ looked grids book.now) }
 {
-    if grids.unwrap_or(false) {
-        Ok(Err((Place::Alone, Rule::Unsupported)))
-    } else {
-        Ok(Ok(Answer::Get(spreadsheet_of(alloc, book)?)))
-    }
+    let shown = spreadsheet_of(alloc, book, grids.unwrap_or(false))?;
+    Ok(Answer::Get(shown))
 }
 
-/// The spreadsheet as it is shown.
-pub(crate) fn spreadsheet_of(alloc: Global, book: &Book) -> Result<Spreadsheet, NoMemory>
-    ensures { IfOk result (λ shown. shown ≡ spreadsheet_of book.now) }
+/// The spreadsheet as it is shown, with what is known of its rows or without.
+pub(crate) fn spreadsheet_of(
+    alloc: Global,
+    book: &Book,
+    grids: bool,
+) -> Result<Spreadsheet, NoMemory>
+    ensures { IfOk result (λ shown. shown ≡ spreadsheet_of grids book.now) }
 {
     Ok(Spreadsheet {
         named_ranges: None,
         title: book.title().duplicate()?,
-        sheets: shown_sheets(alloc, book)?,
+        sheets: shown_sheets(alloc, book, grids)?,
         spreadsheet_id: book.id().duplicate()?,
     })
 }
 
 /// The sheets as they are shown, in their order.
-fn shown_sheets(alloc: Global, book: &Book) -> Result<Items<ShownSheet>, NoMemory>
-    ensures { IfOk result (λ sheets. sheets ≡ shown_from 0 book.now.sheets) }
+fn shown_sheets(alloc: Global, book: &Book, grids: bool) -> Result<Items<ShownSheet>, NoMemory>
+    ensures { IfOk result (λ sheets. sheets ≡ shown_from grids 0 book.now.sheets) }
 {
     let mut sheets = Vec::new(alloc);
     for at in 0..book.sheets().as_slice().len() {
         let sheet = sheet_at(book, at);
-        sheets.push(shown_sheet(at as u32, sheet)?)?;
+        sheets.push(shown_sheet(alloc, at as u32, sheet, grids)?)?;
     }
     Ok(Items::of(sheets))
 }
@@ -61,19 +57,46 @@ fn sheet_at(book: &Book, at: usize) -> &Sheet
     book.sheet(ids[at]).unwrap()
 }
 
-/// The sheet as it is shown at its place among the sheets.
-pub(crate) fn shown_sheet(index: u32, sheet: &Sheet) -> Result<ShownSheet, NoMemory>
-    ensures { IfOk result (λ shown. shown ≡ shown_sheet index sheet.now) }
+/// The sheet as it is shown at its place among the sheets, with what is known of its rows or
+/// without.
+fn shown_sheet(
+    alloc: Global,
+    index: u32,
+    sheet: &Sheet,
+    grids: bool,
+) -> Result<ShownSheet, NoMemory>
+    ensures { IfOk result (λ shown. shown ≡ shown_sheet grids index sheet.now) }
 {
     Ok(ShownSheet {
+        data: rows_shown(alloc, grids),
         merges: None,
-        properties: ShownProperties {
-            column_count: sheet.cols(),
-            row_count: sheet.rows(),
-            hidden: sheet.hidden(),
-            index,
-            sheet_id: sheet.id(),
-            title: sheet.title().duplicate()?,
-        },
+        properties: shown_properties(index, sheet)?,
+    })
+}
+
+/// What is known of the rows of a sheet, if that is asked for: no filter hides one.
+fn rows_shown(alloc: Global, grids: bool) -> Option<GridData>
+    ensures { result ≡ rows_shown grids }
+{
+    if grids {
+        Some(GridData {
+            row_metadata: Items::of(Vec::new(alloc)),
+        })
+    } else {
+        None
+    }
+}
+
+/// What is known of the sheet itself, at its place among the sheets.
+pub(crate) fn shown_properties(index: u32, sheet: &Sheet) -> Result<ShownProperties, NoMemory>
+    ensures { IfOk result (λ shown. shown ≡ shown_properties index sheet.now) }
+{
+    Ok(ShownProperties {
+        column_count: sheet.cols(),
+        row_count: sheet.rows(),
+        hidden: sheet.hidden(),
+        index,
+        sheet_id: sheet.id(),
+        title: sheet.title().duplicate()?,
     })
 }

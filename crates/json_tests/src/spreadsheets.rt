@@ -2,7 +2,9 @@ use crate::common::{check, is_answer, text};
 use cell_value::Items;
 use grid_range::{Area, Band};
 use named_ranges::NamedRange;
-use sheets_json::{Answer, Reply, ShownProperties, ShownSheet, Spreadsheet};
+use sheets_json::{
+    Answer, DimensionProperties, GridData, Reply, ShownProperties, ShownSheet, Spreadsheet,
+};
 use std::alloc::Global;
 
 /// What is shown of a sheet of 1,000 rows and 26 columns.
@@ -24,6 +26,19 @@ fn spreadsheet(alloc: Global, sheets: Vec<ShownSheet>) -> Spreadsheet {
         title: text(alloc, "Untitled spreadsheet"),
         sheets: Items::of(sheets),
         spreadsheet_id: text(alloc, "book2"),
+    }
+}
+
+/// Rows of which those are hidden by a filter; fewer where memory runs out.
+fn grid(alloc: Global, hidden: &[bool]) -> GridData {
+    let mut rows = Vec::new(alloc);
+    for row in hidden {
+        let _ = rows.push(DimensionProperties {
+            hidden_by_filter: *row,
+        });
+    }
+    GridData {
+        row_metadata: Items::of(rows),
     }
 }
 
@@ -50,6 +65,7 @@ fn new_spreadsheets_are_answered(rt: HostRuntime) {
     let alloc = rt.alloc();
     let mut sheets = Vec::new(alloc);
     let _ = sheets.push(ShownSheet {
+        data: None,
         merges: None,
         properties: properties(alloc, 0, "Sheet1", false),
     });
@@ -64,12 +80,33 @@ fn spreadsheets_are_shown(rt: HostRuntime) {
     let alloc = rt.alloc();
     let mut sheets = Vec::new(alloc);
     let _ = sheets.push(ShownSheet {
+        data: None,
         merges: Some(areas(alloc)),
         properties: properties(alloc, 1, "x", true),
     });
     let shown = Answer::Get(spreadsheet(alloc, sheets));
     let wanted =
         "{\"properties\":{\"title\":\"Untitled spreadsheet\"},\"sheets\":[{\"merges\":[{\"endColumnIndex\":2,\"endRowIndex\":3,\"sheetId\":1,\"startColumnIndex\":1,\"startRowIndex\":0},{\"sheetId\":1,\"startColumnIndex\":4},{\"sheetId\":1,\"startRowIndex\":5}],\"properties\":{\"gridProperties\":{\"columnCount\":26,\"rowCount\":1000},\"hidden\":true,\"index\":1,\"sheetId\":1,\"sheetType\":\"GRID\",\"title\":\"x\"}}],\"spreadsheetId\":\"book2\"}";
+    check(&rt, &wanted, is_answer(alloc, &shown, wanted));
+}
+
+#[test]
+fn rows_of_sheets_are_shown(rt: HostRuntime) {
+    let alloc = rt.alloc();
+    let mut sheets = Vec::new(alloc);
+    let _ = sheets.push(ShownSheet {
+        data: Some(grid(alloc, &[])),
+        merges: None,
+        properties: properties(alloc, 0, "none", false),
+    });
+    let _ = sheets.push(ShownSheet {
+        data: Some(grid(alloc, &[false, true, false, true])),
+        merges: Some(Items::of(Vec::new(alloc))),
+        properties: properties(alloc, 1, "two", false),
+    });
+    let shown = Answer::Get(spreadsheet(alloc, sheets));
+    let wanted =
+        "{\"properties\":{\"title\":\"Untitled spreadsheet\"},\"sheets\":[{\"data\":[{\"rowMetadata\":[]}],\"properties\":{\"gridProperties\":{\"columnCount\":26,\"rowCount\":1000},\"index\":0,\"sheetId\":0,\"sheetType\":\"GRID\",\"title\":\"none\"}},{\"data\":[{\"rowMetadata\":[{},{\"hiddenByFilter\":true},{},{\"hiddenByFilter\":true}]}],\"merges\":[],\"properties\":{\"gridProperties\":{\"columnCount\":26,\"rowCount\":1000},\"index\":1,\"sheetId\":1,\"sheetType\":\"GRID\",\"title\":\"two\"}}],\"spreadsheetId\":\"book2\"}";
     check(&rt, &wanted, is_answer(alloc, &shown, wanted));
 }
 

@@ -345,6 +345,74 @@ pub(crate) static APPENDS: [Exchange; 20] = [
     ),
 ];
 
+/// Appends to tables that reach over corners, and one that adds a column.
+pub(crate) static CORNERS: [Exchange; 4] = [
+    (
+        &[
+            (
+                "POST /v4/spreadsheets/book1/values:batchUpdate",
+                "Content-Length: 95\r\n",
+                "{\"valueInputOption\":\"RAW\",\"data\":[{\"range\":\"A1\",\"values\":[[1]]},{\"range\":\"B2\",\"values\":[[1]]}]}",
+            ),
+            (
+                "POST /v4/spreadsheets/book1/values/A1:append?valueInputOption=RAW",
+                "Content-Length: 16\r\n",
+                "{\"values\":[[7]]}",
+            ),
+        ],
+        OK,
+        "",
+        "{\"spreadsheetId\":\"book1\",\"tableRange\":\"Sheet1!A1:B2\",\"updates\":{\"spreadsheetId\":\"book1\",\"updatedCells\":1,\"updatedColumns\":1,\"updatedRange\":\"Sheet1!A3\",\"updatedRows\":1}}",
+    ),
+    (
+        &[
+            (
+                "POST /v4/spreadsheets/book1/values:batchUpdate",
+                "Content-Length: 125\r\n",
+                "{\"valueInputOption\":\"RAW\",\"data\":[{\"range\":\"C1\",\"values\":[[1]]},{\"range\":\"B2\",\"values\":[[1]]},{\"range\":\"A3\",\"values\":[[1]]}]}",
+            ),
+            (
+                "POST /v4/spreadsheets/book1/values/B2:append?valueInputOption=RAW",
+                "Content-Length: 16\r\n",
+                "{\"values\":[[7]]}",
+            ),
+        ],
+        OK,
+        "",
+        "{\"spreadsheetId\":\"book1\",\"tableRange\":\"Sheet1!A1:C3\",\"updates\":{\"spreadsheetId\":\"book1\",\"updatedCells\":1,\"updatedColumns\":1,\"updatedRange\":\"Sheet1!A4\",\"updatedRows\":1}}",
+    ),
+    (
+        &[
+            (
+                "POST /v4/spreadsheets/book1/values:batchUpdate",
+                "Content-Length: 95\r\n",
+                "{\"valueInputOption\":\"RAW\",\"data\":[{\"range\":\"B2\",\"values\":[[1]]},{\"range\":\"D3\",\"values\":[[1]]}]}",
+            ),
+            (
+                "POST /v4/spreadsheets/book1/values/B2:append?valueInputOption=RAW",
+                "Content-Length: 16\r\n",
+                "{\"values\":[[7]]}",
+            ),
+        ],
+        OK,
+        "",
+        "{\"spreadsheetId\":\"book1\",\"tableRange\":\"Sheet1!B2\",\"updates\":{\"spreadsheetId\":\"book1\",\"updatedCells\":1,\"updatedColumns\":1,\"updatedRange\":\"Sheet1!B3\",\"updatedRows\":1}}",
+    ),
+    (
+        &[
+            (
+                "POST /v4/spreadsheets/book1/values/Z1:append?valueInputOption=RAW",
+                "Content-Length: 18\r\n",
+                "{\"values\":[[1,2]]}",
+            ),
+            ("GET /v4/spreadsheets/book1", "", ""),
+        ],
+        OK,
+        "",
+        "{\"properties\":{\"title\":\"book1\"},\"sheets\":[{\"properties\":{\"gridProperties\":{\"columnCount\":27,\"rowCount\":1000},\"index\":0,\"sheetId\":0,\"sheetType\":\"GRID\",\"title\":\"Sheet1\"}}],\"spreadsheetId\":\"book1\"}",
+    ),
+];
+
 /// Appends that are refused, by the first rule that they break, and leave the sheet as it was.
 pub(crate) static NO_APPENDS: [Exchange; 18] = [
     (

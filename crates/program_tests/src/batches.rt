@@ -825,3 +825,184 @@ pub(crate) static A_HUNDRED: [Exchange; 1] = [(
     "",
     "{\"replies\":[{},{},{},{},{},{},{},{},{},{},{},{},{},{},{},{},{},{},{},{},{},{},{},{},{},{},{},{},{},{},{},{},{},{},{},{},{},{},{},{},{},{},{},{},{},{},{},{},{},{},{},{},{},{},{},{},{},{},{},{},{},{},{},{},{},{},{},{},{},{},{},{},{},{},{},{},{},{},{},{},{},{},{},{},{},{},{},{},{},{},{},{},{},{},{},{},{},{},{},{}],\"spreadsheetId\":\"book1\"}",
 )];
+
+/// Requests that each break two rules at once: the first in the order of the rules is told.
+pub(crate) static TWO_BROKEN: [Exchange; 13] = [
+    (
+        &[(
+            "POST /v4/spreadsheets/book1:batchUpdate",
+            "Content-Length: 38\r\n",
+            "{\"requests\":[{\"deleteSheet\":{\"x\":1}}]}",
+        )],
+        BAD_REQUEST,
+        "",
+        "{\"error\":{\"code\":400,\"message\":\"requests[0]: BadShape\",\"status\":\"INVALID_ARGUMENT\"}}",
+    ),
+    (
+        &[(
+            "POST /v4/spreadsheets/book1:batchUpdate",
+            "Content-Length: 50\r\n",
+            "{\"requests\":[{\"deleteSheet\":{\"sheetId\":7,\"x\":1}}]}",
+        )],
+        BAD_REQUEST,
+        "",
+        "{\"error\":{\"code\":400,\"message\":\"requests[0]: Unsupported\",\"status\":\"INVALID_ARGUMENT\"}}",
+    ),
+    (
+        &[(
+            "POST /v4/spreadsheets/book1:batchUpdate",
+            "Content-Length: 120\r\n",
+            "{\"requests\":[{\"appendCells\":{\"sheetId\":5,\"rows\":[{\"values\":[{\"userEnteredValue\":{\"numberValue\":1.5}}]}],\"fields\":\"*\"}}]}",
+        )],
+        BAD_REQUEST,
+        "",
+        "{\"error\":{\"code\":400,\"message\":\"requests[0]: BadNumber\",\"status\":\"INVALID_ARGUMENT\"}}",
+    ),
+    (
+        &[(
+            "POST /v4/spreadsheets/book1:batchUpdate",
+            "Content-Length: 724\r\n",
+            "{\"requests\":[{\"addSheet\":{\"properties\":{\"gridProperties\":{\"rowCount\":997400,\"columnCount\":10}}}},{\"updateCells\":{\"start\":{\"sheetId\":1,\"rowIndex\":997399},\"rows\":[{\"values\":[{\"userEnteredValue\":{\"numberValue\":1}}]}],\"fields\":\"*\"}},{\"appendCells\":{\"sheetId\":1,\"rows\":[{\"values\":[{\"userEnteredValue\":{\"numberValue\":1}},{\"userEnteredValue\":{\"numberValue\":1}},{\"userEnteredValue\":{\"numberValue\":1}},{\"userEnteredValue\":{\"numberValue\":1}},{\"userEnteredValue\":{\"numberValue\":1}},{\"userEnteredValue\":{\"numberValue\":1}},{\"userEnteredValue\":{\"numberValue\":1}},{\"userEnteredValue\":{\"numberValue\":1}},{\"userEnteredValue\":{\"numberValue\":1}},{\"userEnteredValue\":{\"numberValue\":1}},{\"userEnteredValue\":{\"numberValue\":1}}]}],\"fields\":\"*\"}}]}",
+        )],
+        BAD_REQUEST,
+        "",
+        "{\"error\":{\"code\":400,\"message\":\"requests[2]: PastLimit cells\",\"status\":\"INVALID_ARGUMENT\"}}",
+    ),
+    (
+        &[(
+            "POST /v4/spreadsheets/book1:batchUpdate",
+            "Content-Length: 105\r\n",
+            "{\"requests\":[{\"insertDimension\":{\"range\":{\"sheetId\":7,\"dimension\":\"ROWS\",\"startIndex\":1,\"endIndex\":1}}}]}",
+        )],
+        BAD_REQUEST,
+        "",
+        "{\"error\":{\"code\":400,\"message\":\"requests[0]: NoSheet\",\"status\":\"INVALID_ARGUMENT\"}}",
+    ),
+    (
+        &[(
+            "POST /v4/spreadsheets/book1:batchUpdate",
+            "Content-Length: 111\r\n",
+            "{\"requests\":[{\"insertDimension\":{\"range\":{\"sheetId\":0,\"dimension\":\"ROWS\",\"startIndex\":2000,\"endIndex\":2000}}}]}",
+        )],
+        BAD_REQUEST,
+        "",
+        "{\"error\":{\"code\":400,\"message\":\"requests[0]: BadRange\",\"status\":\"INVALID_ARGUMENT\"}}",
+    ),
+    (
+        &[(
+            "POST /v4/spreadsheets/book1:batchUpdate",
+            "Content-Length: 117\r\n",
+            "{\"requests\":[{\"insertDimension\":{\"range\":{\"sheetId\":0,\"dimension\":\"ROWS\",\"startIndex\":1000,\"endIndex\":2147483647}}}]}",
+        )],
+        BAD_REQUEST,
+        "",
+        "{\"error\":{\"code\":400,\"message\":\"requests[0]: OutsideGrid\",\"status\":\"INVALID_ARGUMENT\"}}",
+    ),
+    (
+        &[(
+            "POST /v4/spreadsheets/book1:batchUpdate",
+            "Content-Length: 139\r\n",
+            "{\"requests\":[{\"insertDimension\":{\"range\":{\"sheetId\":0,\"dimension\":\"ROWS\",\"startIndex\":0,\"endIndex\":2147483647},\"inheritFromBefore\":true}}]}",
+        )],
+        BAD_REQUEST,
+        "",
+        "{\"error\":{\"code\":400,\"message\":\"requests[0]: InheritAtZero\",\"status\":\"INVALID_ARGUMENT\"}}",
+    ),
+    (
+        &[(
+            "POST /v4/spreadsheets/book1:batchUpdate",
+            "Content-Length: 105\r\n",
+            "{\"requests\":[{\"deleteDimension\":{\"range\":{\"sheetId\":7,\"dimension\":\"ROWS\",\"startIndex\":3,\"endIndex\":2}}}]}",
+        )],
+        BAD_REQUEST,
+        "",
+        "{\"error\":{\"code\":400,\"message\":\"requests[0]: NoSheet\",\"status\":\"INVALID_ARGUMENT\"}}",
+    ),
+    (
+        &[(
+            "POST /v4/spreadsheets/book1:batchUpdate",
+            "Content-Length: 111\r\n",
+            "{\"requests\":[{\"deleteDimension\":{\"range\":{\"sheetId\":0,\"dimension\":\"ROWS\",\"startIndex\":3000,\"endIndex\":2000}}}]}",
+        )],
+        BAD_REQUEST,
+        "",
+        "{\"error\":{\"code\":400,\"message\":\"requests[0]: BadRange\",\"status\":\"INVALID_ARGUMENT\"}}",
+    ),
+    (
+        &[(
+            "POST /v4/spreadsheets/book1:batchUpdate",
+            "Content-Length: 108\r\n",
+            "{\"requests\":[{\"deleteDimension\":{\"range\":{\"sheetId\":0,\"dimension\":\"ROWS\",\"startIndex\":0,\"endIndex\":1001}}}]}",
+        )],
+        BAD_REQUEST,
+        "",
+        "{\"error\":{\"code\":400,\"message\":\"requests[0]: OutsideGrid\",\"status\":\"INVALID_ARGUMENT\"}}",
+    ),
+    (
+        &[(
+            "POST /v4/spreadsheets/book1:batchUpdate",
+            "Content-Length: 125\r\n",
+            "{\"requests\":[{\"moveDimension\":{\"source\":{\"sheetId\":7,\"dimension\":\"ROWS\",\"startIndex\":3,\"endIndex\":2},\"destinationIndex\":5}}]}",
+        )],
+        BAD_REQUEST,
+        "",
+        "{\"error\":{\"code\":400,\"message\":\"requests[0]: NoSheet\",\"status\":\"INVALID_ARGUMENT\"}}",
+    ),
+    (
+        &[(
+            "POST /v4/spreadsheets/book1:batchUpdate",
+            "Content-Length: 128\r\n",
+            "{\"requests\":[{\"moveDimension\":{\"source\":{\"sheetId\":0,\"dimension\":\"ROWS\",\"startIndex\":2,\"endIndex\":2},\"destinationIndex\":1001}}]}",
+        )],
+        BAD_REQUEST,
+        "",
+        "{\"error\":{\"code\":400,\"message\":\"requests[0]: BadRange\",\"status\":\"INVALID_ARGUMENT\"}}",
+    ),
+];
+
+/// A batch of one request so many times and then of a last one, requests behind it, and the answer to the last of
+/// all: the rest of its status line, and its body.
+pub(crate) type Repeated = (
+    &'static str,
+    usize,
+    &'static str,
+    &'static [(&'static str, &'static str, &'static str)],
+    &'static str,
+    &'static str,
+);
+
+/// Long batches, and what those leave that break a rule in the last request.
+pub(crate) static LONG_BATCHES: [Repeated; 4] = [
+    (
+        "{\"addSheet\":{}}",
+        199,
+        "{\"addSheet\":{}}",
+        &[],
+        BAD_REQUEST,
+        "{\"error\":{\"code\":400,\"message\":\"requests[199]: PastLimit sheets\",\"status\":\"INVALID_ARGUMENT\"}}",
+    ),
+    (
+        "{\"addSheet\":{}}",
+        198,
+        "{\"addSheet\":{}}",
+        &[("GET /v4/spreadsheets/book1/values/Sheet200!A1", "", "")],
+        OK,
+        "{\"majorDimension\":\"ROWS\",\"range\":\"Sheet200!A1\"}",
+    ),
+    (
+        "{\"insertDimension\":{\"range\":{\"sheetId\":0,\"dimension\":\"ROWS\",\"startIndex\":0,\"endIndex\":1}}}",
+        99,
+        "{\"deleteSheet\":{\"sheetId\":7}}",
+        &[],
+        BAD_REQUEST,
+        "{\"error\":{\"code\":400,\"message\":\"requests[99]: NoSheet\",\"status\":\"INVALID_ARGUMENT\"}}",
+    ),
+    (
+        "{\"insertDimension\":{\"range\":{\"sheetId\":0,\"dimension\":\"ROWS\",\"startIndex\":0,\"endIndex\":1}}}",
+        99,
+        "{\"deleteSheet\":{\"sheetId\":7}}",
+        &[("GET /v4/spreadsheets/book1/values/A1001", "", "")],
+        BAD_REQUEST,
+        "{\"error\":{\"code\":400,\"message\":\"OutsideGrid\",\"status\":\"INVALID_ARGUMENT\"}}",
+    ),
+];

@@ -1,7 +1,8 @@
-use crate::appends::{APPENDS, NO_APPENDS};
+use crate::appends::{APPENDS, CORNERS, NO_APPENDS};
 use crate::batches::{
     A_HUNDRED, AFTER_A_HUNDRED, FIFTH_BATCHES, FIRST_BATCHES, FOURTH_BATCHES, LAST_OF_A_HUNDRED,
-    SECOND_BATCHES, SEVENTH_BATCHES, SIXTH_BATCHES, THIRD_BATCHES,
+    LONG_BATCHES, Repeated, SECOND_BATCHES, SEVENTH_BATCHES, SIXTH_BATCHES, THIRD_BATCHES,
+    TWO_BROKEN,
 };
 use crate::common::check;
 use crate::creations::{APPENDED_ROWS, CREATED};
@@ -10,6 +11,7 @@ use crate::lines::{COLUMNS, INSERTED_AND_DELETED, LINES, MOVED};
 use crate::rows::{
     BAD_REQUEST, CHANGES, CONVERSATIONS, Conversation, Exchange, FORMULAS, LIMITS, LISTS,
     LONG_HEADS, LOOKS, LongHead, NO_CALLS, OK, RANGES, TYPED, USERS, WRITES, WRITES_TO_LISTS,
+    WRITES_TO_TWO_SHEETS,
 };
 use crate::sheets::{ADDED_SHEETS, PROPERTIES, REFUSED_PROPERTIES, REFUSED_SHEETS};
 use crate::values::{VALUES, VALUES_OF_OTHERS};
@@ -158,6 +160,13 @@ fn appends_values(rt: HostRuntime) {
 }
 
 #[test]
+fn appends_to_tables_over_corners(rt: HostRuntime) {
+    for row in &CORNERS {
+        check(&rt, &row.3, is_answered(&rt, row));
+    }
+}
+
+#[test]
 fn refuses_appends(rt: HostRuntime) {
     for row in &NO_APPENDS {
         check(&rt, &row.3, is_answered(&rt, row));
@@ -216,6 +225,13 @@ fn does_sixth_batches(rt: HostRuntime) {
 #[test]
 fn does_seventh_batches(rt: HostRuntime) {
     for row in &SEVENTH_BATCHES {
+        check(&rt, &row.3, is_answered(&rt, row));
+    }
+}
+
+#[test]
+fn tells_the_first_of_two_rules(rt: HostRuntime) {
+    for row in &TWO_BROKEN {
         check(&rt, &row.3, is_answered(&rt, row));
     }
 }
@@ -340,6 +356,13 @@ fn writes_to_several_ranges(rt: HostRuntime) {
 }
 
 #[test]
+fn counts_the_rows_of_two_sheets_apart(rt: HostRuntime) {
+    for row in &WRITES_TO_TWO_SHEETS {
+        check(&rt, &row.3, is_answered(&rt, row));
+    }
+}
+
+#[test]
 fn keeps_formulas_within_their_limits(rt: HostRuntime) {
     for row in &LIMITS {
         check(&rt, &row.3, is_answered(&rt, row));
@@ -356,56 +379,120 @@ fn tells_users_by_their_tokens(rt: HostRuntime) {
 /// The field of the user from whom requests come that tell no other.
 const OWNER: &str = "Authorization: Bearer owner\r\n";
 
-/// How many bytes a text has that a batch enters, and how the batch is answered.
-static TEXTS: [(usize, &str, &str); 2] = [
-    (50_000, OK, "{\"replies\":[{}],\"spreadsheetId\":\"book1\"}"),
+/// How many bytes a text has that a batch enters, what stands behind the text, and how the batch is answered.
+static TEXTS: [(usize, &str, &str, &str); 4] = [
+    (
+        50_000,
+        "\"}}]}],\"start\":{}}}]}",
+        OK,
+        "{\"replies\":[{}],\"spreadsheetId\":\"book1\"}",
+    ),
     (
         50_001,
+        "\"}}]}],\"start\":{}}}]}",
         BAD_REQUEST,
         "{\"error\":{\"code\":400,\"message\":\"requests[0]: TextLong\",\"status\":\"INVALID_ARGUMENT\"}}",
+    ),
+    (
+        50_001,
+        "\"}}]}],\"start\":{\"sheetId\":7}}}]}",
+        BAD_REQUEST,
+        "{\"error\":{\"code\":400,\"message\":\"requests[0]: TextLong\",\"status\":\"INVALID_ARGUMENT\"}}",
+    ),
+    (
+        50_001,
+        "\"}},{\"userEnteredValue\":{\"numberValue\":1.5}}]}],\"start\":{}}}]}",
+        BAD_REQUEST,
+        "{\"error\":{\"code\":400,\"message\":\"requests[0]: BadNumber\",\"status\":\"INVALID_ARGUMENT\"}}",
     ),
 ];
 
 #[test]
 fn bounds_the_texts_of_batches(rt: HostRuntime) {
     for row in &TEXTS {
-        check(&rt, &row.0, is_entered(&rt, row));
+        check(&rt, &row.3, is_entered(&rt, row));
     }
 }
 
 /// Whether a batch that enters a text of so many bytes is answered so.
-fn is_entered<R: AllocGlobal + Wait>(rt: &R, row: &(usize, &str, &str)) -> bool {
-    let stream = entering(rt.alloc(), row.0);
-    let response = response_of(rt.alloc(), row.1, "", row.2);
-    let ran = run(rt, "run", stream.as_bytes(), 100_000, 0, 0);
-    ran.status == 0 && ran.output.written().as_slice() == response.as_bytes()
+fn is_entered<R: AllocGlobal + Wait>(rt: &R, row: &(usize, &str, &str, &str)) -> bool {
+    let alloc = rt.alloc();
+    let body = entering(alloc, row.0, row.1);
+    let stream = batch_of(alloc, body.as_str());
+    let response = response_of(alloc, row.2, "", row.3);
+    ends_with(rt, stream.as_str(), response.as_str())
 }
 
 /// What stands before the text that a batch enters.
 const BEFORE: &str =
-    "{\"requests\":[{\"updateCells\":{\"fields\":\"*\",\"start\":{},\"rows\":[{\"values\":[{\"userEnteredValue\":{\"stringValue\":\"";
+    "{\"requests\":[{\"updateCells\":{\"fields\":\"*\",\"rows\":[{\"values\":[{\"userEnteredValue\":{\"stringValue\":\"";
 
-/// What stands behind it.
-const BEHIND: &str = "\"}}]}]}}]}";
+/// The body of a batch that enters a text of so many bytes.
+fn entering(alloc: Global, bytes: usize, behind: &str) -> String {
+    let mut body = String::new(alloc);
+    add(&mut body, BEFORE);
+    for _ in 0..bytes {
+        add(&mut body, "a");
+    }
+    add(&mut body, behind);
+    body
+}
 
-/// The text of a batch that enters a text of so many bytes.
-fn entering(alloc: Global, bytes: usize) -> String {
-    let around = BEFORE.len() + BEHIND.len();
+#[test]
+fn does_long_batches(rt: HostRuntime) {
+    for row in &LONG_BATCHES {
+        check(&rt, &row.5, is_repeated(&rt, row));
+    }
+}
+
+/// Whether the last of the requests is answered so.
+fn is_repeated<R: AllocGlobal + Wait>(rt: &R, row: &Repeated) -> bool {
+    let alloc = rt.alloc();
+    let body = repeating(alloc, row.0, row.1, row.2);
+    let mut stream = batch_of(alloc, body.as_str());
+    let behind = stream_of(alloc, row.3, OWNER);
+    add(&mut stream, behind.as_str());
+    let response = response_of(alloc, row.4, "", row.5);
+    ends_with(rt, stream.as_str(), response.as_str())
+}
+
+/// The body of a batch of one request so many times and then of a last one.
+fn repeating(alloc: Global, request: &str, times: usize, last: &str) -> String {
+    let mut body = String::new(alloc);
+    add(&mut body, "{\"requests\":[");
+    for _ in 0..times {
+        add(&mut body, request);
+        add(&mut body, ",");
+    }
+    add(&mut body, last);
+    add(&mut body, "]}");
+    body
+}
+
+/// The text of a batch of the owner with that body.
+fn batch_of(alloc: Global, body: &str) -> String {
     let mut stream = String::new(alloc);
     add(
         &mut stream,
         "POST /v4/spreadsheets/book1:batchUpdate HTTP/1.1\r\nContent-Length: ",
     );
-    add_number(&mut stream, around.saturating_add(bytes));
+    add_number(&mut stream, body.len());
     add(&mut stream, "\r\n");
     add(&mut stream, OWNER);
     add(&mut stream, "\r\n");
-    add(&mut stream, BEFORE);
-    for _ in 0..bytes {
-        add(&mut stream, "a");
-    }
-    add(&mut stream, BEHIND);
+    add(&mut stream, body);
     stream
+}
+
+/// Whether the stream is served to its end, and its output ends with that response.
+fn ends_with<R: AllocGlobal + Wait>(rt: &R, stream: &str, response: &str) -> bool {
+    let ran = run(rt, "run", stream.as_bytes(), 100_000, 0, 0);
+    ran.status == 0
+        && ran
+            .output
+            .written()
+            .as_slice()
+            .ends_with(response.as_bytes())
 }
 
 /// Whether requests of the owner are served to their end, and the last one is answered so.
@@ -418,13 +505,7 @@ fn is_answered<R: AllocGlobal + Wait>(rt: &R, row: &Exchange) -> bool {
 fn is_answered_to<R: AllocGlobal + Wait>(rt: &R, row: &Exchange, user: &str) -> bool {
     let stream = stream_of(rt.alloc(), row.0, user);
     let response = response_of(rt.alloc(), row.1, row.2, row.3);
-    let ran = run(rt, "run", stream.as_bytes(), 100_000, 0, 0);
-    ran.status == 0
-        && ran
-            .output
-            .written()
-            .as_slice()
-            .ends_with(response.as_bytes())
+    ends_with(rt, stream.as_str(), response.as_str())
 }
 
 /// The text of requests, each its line, the field that tells its user, its fields and its body.

@@ -3,7 +3,7 @@
 use crate::rows::{BAD_REQUEST, Exchange, OK};
 
 /// What follows rows that are inserted and deleted.
-pub(crate) static INSERTED_AND_DELETED: [Exchange; 6] = [
+pub(crate) static INSERTED_AND_DELETED: [Exchange; 7] = [
     (
         &[
             (
@@ -140,6 +140,33 @@ pub(crate) static INSERTED_AND_DELETED: [Exchange; 6] = [
         OK,
         "",
         "{\"majorDimension\":\"ROWS\",\"range\":\"Sheet1!C9\",\"values\":[[\"=SUM(#REF!)\"]]}",
+    ),
+    (
+        &[
+            (
+                "POST /v4/spreadsheets/book1:batchUpdate",
+                "Content-Length: 30\r\n",
+                "{\"requests\":[{\"addSheet\":{}}]}",
+            ),
+            (
+                "PUT /v4/spreadsheets/book1/values/Sheet2!A1?valueInputOption=USER_ENTERED",
+                "Content-Length: 30\r\n",
+                "{\"values\":[[\"=Sheet1!A3+A3\"]]}",
+            ),
+            (
+                "POST /v4/spreadsheets/book1:batchUpdate",
+                "Content-Length: 105\r\n",
+                "{\"requests\":[{\"insertDimension\":{\"range\":{\"sheetId\":0,\"dimension\":\"ROWS\",\"startIndex\":0,\"endIndex\":1}}}]}",
+            ),
+            (
+                "GET /v4/spreadsheets/book1/values/Sheet2!A1?valueRenderOption=FORMULA",
+                "",
+                "",
+            ),
+        ],
+        OK,
+        "",
+        "{\"majorDimension\":\"ROWS\",\"range\":\"Sheet2!A1\",\"values\":[[\"=Sheet1!A4+A3\"]]}",
     ),
 ];
 

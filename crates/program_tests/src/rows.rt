@@ -2620,8 +2620,27 @@ pub(crate) static WRITES_TO_LISTS: [Exchange; 24] = [
     ),
 ];
 
+/// A write to equal places of two sheets, whose rows and columns are counted apart.
+pub(crate) static WRITES_TO_TWO_SHEETS: [Exchange; 1] = [(
+    &[
+        (
+            "POST /v4/spreadsheets/book1:batchUpdate",
+            "Content-Length: 30\r\n",
+            "{\"requests\":[{\"addSheet\":{}}]}",
+        ),
+        (
+            "POST /v4/spreadsheets/book1/values:batchUpdate",
+            "Content-Length: 102\r\n",
+            "{\"valueInputOption\":\"RAW\",\"data\":[{\"range\":\"A1\",\"values\":[[1]]},{\"range\":\"Sheet2!A1\",\"values\":[[2]]}]}",
+        ),
+    ],
+    OK,
+    "",
+    "{\"responses\":[{\"spreadsheetId\":\"book1\",\"updatedCells\":1,\"updatedColumns\":1,\"updatedRange\":\"Sheet1!A1\",\"updatedRows\":1},{\"spreadsheetId\":\"book1\",\"updatedCells\":1,\"updatedColumns\":1,\"updatedRange\":\"Sheet2!A1\",\"updatedRows\":1}],\"spreadsheetId\":\"book1\",\"totalUpdatedCells\":2,\"totalUpdatedColumns\":2,\"totalUpdatedRows\":2,\"totalUpdatedSheets\":2}",
+)];
+
 /// Looks at spreadsheets, and their answers, known from outside.
-pub(crate) static LOOKS: [Exchange; 6] = [
+pub(crate) static LOOKS: [Exchange; 7] = [
     (
         &[("GET /v4/spreadsheets/book1", "Host: localhost\r\n", "")],
         OK,
@@ -2640,9 +2659,9 @@ pub(crate) static LOOKS: [Exchange; 6] = [
     ),
     (
         &[("GET /v4/spreadsheets/book1?includeGridData=true", "", "")],
-        BAD_REQUEST,
+        OK,
         "",
-        "{\"error\":{\"code\":400,\"message\":\"Unsupported\",\"status\":\"INVALID_ARGUMENT\"}}",
+        "{\"properties\":{\"title\":\"book1\"},\"sheets\":[{\"data\":[{\"rowMetadata\":[]}],\"properties\":{\"gridProperties\":{\"columnCount\":26,\"rowCount\":1000},\"index\":0,\"sheetId\":0,\"sheetType\":\"GRID\",\"title\":\"Sheet1\"}}],\"spreadsheetId\":\"book1\"}",
     ),
     (
         &[("GET /v4/spreadsheets/book1?includeGridData=1", "", "")],
@@ -2661,6 +2680,19 @@ pub(crate) static LOOKS: [Exchange; 6] = [
         NOT_FOUND,
         "",
         "{\"error\":{\"code\":404,\"message\":\"NoBook\",\"status\":\"NOT_FOUND\"}}",
+    ),
+    (
+        &[
+            (
+                "POST /v4/spreadsheets/book1:batchUpdate",
+                "Content-Length: 70\r\n",
+                "{\"requests\":[{\"addSheet\":{\"properties\":{\"hidden\":true,\"title\":\"x\"}}}]}",
+            ),
+            ("GET /v4/spreadsheets/book1?includeGridData=true", "", ""),
+        ],
+        OK,
+        "",
+        "{\"properties\":{\"title\":\"book1\"},\"sheets\":[{\"data\":[{\"rowMetadata\":[]}],\"properties\":{\"gridProperties\":{\"columnCount\":26,\"rowCount\":1000},\"index\":0,\"sheetId\":0,\"sheetType\":\"GRID\",\"title\":\"Sheet1\"}},{\"data\":[{\"rowMetadata\":[]}],\"properties\":{\"gridProperties\":{\"columnCount\":26,\"rowCount\":1000},\"hidden\":true,\"index\":1,\"sheetId\":1,\"sheetType\":\"GRID\",\"title\":\"x\"}}],\"spreadsheetId\":\"book1\"}",
     ),
 ];
 

@@ -16,6 +16,8 @@ use Rattle.sheets_json.specs.declared.answer.Answer.TheVariants as answer
 use Rattle.grid_range.specs.declared.band.Band.{Band}
 use Rattle.grid_range.specs.declared.band.Band.TheVariants.{Whole, From, Span}
 use Rattle.grid_range.specs.declared.area.Area.{Area}
+use Rattle.sheets_json.specs.declared.spreadsheet.DimensionProperties.{DimensionProperties}
+use Rattle.sheets_json.specs.declared.spreadsheet.GridData.{GridData}
 use Rattle.sheets_json.specs.declared.spreadsheet.ShownProperties.{ShownProperties}
 use Rattle.sheets_json.specs.declared.spreadsheet.ShownSheet.{ShownSheet}
 use Rattle.sheets_json.specs.declared.spreadsheet.Spreadsheet.{Spreadsheet}
@@ -23,7 +25,7 @@ use Rattle.sheets_json.specs.declared.spreadsheet.Reply.{Reply}
 use Rattle.sheets_json.specs.declared.spreadsheet.Reply.TheVariants as reply
 use Rattle.sheets_json.specs.Written.{put_given, put_true, list_data, text_data}
 use Rattle.named_ranges.specs.declared.range.NamedRange.{NamedRange}
-use Rattle.sheets_json.specs.Spreadsheets.{area_data, named_range_data, title_data, grid_properties_data, place_members, properties_data, sheet_data, spreadsheet_data, reply_data}
+use Rattle.sheets_json.specs.Spreadsheets.{area_data, named_range_data, title_data, grid_properties_data, place_members, properties_data, row_data, grid_data, grids_data, sheet_data, spreadsheet_data, reply_data}
 use Rattle.sheets_json.specs.Answers.{dimension_data, cell_data, range_data, update_data, append_data, answer_data}
 use Rattle.sheets_json.specs.Refusals.{refusal_data}
 
@@ -55,8 +57,8 @@ dimension_whole : (axis : Axis) → has_float (dimension_data axis) ≡ false
 dimension_whole Rows = refl
 dimension_whole Columns = refl
 
-row_whole : (row : List Cell) → has_float (list_data cell_data row) ≡ false
-row_whole row = list_whole cell_data cell_whole row
+cells_whole : (row : List Cell) → has_float (list_data cell_data row) ≡ false
+cells_whole row = list_whole cell_data cell_whole row
 
 -- a range, whether it has values or not
 values_whole : (range : List ℕ) (axis : Axis) (values : Option (List (List Cell)))
@@ -65,7 +67,7 @@ values_whole : (range : List ℕ) (axis : Axis) (values : Option (List (List Cel
 values_whole range axis None = or_false (has_float (dimension_data axis)) false (dimension_whole axis) refl
 values_whole range axis (Some rows) =
     or_false (has_float (dimension_data axis)) (any_float (list_data cell_data) rows || false) (dimension_whole axis)
-    (or_false (any_float (list_data cell_data) rows) false (list_whole (list_data cell_data) row_whole rows) refl)
+    (or_false (any_float (list_data cell_data) rows) false (list_whole (list_data cell_data) cells_whole rows) refl)
 
 range_whole : (shown : ShownRange) → has_float (range_data shown) ≡ false
 range_whole shown = values_whole shown.range shown.major_dimension shown.values
@@ -103,6 +105,18 @@ hidden_whole properties false = refl
 properties_whole : (properties : ShownProperties) → has_float (properties_data properties) ≡ false
 properties_whole properties = hidden_whole properties properties.hidden
 
+-- a row, whether it is hidden or not
+filtered_whole : (hidden : Bool) → members_have_float (put_true (codes "hiddenByFilter") hidden no_members) ≡ false
+filtered_whole true = refl
+filtered_whole false = refl
+
+row_whole : (row : DimensionProperties) → has_float (row_data row) ≡ false
+row_whole row = filtered_whole row.hidden_by_filter
+
+grid_whole : (grid : GridData) → has_float (grid_data grid) ≡ false
+grid_whole grid =
+    or_false (any_float row_data grid.row_metadata) false (list_whole row_data row_whole grid.row_metadata) refl
+
 merges_whole : (merges : Option (List Area)) (properties : ShownProperties)
     → members_have_float (put_given (codes "merges") (list_data area_data) merges
     (put (codes "properties") (properties_data properties) no_members)) ≡ false
@@ -112,8 +126,22 @@ merges_whole (Some areas) properties =
     (list_whole area_data area_whole areas)
     (or_false (has_float (properties_data properties)) false (properties_whole properties) refl)
 
+grids_whole : (grid : GridData) → any_float grid_data (grid ∷ []) ≡ false
+grids_whole grid = list_whole grid_data grid_whole (grid ∷ [])
+
+-- a sheet, whether its rows are shown or not
+data_whole : (grid : Option GridData) (merges : Option (List Area)) (properties : ShownProperties)
+    → members_have_float (put_given (codes "data") grids_data grid
+    (put_given (codes "merges") (list_data area_data) merges
+    (put (codes "properties") (properties_data properties) no_members))) ≡ false
+data_whole None merges properties = merges_whole merges properties
+data_whole (Some grid) None properties =
+    or_false (any_float grid_data (grid ∷ [])) _ (grids_whole grid) (merges_whole None properties)
+data_whole (Some grid) (Some areas) properties =
+    or_false (any_float grid_data (grid ∷ [])) _ (grids_whole grid) (merges_whole (Some areas) properties)
+
 sheet_whole : (sheet : ShownSheet) → has_float (sheet_data sheet) ≡ false
-sheet_whole sheet = merges_whole sheet.merges sheet.properties
+sheet_whole sheet = data_whole sheet.data sheet.merges sheet.properties
 
 named_whole : (named : NamedRange) → has_float (named_range_data named) ≡ false
 named_whole named = or_false (has_float (area_data named.area)) false (area_whole named.area) refl

@@ -1,11 +1,14 @@
--- Spreadsheets as JSON values (Google Sheets API v4 reference, Spreadsheet, Sheet, SheetProperties, NamedRange and
--- GridRange), and the responses of spreadsheets.batchUpdate. Members are put into an object in the order of their names.
-use Rattle.std.specs.Prelude.{ℕ, List, codes, Option, None, Some}
+-- Spreadsheets as JSON values (Google Sheets API v4 reference, Spreadsheet, Sheet, SheetProperties, GridData,
+-- DimensionProperties, NamedRange and GridRange), and the responses of spreadsheets.batchUpdate. Members are put
+-- into an object in the order of their names.
+use Rattle.std.specs.Prelude.{ℕ, List, [], ◌∷◌, codes, Option, None, Some}
 use Rattle.serde_json.specs.Data.{Data, object, Members, no_members, put}
 use Rattle.grid_range.specs.declared.band.Band.{Band}
 use Rattle.grid_range.specs.declared.band.Band.TheVariants.{Whole, From, Span}
 use Rattle.grid_range.specs.declared.area.Area.{Area}
 use Rattle.named_ranges.specs.declared.range.NamedRange.{NamedRange}
+use Rattle.sheets_json.specs.declared.spreadsheet.DimensionProperties.{DimensionProperties}
+use Rattle.sheets_json.specs.declared.spreadsheet.GridData.{GridData}
 use Rattle.sheets_json.specs.declared.spreadsheet.ShownProperties.{ShownProperties}
 use Rattle.sheets_json.specs.declared.spreadsheet.ShownSheet.{ShownSheet}
 use Rattle.sheets_json.specs.declared.spreadsheet.Spreadsheet.{Spreadsheet}
@@ -62,10 +65,22 @@ properties_data properties = object (
     put (codes "gridProperties") (grid_properties_data properties) (
     put_true (codes "hidden") properties.hidden (place_members properties)))
 
+-- it is said that a filter hides a row, and not that none does
+abbrev pub row_data : DimensionProperties → Data
+row_data row = object (put_true (codes "hiddenByFilter") row.hidden_by_filter no_members)
+
+abbrev pub grid_data : GridData → Data
+grid_data grid = object (put (codes "rowMetadata") (list_data row_data grid.row_metadata) no_members)
+
+-- one range of a sheet is shown, which is all of it
+abbrev pub grids_data : GridData → Data
+grids_data grid = list_data grid_data (grid ∷ [])
+
 abbrev pub sheet_data : ShownSheet → Data
 sheet_data sheet = object (
+    put_given (codes "data") grids_data sheet.data (
     put_given (codes "merges") (list_data area_data) sheet.merges (
-    put (codes "properties") (properties_data sheet.properties) no_members))
+    put (codes "properties") (properties_data sheet.properties) no_members)))
 
 -- ---- spreadsheets
 

@@ -25,5 +25,7 @@ pub use json_shapes::ShapeFault;
 pub use laws::{areas_are_read_again, named_ranges_are_read_again};
 pub use place::Place;
 pub use reading::read_call;
-pub use spreadsheet::{Reply, ShownProperties, ShownSheet, Spreadsheet};
+pub use spreadsheet::{
+    DimensionProperties, GridData, Reply, ShownProperties, ShownSheet, Spreadsheet,
+};
 pub use writing::{answer_text, refusal_text};

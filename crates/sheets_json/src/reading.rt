@@ -22,8 +22,9 @@ use std::alloc::Global;
 /// JSON object with just the members that the call has, of which those that say how the others
 /// are taken have one of their words, and those that list what is to be done are lists;
 /// [`CallFault::EmptyBatch`] where such a list, or the list of ranges in the query, is empty;
-/// [`CallFault::NotRead`] for a call that isn't one on values; [`CallFault::NoMemory`] only where
-/// memory runs out. What else is wrong with the values of a write is kept in the call.
+/// [`CallFault::NotRead`] for a read by filters of data, a look at an item of developer metadata
+/// and a search for such items; [`CallFault::NoMemory`] only where memory runs out. What else is
+/// wrong with the values of a write is kept in the call.
 pub fn read_call(alloc: Global, route: &Route, body: &[u8]) -> Result<Call, CallFault>
     ensures { (result ≡ call_of route.now body.now) ⊎ (result ≡ Err CallFault.NoMemory) }
 {

@@ -1,11 +1,11 @@
-ghost use Rattle.std.specs.Prelude.{◌≡◌, IfOk};
+ghost use Rattle.std.specs.Prelude.{◌≡◌, codes, IfOk};
 ghost use Rattle.serde_json.specs.Data.{put};
 ghost use Rattle.serde_json.specs.View.{view, members_view};
-ghost use Rattle.sheets_json.specs.Written.{put_true};
-ghost use Rattle.sheets_json.specs.Spreadsheets.{start_of, end_of, area_data, named_range_data, grid_properties_data, place_members, properties_data, sheet_data, title_data, spreadsheet_data, reply_object, reply_data, batch_data};
+ghost use Rattle.sheets_json.specs.Written.{put_given, put_true};
+ghost use Rattle.sheets_json.specs.Spreadsheets.{start_of, end_of, area_data, named_range_data, grid_properties_data, place_members, properties_data, row_data, grid_data, grids_data, sheet_data, title_data, spreadsheet_data, reply_object, reply_data, batch_data};
 
 use crate::writing::{Written, text_json, with, with_given};
-use crate::{Reply, ShownProperties, ShownSheet, Spreadsheet};
+use crate::{DimensionProperties, GridData, Reply, ShownProperties, ShownSheet, Spreadsheet};
 use cell_value::{Items, NoMemory, Text};
 use grid_range::{Area, Band};
 use named_ranges::NamedRange;
@@ -122,12 +122,60 @@ impl Written for ShownProperties {
     }
 }
 
+impl Written for DimensionProperties {
+    ghost json_data = { row_data };
+
+    fn to_json(&self, alloc: Global) -> Result<Json, NoMemory> {
+        let members = with_true(
+            alloc,
+            Map::new(alloc),
+            "hiddenByFilter",
+            self.hidden_by_filter,
+        )?;
+        Ok(Json::Object(members))
+    }
+}
+
+impl Written for GridData {
+    ghost json_data = { grid_data };
+
+    fn to_json(&self, alloc: Global) -> Result<Json, NoMemory> {
+        let members = with(alloc, Map::new(alloc), "rowMetadata", &self.row_metadata)?;
+        Ok(Json::Object(members))
+    }
+}
+
+/// A sheet's only range that is shown, in a list.
+fn grids_json(alloc: Global, grid: &GridData) -> Result<Json, NoMemory>
+    ensures { IfOk result (λ json. view json ≡ grids_data grid.now) }
+{
+    let mut grids = Vec::with_capacity(alloc, 1)?;
+    grids.push(grid.to_json(alloc)?)?;
+    Ok(Json::Array(grids))
+}
+
+/// The members of a sheet, with what is known of its rows, if that is given.
+fn with_grid(
+    alloc: Global,
+    members: Map<String, Json>,
+    grid: &Option<GridData>,
+) -> Result<Map<String, Json>, NoMemory>
+    ensures { IfOk result (λ more. members_view more.entries
+        ≡ put_given (codes "data") grids_data grid.now (members_view members.entries)) }
+{
+    match grid {
+        Some(grid) => with_json(alloc, members, "data", grids_json(alloc, grid)?),
+        None => Ok(members),
+    }
+}
+
 impl Written for ShownSheet {
     ghost json_data = { sheet_data };
 
     fn to_json(&self, alloc: Global) -> Result<Json, NoMemory> {
         let members = with(alloc, Map::new(alloc), "properties", &self.properties)?;
         let members = with_given(alloc, members, "merges", &self.merges)?;
+        let members = with_grid(alloc, members, &self.data)?;
         Ok(Json::Object(members))
     }
 }

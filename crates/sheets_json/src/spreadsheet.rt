@@ -18,10 +18,26 @@ pub struct Spreadsheet {
 /// A sheet as it is shown (Sheets API v4 reference, Sheet).
 #[derive(Debug, Drop)]
 pub struct ShownSheet {
+    /// What is known of its rows, if that is asked for.
+    pub data: Option<GridData>,
     /// The merged areas, by first row and then first column, if there are some.
     pub merges: Option<Items<Area>>,
     /// What is known of the sheet itself.
     pub properties: ShownProperties,
+}
+
+/// What is shown of the rows of a sheet (Sheets API v4 reference, GridData).
+#[derive(Debug, Drop)]
+pub struct GridData {
+    /// What is known of each row, from the first to the last of which something is known.
+    pub row_metadata: Items<DimensionProperties>,
+}
+
+/// What is known of a row (Sheets API v4 reference, DimensionProperties).
+#[derive(Clone, Copy, Debug, PartialEq, Eq)]
+pub struct DimensionProperties {
+    /// Whether a filter hides it.
+    pub hidden_by_filter: bool,
 }
 
 /// What is shown of a sheet itself (Sheets API v4 reference, SheetProperties). All are grids.

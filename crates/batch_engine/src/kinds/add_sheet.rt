@@ -4,10 +4,10 @@ ghost use Rattle.dimension_ops.specs.SheetRequests.{new_place};
 ghost use Rattle.world_model.specs.Sound.{place_sheet_with};
 ghost use Rattle.world_model.specs.Sheet.{PlaceSheet};
 ghost use Rattle.batch_engine.specs.AddSheet.{IsAddSheet, IsSheetAsked, any_properties};
-ghost use Rattle.batch_engine.specs.Looks.{shown_sheet};
+ghost use Rattle.batch_engine.specs.Looks.{shown_properties};
 ghost use Rattle.batch_engine.specs.Members.{IsDoneTo};
 
-use crate::looks::shown_sheet;
+use crate::looks::shown_properties;
 use cell_value::{NoMemory, SheetProperties};
 use dimension_ops::{Book, RuleOr, add_sheet as added};
 use sheets_json::{Reply, ShownProperties};
@@ -46,7 +46,7 @@ fn add(book: &mut Book, properties: &SheetProperties) -> Result<Reply, RuleOr>
     let index = place_of_new(book, properties);
     match added(book, properties) {
         Ok(id) => {
-            let properties = shown_properties(book, id, index)?;
+            let properties = properties_of(book, id, index)?;
             Ok(Reply::AddSheet { properties })
         }
         Err(fault) => Err(fault),
@@ -64,12 +64,11 @@ fn place_of_new(book: &Book, properties: &SheetProperties) -> u32
 }
 
 /// The properties of the sheet with the id, as they are shown at its place among the sheets.
-fn shown_properties(book: &Book, id: u32, index: u32) -> Result<ShownProperties, NoMemory>
+fn properties_of(book: &Book, id: u32, index: u32) -> Result<ShownProperties, NoMemory>
     requires { (sheet : PlaceSheet) × (place_sheet_with id book.now.sheets ≡ Some sheet) }
     ensures { IfOk result (λ shown. (sheet : PlaceSheet) → place_sheet_with id book.now.sheets ≡ Some sheet
-        → shown ≡ (shown_sheet index sheet).properties) }
+        → shown ≡ shown_properties index sheet) }
 {
     let sheet = book.sheet(id).unwrap();
-    let shown = shown_sheet(index, sheet)?;
-    Ok(shown.properties)
+    shown_properties(index, sheet)
 }

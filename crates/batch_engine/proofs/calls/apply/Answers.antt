@@ -122,12 +122,12 @@ returns-in_ok-batch-in-Batch c =
     c.in_ok-batch-in-Batch.field-0 applied.outcome applied.next
     (rw c.as_slice-in-Batch.ensures at c.in_ok-batch-in-Batch.ensures) installed) c.changed-in-Batch.ensures
 
-pub returns-in_ok-look-in-Get : goal.returns-in_ok-look-in-Get
-returns-in_ok-look-in-Get c =
+pub returns-in_ok-told-in-Get : goal.returns-in_ok-told-in-Get
+returns-in_ok-told-in-Get c =
     look_applied c.args.world.now c.book_of-book-in-Get.result.now c.args.caller.now c.args.call.now c.unchanged-in-Get.result.outcome
     c.unchanged-in-Get.result.next c.unchanged-in-Get.ensures.next _ _ c.in-Get.is
     (rw c.as_str-in-Get.ensures at c.book_of-book-in-Get.ensures)
-    c.in_ok-look-in-Get.field-0 c.in_ok-look-in-Get.ensures c.unchanged-in-Get.ensures.outcome
+    c.in_ok-told-in-Get.told c.in_ok-told-in-Get.ensures c.unchanged-in-Get.ensures.outcome
 
 pub returns-in_ok-told-in-Create : goal.returns-in_ok-told-in-Create
 returns-in_ok-told-in-Create c =

@@ -7,13 +7,14 @@ use Rattle.batch_engine.proofs.looks.shown_sheets.Goals as goal
 
 pub loop-at-preserved : goal.loop-at-preserved
 loop-at-preserved c =
+    let grids = c.args.grids in
     let sheets = c.args.book.now.sheets in
     let at = c.loop-at.at in
     let d = c.sheet_at-sheet.result.now in
     c.in_ok-push.ensures.items
     ∙ ap (λ all. all ++ c.in_ok-shown_sheet.field-0 ∷ []) c.loop-at.invariant
-    ∙ ap (λ one. shown_from 0 (take at sheets) ++ one ∷ [])
-    (c.in_ok-shown_sheet.ensures ∙ ap (shown_sheet at) (c.sheet_at-sheet.ensures.sheet d))
-    ∙ shown_next sheets at d (subst (λ count. at < count)
+    ∙ ap (λ one. shown_from grids 0 (take at sheets) ++ one ∷ [])
+    (c.in_ok-shown_sheet.ensures ∙ ap (shown_sheet grids at) (c.sheet_at-sheet.ensures.sheet d))
+    ∙ shown_next grids sheets at d (subst (λ count. at < count)
     (ap length (c.as_slice-at-end.ensures ∙ c.sheets.ensures) ∙ length-map sheets (λ (sheet : PlaceSheet). sheet.id))
     c.loop-at-test.true)
