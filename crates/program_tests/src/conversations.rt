@@ -16,8 +16,10 @@ use crate::rows::{
 use crate::sheets::{ADDED_SHEETS, PROPERTIES, REFUSED_PROPERTIES, REFUSED_SHEETS};
 use crate::values::{VALUES, VALUES_OF_OTHERS};
 use cell_value::{Bytes, Items};
+use connections::one_reply;
 use conversation::cut_off_laws;
-use sheets_cli::{reply_laws, sheets_main};
+use sheet_engine::Sheets;
+use sheets_cli::sheets_main;
 use sheets_http::{MemorySink, MemorySource};
 use std::alloc::Global;
 use std::sync::Wait;
@@ -710,6 +712,6 @@ fn is_cut_off(ran: &Ran, whole: &[u8], status: u8, faults: &[u8]) -> bool {
 
 #[test]
 fn calls_the_laws(_rt: HostRuntime) {
-    reply_laws();
+    one_reply::<Sheets>();
     cut_off_laws();
 }

@@ -1,5 +1,5 @@
 -- The program's commands: which words are one, and with which status and line it ends.
-use Rattle.std.specs.Prelude.{◌≡◌, ℕ, List, [], ◌∷◌, ◌++◌, ◌⊎◌, map, codes, String, string_bytes, Option, Some, IfSome}
+use Rattle.std.specs.Prelude.{◌≡◌, ℕ, List, [], ◌∷◌, ◌++◌, ◌⊎◌, map, codes, String, string_bytes, Option, Some, None, IfSome}
 use Rattle.std.specs.Option.{option_map}
 use Rattle.std.specs.Fmt.{decimal}
 use Rattle.std.specs.declared.alloc.Global.{Global}
@@ -9,11 +9,11 @@ use Rattle.conversation.specs.declared.ended.Ended.TheVariants.{WriteFault, NoMe
 use Rattle.sheets_http.specs.Framing.{End as TalkEnd, ended, asked, closed, truncated, long_talk}
 use Rattle.cell_value.specs.FaultCount.{Rose}
 use Rattle.sheets_cli.specs.declared.program.TheConstants.{MOST}
-use Rattle.world_model.specs.World.{NameWorld}
-use Rattle.dimension_ops.specs.World.{opening_world}
-use Rattle.sheets_cli.specs.Reply.{IsReply, IsResponse}
-use Rattle.sheets_cli.specs.Step.{anyone}
+use Rattle.desk.specs.declared.entry.Entry.{Entry}
 use Rattle.conversation.specs.Conversation.{at_moment, IsConversation, EndsAs}
+use Rattle.connections.specs.Calls.{UserTable}
+use Rattle.connections.specs.Alone.{IsReply, IsResponse}
+use Rattle.sheet_engine.specs.Replay.{Plain}
 
 -- the words are the command `run`
 abbrev pub IsRun : List (String Global) → Type 0
@@ -64,12 +64,17 @@ status_at (closed fault) = 0
 status_at (truncated count) = 5
 status_at long_talk = 8
 
--- the command `run` served the input of anyone to an end, which gives its status and its line, on the one spreadsheet
--- that there is at first; where the input tells what it holds, the end is that of its talk
+-- without a table of users anyone is served: a token is its user's name
+abbrev pub anyone : UserTable
+anyone = None
+
+-- The command `run` served the input of anyone to an end, which gives its status and its line; where the input tells
+-- what it holds, the end is that of its talk. The history is empty at first. Each response is that of one thread behind
+-- it, and each request that is accepted is then its last entry.
 pub record Runs (left written written_after : Option (List ℕ)) (shortages shortages_after : ℕ) (end : Ended)
     (status : ℕ) : Type 0 where
   pub status_is : status ≡ status_of end
   pub ends : IfSome left (λ bytes. EndsAs MOST bytes end)
-  pub world : NameWorld
-  pub served : IsConversation (IsResponse (IsReply anyone)) MOST left (at_moment opening_world written shortages)
-      (at_moment world written_after shortages_after) end
+  pub history : List Entry
+  pub served : IsConversation (IsResponse (IsReply Plain anyone)) MOST left (at_moment [] written shortages)
+      (at_moment history written_after shortages_after) end

@@ -1,21 +1,18 @@
-ghost use Rattle.std.specs.Prelude.{◌≡◌, ◌≢◌, ◌↔◌, ◌⊎◌, ℕ, List, codes, IsTrue, IfSome, string_bytes};
+ghost use Rattle.std.specs.Prelude.{◌≡◌, ◌≢◌, ◌↔◌, ◌⊎◌, ℕ, List, [], codes, IsTrue, IfSome, string_bytes};
 ghost use Rattle.sheets_http.specs.declared.request.Wire.{Wire};
 ghost use Rattle.sheets_http.specs.Framing.{End, truncated, long_talk, Talk};
 ghost use Rattle.cell_value.specs.FaultCount.{Rose};
-ghost use Rattle.world_model.specs.World.{NameWorld, WorldStandsFor};
-ghost use Rattle.dimension_ops.specs.World.{opening_world};
-ghost use Rattle.sheets_cli.specs.Reply.{IsReply, IsResponse};
+ghost use Rattle.desk.specs.declared.entry.Entry.{Entry};
 ghost use Rattle.conversation.specs.Conversation.{at_moment, Counts, HasEnd, IsConversation, EndsAs};
-ghost use Rattle.sheets_cli.specs.Step.{anyone};
-ghost use Rattle.sheets_cli.specs.Program.{IsRun, status_of, status_at, line_of, Runs, Says};
+ghost use Rattle.connections.specs.Alone.{IsReply, IsResponse};
+ghost use Rattle.sheet_engine.specs.Replay.{Plain};
+ghost use Rattle.sheets_cli.specs.Program.{anyone, IsRun, status_of, status_at, line_of, Runs, Says};
 
-use crate::answering::Answering;
 use crate::report::{report, say};
-use cell_value::NoMemory;
-use conversation::{Ended, converse};
-use dimension_ops::{World, opening_stands};
+use connections::converse_alone;
+use conversation::Ended;
+use sheet_engine::Sheets;
 use sheets_http::{Duplex, Link, Sink, Source, Users, conversation_laws};
-use std::alloc::Global;
 use std::sync::Wait;
 
 /// The most bytes of one conversation, 2^40.
@@ -27,8 +24,8 @@ pub const USAGE: u8 = 2;
 /// The program: the words behind its name, its input, its output and the output for its faults. It
 /// answers its status.
 ///
-/// The only command is `run`: it serves one conversation over input and output, on the one spreadsheet
-/// that there is at first. A request comes from the user whom its token names.
+/// The only command is `run`: it serves one conversation over input and output, at a desk that nobody
+/// else has, whose history is empty at first. A request comes from the user whom its token names.
 pub fn sheets_main<R: AllocGlobal + Wait, I: Source, O: Sink>(
     rt: &R,
     words: &[String],
@@ -127,15 +124,15 @@ fn run<R: AllocGlobal + Wait, I: Source, O: Sink>(
     status(ended)
 }
 
-/// Serves one conversation over input and output, on the one spreadsheet that there is at first.
+/// Serves one conversation over input and output.
 fn converse_anew<R: AllocGlobal + Wait, I: Source, O: Sink>(
     rt: &R,
     input: &mut I,
     output: &mut O,
 ) -> Ended
-    ensures served { (after : NameWorld) × IsConversation (IsResponse (IsReply anyone)) MOST (I.left input.old)
-        (at_moment opening_world (O.written output.old) (O.sink_shortages output.old))
-        (at_moment after (O.written output.new) (O.sink_shortages output.new)) result }
+    ensures served { (history : List Entry) × IsConversation (IsResponse (IsReply Plain anyone)) MOST (I.left input.old)
+        (at_moment [] (O.written output.old) (O.sink_shortages output.old))
+        (at_moment history (O.written output.new) (O.sink_shortages output.new)) result }
     ensures ends { IfSome (I.left input.old) (λ bytes. EndsAs MOST bytes result) }
     ensures read { result ≡ Ended.ReadFault → Rose (I.faults input.old) (I.faults input.new) }
     ensures write { result ≡ Ended.WriteFault → Rose (O.sink_faults output.old) (O.sink_faults output.new) }
@@ -145,42 +142,14 @@ fn converse_anew<R: AllocGlobal + Wait, I: Source, O: Sink>(
     ensures output { Counts (O.sink_faults output.old) (O.sink_faults output.new) (O.sink_steady output.old)
         (O.sink_steady output.new) }
 {
-    opening_stands();
-    match World::opening(rt.alloc()) {
-        Ok(world) => converse_over(rt, world, input, output),
-        Err(NoMemory) => Ended::NoMemory,
-    }
-}
-
-/// Serves one conversation over input and output.
-fn converse_over<R: AllocGlobal + Wait, I: Source, O: Sink>(
-    rt: &R,
-    world: World,
-    input: &mut I,
-    output: &mut O,
-) -> Ended
-    ensures served { (before : NameWorld) → WorldStandsFor world before → (after : NameWorld)
-        × IsConversation (IsResponse (IsReply anyone)) MOST (I.left input.old)
-        (at_moment before (O.written output.old) (O.sink_shortages output.old))
-        (at_moment after (O.written output.new) (O.sink_shortages output.new)) result }
-    ensures ends { IfSome (I.left input.old) (λ bytes. EndsAs MOST bytes result) }
-    ensures read { result ≡ Ended.ReadFault → Rose (I.faults input.old) (I.faults input.new) }
-    ensures write { result ≡ Ended.WriteFault → Rose (O.sink_faults output.old) (O.sink_faults output.new) }
-    ensures steady_read { IsTrue (I.steady input.old) → result ≢ Ended.ReadFault }
-    ensures steady_write { IsTrue (O.sink_steady output.old) → result ≢ Ended.WriteFault }
-    ensures input { Counts (I.faults input.old) (I.faults input.new) (I.steady input.old) (I.steady input.new) }
-    ensures output { Counts (O.sink_faults output.old) (O.sink_faults output.new) (O.sink_steady output.old)
-        (O.sink_steady output.new) }
-{
-    converse_on(rt, world, &mut Link { input, output })
+    converse_on(rt, &mut Link { input, output })
 }
 
 /// Serves one conversation over a link, with users who are anyone.
-fn converse_on<R: AllocGlobal + Wait, L: Duplex>(rt: &R, world: World, link: &mut L) -> Ended
-    ensures served { (before : NameWorld) → WorldStandsFor world before → (after : NameWorld)
-        × IsConversation (IsResponse (IsReply anyone)) MOST (L.left link.old)
-        (at_moment before (L.written link.old) (L.sink_shortages link.old))
-        (at_moment after (L.written link.new) (L.sink_shortages link.new)) result }
+fn converse_on<R: AllocGlobal + Wait, L: Duplex>(rt: &R, link: &mut L) -> Ended
+    ensures served { (history : List Entry) × IsConversation (IsResponse (IsReply Plain anyone)) MOST (L.left link.old)
+        (at_moment [] (L.written link.old) (L.sink_shortages link.old))
+        (at_moment history (L.written link.new) (L.sink_shortages link.new)) result }
     ensures ends { IfSome (L.left link.old) (λ bytes. EndsAs MOST bytes result) }
     ensures read { result ≡ Ended.ReadFault → Rose (L.faults link.old) (L.faults link.new) }
     ensures write { result ≡ Ended.WriteFault → Rose (L.sink_faults link.old) (L.sink_faults link.new) }
@@ -192,13 +161,7 @@ fn converse_on<R: AllocGlobal + Wait, L: Duplex>(rt: &R, world: World, link: &mu
     ensures references { L.references link.new ≡ L.references link.old }
 {
     let users = Users::anyone();
-    let answering = Answering {
-        alloc: rt.alloc(),
-        users: &users,
-        world,
-    };
-    let (ended, _) = converse(rt, rt.alloc(), answering, link, MOST);
-    ended
+    converse_alone::<_, _, Sheets>(rt, rt.alloc(), link, &users, MOST)
 }
 
 /// The status of a conversation that ended so.
