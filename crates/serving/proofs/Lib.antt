@@ -1,0 +1,4 @@
+pub mod Histories
+pub mod Courses
+pub mod Standing
+pub mod Endings

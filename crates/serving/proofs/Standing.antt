@@ -1,0 +1,573 @@
+-- Where accepting stands, step by step.
+use Rattle.std.proofs.Common.{◌≡◌, inl, inr, ℕ, zero, suc, ◌+◌, ◌<◌, ◌≤◌, Bool, List, [], ◌∷◌, ◌++◌, map, length, take, drop, slice_index_or, refl, sym, ap, subst, ◌∙◌, arith}
+use Rattle.std.specs.Prelude.{Option, Some, None, IfSome, All, ◌≢◌, IsTrue}
+use Rattle.std.specs.Option.{option_map}
+use Rattle.std.proofs.lemmas.List.{append-nil}
+use Rattle.cell_value.specs.FaultCount.{last_count, Rose}
+use Rattle.sheets_http.specs.Outside.{StaysSteady}
+use Rattle.std.proofs.lemmas.List.Elements.{All-nil, All-cons, All-head, All-tail, All-weaker}
+use Rattle.history_lock.specs.History.{StartsWith, NoneOf}
+use Rattle.history_lock.specs.Passes.{seen_by, number_of, count_of}
+use Rattle.history_lock.specs.declared.pass.Pass.{Pass}
+use Rattle.desk.specs.declared.desk.Desk.{Desk}
+use Rattle.desk.specs.declared.entry.Noted.{Noted}
+use Rattle.desk.specs.Desks.{IsPass, list_at}
+use Rattle.desk.specs.Points.{caller_of}
+use Rattle.connections.specs.Calls.{UserTable}
+use Rattle.connections.specs.Doors.{LinkSeen, IsFresh, Ending, Connection, Shown, IsAway, came_back, after_accept, after_refusal, after_back}
+use Rattle.serving.specs.declared.accepting.Served.{Served}
+use Rattle.serving.specs.declared.accepting.Served.TheVariants as served
+use Rattle.serving.specs.Serving.{AnswersAt, Arrival, Talk, IsAnother, WasServed, OfAnyTwo, HasAccepted, asked, showing, HaveTalked, Begun, Waiting, Accepting, arrival_of, IsTalked, HasMet, Course, under_way, over, shown_course, thread_of, threads_of, IsGiven, Fits, CoursesApart, StandsAt, Stands, HasAsked}
+use Rattle.serving.proofs.Histories.{starts_whole, starts_through}
+use Rattle.serving.proofs.Courses.{finished, found, one_thread_more, no_thread_more, away, back, as_many, last_away, last_back, at_place, each_finished, apart_finished, two_more, one_more_holds, talks_of, all_over, shown_over, count_over, apart_over}
+
+-- ---- what is shown after two calls of the doors
+
+-- a connection that was just accepted
+abbrev newcomer : LinkSeen → Connection
+newcomer link = record { held = link.left; back = None }
+
+shown_then : (o before shown : Option Shown) (f g h : Shown → Shown) → before ≡ option_map f o
+    → shown ≡ option_map g before → ((s : Shown) → g (f s) ≡ h s) → shown ≡ option_map h o
+shown_then None before shown f g h first second same =
+    second ∙ ap (λ (b : Option Shown). option_map g b) first
+shown_then (Some s) before shown f g h first second same =
+    second ∙ ap (λ (b : Option Shown). option_map g b) first ∙ ap Some (same s)
+
+shown_away : (o shown : Option Shown) (number calls : ℕ) (connections : List Connection) → IsAway number connections
+    → shown ≡ option_map (showing calls connections) o → IfSome shown (λ s. IsAway number s.connections)
+shown_away o shown number calls connections is same =
+    subst (λ (b : Option Shown). IfSome b (λ s. IsAway number s.connections)) (sym same) (cases o)
+  where
+    cases : (o : Option Shown) → IfSome (option_map (showing calls connections) o) (λ s. IsAway number s.connections)
+    cases None = tt
+    cases (Some s) = is
+
+-- the count of calls and the connections, by which doors show the same
+showing_same : (calls calls' : ℕ) (xs ys : List Connection) (s : Shown) → calls ≡ calls' → xs ≡ ys
+    → showing calls xs s ≡ showing calls' ys s
+showing_same calls calls' xs ys s same these =
+    ap (λ (n : ℕ). showing n xs s) same ∙ ap (λ (l : List Connection). showing calls' l s) these
+
+snoc_length : {A : Type 0} (xs : List A) (x : A) → suc (length xs) ≡ length (xs ++ x ∷ [])
+snoc_length [] x = refl
+snoc_length (y ∷ xs) x = ap suc (snoc_length xs x)
+
+snoc_map : {A B : Type 0} (f : A → B) (xs : List A) (x : A) → map f xs ++ f x ∷ [] ≡ map f (xs ++ x ∷ [])
+snoc_map f [] x = refl
+snoc_map f (y ∷ xs) x = ap (λ l. f y ∷ l) (snoc_map f xs x)
+
+map_length : {A B : Type 0} (f : A → B) (xs : List A) → length (map f xs) ≡ length xs
+map_length f [] = refl
+map_length f (x ∷ xs) = ap suc (map_length f xs)
+
+module _ {E K W : Type 0} (answers : AnswersAt E K W) (begun : Begun E K W) where
+  given_later : (count count' : ℕ) (arrival : Arrival) → count ≤ count' → IsGiven begun count arrival
+      → IsGiven begun count' arrival
+  given_later count count' arrival le is = record { another = is.another; below = omega (arith, is.below) }
+
+  -- what is known stays known
+  fits_later : (seen seen' : List Noted) (count count' : ℕ) (course : Course) → StartsWith seen' seen → count ≤ count'
+      → Fits answers begun seen count course → Fits answers begun seen' count' course
+  fits_later seen seen' count count' (under_way arrival) more le (arrived, is) =
+      (arrived, given_later count count' arrival le is)
+  fits_later seen seen' count count' (over talk) more le (arrived, talked, within, by) = (
+    arrived,
+    talked,
+    starts_through seen' seen talk.after more within,
+    elim by [ inl own ↦ inl own | inr is ↦ inr (given_later count count' talk.arrival le is) ],
+  )
+
+  all_later : (seen seen' : List Noted) (count count' : ℕ) (courses : List Course) → StartsWith seen' seen
+      → count ≤ count' → All (Fits answers begun seen count) courses → All (Fits answers begun seen' count') courses
+  all_later seen seen' count count' courses more le =
+      All-weaker (Fits answers begun seen count) (Fits answers begun seen' count')
+      (λ course fits. fits_later seen seen' count count' course more le fits) courses
+
+  -- a connection of a new number is apart from those before it
+  new_apart : (seen : List Noted) (count : ℕ) (arrival : Arrival) → count ≤ arrival.caller
+      → arrival.caller ≢ number_of begun.pass → (course : Course) → Fits answers begun seen count course
+      → CoursesApart course (under_way arrival)
+  new_apart seen count arrival le other (under_way start) (arrived, is) =
+      λ same. absurd (omega (arith, is.below, same))
+  new_apart seen count arrival le other (over talk) (arrived, talked, within, by) = elim by [
+    | inl own ↦ inl (λ same. other (sym same ∙ own))
+    | inr is ↦ inl (λ same. absurd (omega (arith, is.below, same)))
+  ]
+
+  -- and so is one of the first pass, which has seen what they had seen at their end
+  own_apart : (seen : List Noted) (count : ℕ) (talk : Talk) → talk.arrival.caller ≡ number_of begun.pass
+      → talk.arrival.before ≡ seen → (course : Course) → Fits answers begun seen count course
+      → CoursesApart course (over talk)
+  own_apart seen count talk own same (under_way start) (arrived, is) = λ e. is.another.other (e ∙ own)
+  own_apart seen count talk own same (over t) (arrived, talked, within, by) =
+      inr (subst (λ (l : List Noted). StartsWith l t.after) (sym same) within)
+
+  -- ---- the steps
+
+  module _ (threads : List (Waiting E K W)) (accepted : ℕ) (end : Served) (shown : Option Shown) (pass : Pass Noted)
+    where
+      -- another thread's connection is back
+      pub comes_back : (met other : Pass Noted) (threads' xs ys : List (Waiting E K W)) (w : Waiting E K W)
+          (shown' : Option Shown) (ending : Ending) → threads ≡ xs ++ w ∷ ys → threads' ≡ xs ++ ys
+          → IsTalked answers w.desk w.users w.arrival ending other → HasMet begun.desk pass other met
+          → shown' ≡ option_map (after_back w.number ending) shown
+          → StandsAt answers begun pass threads accepted end shown
+          → StandsAt answers begun met threads' accepted end shown'
+      comes_back met other threads' xs ys w shown' ending are are' talked has shows s =
+          let (place, at) = found begun 0 s.courses xs w ys (sym s.threads_are ∙ are) in
+          let after = seen_by other in
+          let number : w.number ≡ place = at.number_is ∙ omega arith in
+          let talked' : IsTalked answers begun.desk begun.users w.arrival ending other =
+          subst (λ (u : UserTable). IsTalked answers begun.desk u w.arrival ending other) at.users_is
+          (subst (λ (d : Desk E K W). IsTalked answers d w.users w.arrival ending other) at.desk_is talked) in
+          let fits : All (Fits answers begun (seen_by met) (count_of met)) s.courses =
+          all_later (seen_by pass) (seen_by met) (count_of pass) (count_of met) s.courses has.mine has.count s.each in
+          let this : Fits answers begun (seen_by met) (count_of met) (under_way w.arrival) =
+          at_place (Fits answers begun (seen_by met) (count_of met)) s.courses place (under_way w.arrival) at.at fits in
+          record {
+            courses = finished place after ending s.courses;
+            pass_is = has.pass_is;
+            number_is = has.number_is ∙ s.number_is;
+            sees = starts_through (seen_by met) (seen_by pass) (seen_by begun.pass) has.mine s.sees;
+            each = each_finished (Fits answers begun (seen_by met)
+                (count_of met)) s.courses place w.arrival after ending
+                at.at (this.0, talked'.talk, has.theirs, inr this.1) fits;
+            apart = apart_finished s.courses place after ending s.apart;
+            threads_are = are' ∙ sym (at.others after ending);
+            accepted_is = s.accepted_is ∙ sym (as_many s.courses place after ending);
+            shown_is = shown_then begun.shown shown shown'
+                (showing (asked end (length s.courses)) (map shown_course s.courses)) (after_back w.number ending)
+                (showing (asked end (length (finished place after ending s.courses)))
+                (map shown_course (finished place after ending s.courses)))
+                s.shown_is shows
+                (λ shows. showing_same (asked end (length s.courses))
+                (asked end (length (finished place after ending s.courses)))
+                (came_back w.number ending (map shown_course s.courses))
+                (map shown_course (finished place after ending s.courses)) shows
+                (ap (asked end) (sym (as_many s.courses place after ending)))
+                (ap (λ (n : ℕ). came_back n ending (map shown_course s.courses)) number
+                ∙ back s.courses place w.arrival after ending at.at));
+          }
+
+      -- until then it is away
+      pub is_away : (xs ys : List (Waiting E K W)) (w : Waiting E K W) → threads ≡ xs ++ w ∷ ys
+          → StandsAt answers begun pass threads accepted end shown
+          → IfSome shown (λ s. IsAway w.number s.connections)
+      is_away xs ys w are s =
+          let (place, at) = found begun 0 s.courses xs w ys (sym s.threads_are ∙ are) in
+          let number : place ≡ w.number = sym (at.number_is ∙ omega arith) in
+          shown_away begun.shown shown w.number (asked end (length s.courses)) (map shown_course s.courses)
+          (subst (λ (n : ℕ). IsAway n (map shown_course s.courses)) number (away s.courses place w.arrival at.at))
+          s.shown_is
+
+  -- a pass that has seen the same, and knows of more numbers
+  pub recounts : (threads : List (Waiting E K W)) (accepted : ℕ) (end : Served) (shown : Option Shown)
+      (pass pass' : Pass Noted) → IsPass begun.desk pass' → seen_by pass' ≡ seen_by pass
+      → number_of pass' ≡ number_of pass → count_of pass ≤ count_of pass'
+      → StandsAt answers begun pass threads accepted end shown → StandsAt answers begun pass' threads accepted end shown
+  recounts threads accepted end shown pass pass' is same number le s = record {
+    courses = s.courses;
+    pass_is = is;
+    number_is = number ∙ s.number_is;
+    sees = subst (λ (l : List Noted). StartsWith l (seen_by begun.pass)) (sym same) s.sees;
+    each = all_later (seen_by pass) (seen_by pass') (count_of pass) (count_of pass') s.courses
+        (subst (λ (l : List Noted). StartsWith l (seen_by pass)) (sym same) (starts_whole (seen_by pass))) le s.each;
+    apart = s.apart;
+    threads_are = s.threads_are;
+    accepted_is = s.accepted_is;
+    shown_is = s.shown_is;
+  }
+
+  -- nothing was accepted yet
+  pub begins : (pass : Pass Noted) (threads : List (Waiting E K W)) (shown : Option Shown) → IsPass begun.desk pass
+      → begun.pass ≡ pass → threads ≡ [] → begun.shown ≡ shown → IfSome shown (λ s. s.connections ≡ [])
+      → StandsAt answers begun pass threads 0 served.All shown
+  begins pass threads shown is first none same fresh = record {
+    courses = [];
+    pass_is = is;
+    number_is = ap (λ (p : Pass Noted). number_of p) (sym first);
+    sees = subst (λ (p : Pass Noted). StartsWith (seen_by pass) (seen_by p)) (sym first) (starts_whole (seen_by pass));
+    each = All-nil (Fits answers begun (seen_by pass) (count_of pass));
+    apart = tt;
+    threads_are = none;
+    accepted_is = refl;
+    shown_is = nothing shown fresh ∙ ap (λ (o : Option Shown). option_map (showing 0 []) o) (sym same);
+  }
+    where
+      nothing : (o : Option Shown) → IfSome o (λ s. s.connections ≡ []) → o ≡ option_map (showing 0 []) o
+      nothing None fresh = refl
+      nothing (Some s) fresh = ap (λ (l : List Connection).
+          Some (record { opened = s.opened; accepts = s.accepts; connections = l })) fresh
+
+  -- ---- a further connection
+
+  module _ (threads : List (Waiting E K W)) (accepted : ℕ) (shown before : Option Shown) (pass : Pass Noted)
+      (link : LinkSeen) (fresh : IsFresh link) (s : StandsAt answers begun pass threads accepted served.All before)
+      (shows : shown ≡ option_map (after_accept link.left) before) where
+    -- it is shown behind the others
+    shown_newcomer : shown ≡ option_map (showing (suc (length s.courses))
+        (map shown_course s.courses ++ newcomer link ∷ [])) begun.shown
+    shown_newcomer = shown_then begun.shown before shown
+        (showing (length s.courses) (map shown_course s.courses)) (after_accept link.left)
+        (showing (suc (length s.courses)) (map shown_course s.courses ++ newcomer link ∷ []))
+        s.shown_is shows (λ x. refl)
+
+    number : accepted ≡ length (map shown_course s.courses)
+    number = s.accepted_is ∙ sym (map_length shown_course s.courses)
+
+    pub newcomer_away : IfSome shown (λ x. IsAway accepted x.connections)
+    newcomer_away =
+        shown_away begun.shown shown accepted (suc (length s.courses))
+        (map shown_course s.courses ++ newcomer link ∷ [])
+        (subst (λ (n : ℕ). IsAway n (map shown_course s.courses ++ newcomer link ∷ []))
+        (sym number) (last_away (map shown_course s.courses) (newcomer link) refl))
+        shown_newcomer
+
+    -- a thread serves it, with a pass of a new number
+    pub starts : (pass' own : Pass Noted) (threads' : List (Waiting E K W)) → IsPass begun.desk pass'
+        → seen_by pass' ≡ seen_by pass → number_of pass' ≡ number_of pass → count_of pass ≤ count_of pass'
+        → seen_by own ≡ seen_by pass → count_of pass ≤ number_of own → count_of pass' ≡ number_of own + 1
+        → IsAnother begun.desk (number_of pass) (arrival_of own link)
+        → threads' ≡ threads ++ thread_of begun accepted (arrival_of own link) ∷ []
+        → StandsAt answers begun pass' threads' (accepted + 1) served.All shown
+    starts pass' own threads' is same number_same le own_same next count another are =
+        let arrival = arrival_of own link in
+        let first : StartsWith (seen_by own) (seen_by begun.pass) =
+        subst (λ (l : List Noted). StartsWith l (seen_by begun.pass)) (sym own_same) s.sees in
+        let another' : IsAnother begun.desk (number_of begun.pass) arrival =
+        subst (λ (n : ℕ). IsAnother begun.desk n arrival) s.number_is another in
+        record {
+          courses = s.courses ++ under_way arrival ∷ [];
+          pass_is = is;
+          number_is = number_same ∙ s.number_is;
+          sees = subst (λ (l : List Noted). StartsWith l (seen_by begun.pass)) (sym same) s.sees;
+          each = one_more_holds (Fits answers begun (seen_by pass') (count_of pass')) s.courses (under_way arrival)
+              (all_later (seen_by pass) (seen_by pass') (count_of pass) (count_of pass') s.courses
+              (subst (λ (l : List Noted). StartsWith l (seen_by pass)) (sym same) (starts_whole
+              (seen_by pass))) le s.each)
+              (record { fresh = fresh; begins = first }, record { another = another'; below = omega (arith, count) });
+          apart = two_more CoursesApart s.courses (under_way arrival)
+              (All-weaker (Fits answers begun (seen_by pass) (count_of pass))
+              (λ course. CoursesApart course (under_way arrival))
+              (new_apart (seen_by pass) (count_of pass) arrival next another'.other) s.courses s.each) s.apart;
+          threads_are = are ∙ ap (λ (l : List (Waiting E K W)). l ++ thread_of begun accepted arrival ∷ [])
+              s.threads_are
+              ∙ ap (λ (n : ℕ). threads_of begun 0 s.courses
+              ++ thread_of begun n arrival ∷ [])
+              (s.accepted_is ∙ omega arith)
+              ∙ sym (one_thread_more begun 0 s.courses arrival);
+          accepted_is = ap (λ (n : ℕ). n + 1) s.accepted_is ∙ omega arith ∙ snoc_length s.courses (under_way arrival);
+          shown_is = shown_newcomer ∙ ap (λ (h : Shown → Shown). option_map h begun.shown)
+              (shown_more (under_way arrival));
+        }
+      where
+        shown_more : (course : Course) → showing (suc (length s.courses))
+            (map shown_course s.courses ++ shown_course course ∷ [])
+            ≡ showing (length (s.courses ++ course ∷ [])) (map shown_course (s.courses ++ course ∷ []))
+        shown_more course =
+            ap (λ (n : ℕ). showing n (map shown_course s.courses ++ shown_course course ∷ []))
+            (snoc_length s.courses course)
+            ∙ ap (λ (l : List Connection). showing (length (s.courses ++ course ∷ [])) l)
+            (snoc_map shown_course s.courses course)
+
+    -- it was served with the first pass, and is back
+    pub served_here : (pass' : Pass Noted) (shown' : Option Shown) (ending : Ending)
+        → IsTalked answers begun.desk begun.users (arrival_of pass link) ending pass' → count_of pass' ≡ count_of pass
+        → shown' ≡ option_map (after_back accepted ending) shown
+        → StandsAt answers begun pass' threads (accepted + 1) served.All shown'
+    served_here pass' shown' ending talked count shows' =
+        let talk : Talk = record { arrival = arrival_of pass link; after = seen_by pass'; ending = ending } in
+        record {
+          courses = s.courses ++ over talk ∷ [];
+          pass_is = talked.pass_is;
+          number_is = talked.number_is ∙ s.number_is;
+          sees = starts_through (seen_by pass') (seen_by pass) (seen_by begun.pass) talked.talk.grows s.sees;
+          each = one_more_holds (Fits answers begun (seen_by pass') (count_of pass')) s.courses (over talk)
+              (all_later (seen_by pass) (seen_by pass') (count_of pass) (count_of pass') s.courses talked.talk.grows
+              (omega (arith, count)) s.each)
+              (record { fresh = fresh; begins = s.sees }, talked.talk, starts_whole (seen_by pass'), inl s.number_is);
+          apart = two_more CoursesApart s.courses (over talk)
+              (All-weaker (Fits answers begun (seen_by pass) (count_of pass)) (λ course. CoursesApart course
+              (over talk))
+              (own_apart (seen_by pass) (count_of pass) talk s.number_is refl) s.courses s.each) s.apart;
+          threads_are = s.threads_are ∙ sym (no_thread_more begun 0 s.courses talk);
+          accepted_is = ap (λ (n : ℕ). n + 1) s.accepted_is ∙ omega arith ∙ snoc_length s.courses (over talk);
+          shown_is = shown_then begun.shown shown shown'
+              (showing (suc (length s.courses))
+              (map shown_course s.courses ++ newcomer link ∷ []))
+              (after_back accepted ending)
+              (showing (length (s.courses ++ over talk ∷ [])) (map shown_course (s.courses ++ over talk ∷ [])))
+              shown_newcomer shows'
+              (λ x. showing_same (suc (length s.courses)) (length (s.courses ++ over talk ∷ []))
+              (came_back accepted ending
+              (map shown_course s.courses ++ newcomer link ∷ []))
+              (map shown_course (s.courses ++ over talk ∷ [])) x (snoc_length s.courses (over talk))
+              (ap (λ (n : ℕ). came_back n ending
+              (map shown_course s.courses ++ newcomer link ∷ [])) number
+              ∙ last_back (map shown_course s.courses) (newcomer link) ending
+              ∙ snoc_map shown_course s.courses (over talk)));
+        }
+
+  -- the doors failed
+  pub fails : (threads : List (Waiting E K W)) (accepted : ℕ) (shown shown' : Option Shown) (pass : Pass Noted)
+      → shown' ≡ option_map after_refusal shown → StandsAt answers begun pass threads accepted served.All shown
+      → StandsAt answers begun pass threads accepted served.DoorFault shown'
+  fails threads accepted shown shown' pass shows s = record {
+    courses = s.courses;
+    pass_is = s.pass_is;
+    number_is = s.number_is;
+    sees = s.sees;
+    each = s.each;
+    apart = s.apart;
+    threads_are = s.threads_are;
+    accepted_is = s.accepted_is;
+    shown_is = shown_then begun.shown shown shown' (showing (length s.courses) (map shown_course s.courses))
+        after_refusal (showing (suc (length s.courses)) (map shown_course s.courses)) s.shown_is shows (λ x. refl);
+  }
+
+  -- ---- at the end
+
+  -- what fits a connection that is over
+  fits_over : (pass : Pass Noted) (talk : Talk) → Fits answers begun (seen_by pass) (count_of pass) (over talk)
+      → WasServed answers begun.desk begun.users (number_of begun.pass) (seen_by begun.pass) (seen_by pass) talk
+  fits_over pass talk (arrived, talked, within, by) = record {
+    arrived = arrived;
+    talked = talked;
+    within = within;
+    by = elim by [ inl own ↦ inl own | inr is ↦ inr is.another ];
+  }
+
+  all_served : (pass : Pass Noted) (talks : List Talk)
+      → All (Fits answers begun (seen_by pass) (count_of pass)) (map over talks)
+      → All (WasServed answers begun.desk begun.users (number_of begun.pass) (seen_by begun.pass) (seen_by pass)) talks
+  all_served pass [] all =
+      All-nil (WasServed answers begun.desk begun.users (number_of begun.pass) (seen_by begun.pass) (seen_by pass))
+  all_served pass (talk ∷ talks) all =
+      All-cons (WasServed answers begun.desk begun.users (number_of begun.pass) (seen_by begun.pass) (seen_by pass))
+      talk talks
+      (fits_over pass talk
+      (All-head (Fits answers begun (seen_by pass) (count_of pass)) (over talk) (map over talks) all))
+      (all_served pass talks
+      (All-tail (Fits answers begun (seen_by pass) (count_of pass)) (over talk) (map over talks) all))
+
+  -- where no thread is left, all have talked
+  pub ends : (pass : Pass Noted) (threads : List (Waiting E K W)) (accepted limit : ℕ) (end : Served)
+      (shown : Option Shown) → length threads ≡ 0 → HasAccepted limit end accepted
+      → StandsAt answers begun pass threads accepted end shown
+      → HaveTalked answers begun.desk begun.users (number_of begun.pass) (seen_by begun.pass) (seen_by pass) limit end
+      begun.shown shown
+  ends pass threads accepted limit end shown none counts s =
+      let talks = talks_of s.courses in
+      let over_all : s.courses ≡ map over talks = all_over begun 0 s.courses
+      (sym (ap (λ (l : List (Waiting E K W)). length l) s.threads_are) ∙ none) in
+      let count : length s.courses ≡ length talks =
+      ap (λ (l : List Course). length l) over_all ∙ count_over talks in
+      record {
+        talks = talks;
+        each = all_served pass talks
+            (subst (λ (l : List Course). All (Fits answers begun (seen_by pass) (count_of pass)) l) over_all s.each);
+        apart = apart_over talks (subst (λ (l : List Course). OfAnyTwo CoursesApart l) over_all s.apart);
+        sees = s.sees;
+        accepted = subst (λ (n : ℕ). HasAccepted limit end n) (s.accepted_is ∙ count) counts;
+        shown_is = s.shown_is ∙ ap (λ (h : Shown → Shown). option_map h begun.shown)
+            (ap (λ (n : ℕ). showing (asked end n) (map shown_course s.courses)) count
+            ∙ ap (λ (l : List Connection). showing (asked end (length talks)) l)
+            (ap (λ (l : List Course). map shown_course l) over_all ∙ shown_over talks));
+      }
+
+-- ---- the same, of who accepts
+
+-- the element at a place, and those round it
+split_at : {A : Type 0} (at : ℕ) (xs : List A) (x : A) → at < length xs → x ≡ slice_index_or xs at x
+    → xs ≡ take at xs ++ x ∷ drop (suc at) xs
+split_at at [] x lt is = absurd (omega arith)
+split_at zero (y ∷ ys) x lt is = ap (λ z. z ∷ ys) (sym is)
+split_at (suc at) (y ∷ ys) x lt is = ap (λ l. y ∷ l) (split_at at ys x (omega arith) is)
+
+-- a pass gave another, of a new number
+pub record HasSplit {E K W : Type 0} (desk : Desk E K W) (pass pass' own : Pass Noted) : Type 0 where
+  pub pass_is : IsPass desk pass'
+  pub seen : seen_by pass' ≡ seen_by pass
+  pub number : number_of pass' ≡ number_of pass
+  pub own_seen : seen_by own ≡ seen_by pass
+  pub next : count_of pass ≤ number_of own
+  pub counted : count_of pass' ≡ number_of own + 1
+  pub other : number_of own ≢ number_of pass
+  pub unused : NoneOf caller_of (number_of own) (drop (length (list_at desk)) (seen_by own))
+
+module _ {E K W : Type 0} (answers : AnswersAt E K W) where
+  stands_as : (acceptor : Accepting E K W) (begun : Begun E K W) (pass : Pass Noted)
+      (threads : List (Waiting E K W)) (accepted : ℕ) (end : Served) (shown : Option Shown)
+      → acceptor.begun ≡ begun → acceptor.pass ≡ pass → acceptor.threads ≡ threads → acceptor.accepted ≡ accepted
+      → acceptor.end ≡ end → StandsAt answers begun pass threads accepted end shown → Stands answers acceptor shown
+  stands_as acceptor begun pass threads accepted end shown b p t a e s =
+      subst (λ (x : Begun E K W). StandsAt answers x acceptor.pass acceptor.threads acceptor.accepted acceptor.end
+      shown)
+      (sym b)
+      (subst (λ (x : Pass Noted). StandsAt answers begun x acceptor.threads acceptor.accepted acceptor.end shown)
+      (sym p)
+      (subst (λ (x : List (Waiting E K W)). StandsAt answers begun pass x acceptor.accepted acceptor.end shown) (sym t)
+      (subst (λ (x : ℕ). StandsAt answers begun pass threads x acceptor.end shown) (sym a)
+      (subst (λ (x : Served). StandsAt answers begun pass threads accepted x shown) (sym e) s))))
+
+  module _ (acceptor : Accepting E K W) (shown : Option Shown) (at : ℕ) (w : Waiting E K W)
+      (s : Stands answers acceptor shown) (lt : at < length acceptor.threads)
+      (is : w ≡ slice_index_or acceptor.threads at w) where
+    -- the thread at a place is of the desk
+    pub of_desk : w.desk ≡ acceptor.begun.desk
+    of_desk =
+        (found acceptor.begun 0 s.courses (take at acceptor.threads) w (drop (suc at) acceptor.threads)
+        (sym s.threads_are ∙ split_at at acceptor.threads w lt is)).1.desk_is
+
+    -- and its connection is away
+    pub thread_away : (n : ℕ) → n ≡ w.number → IfSome shown (λ s. IsAway n s.connections)
+    thread_away n same =
+        subst (λ (m : ℕ). IfSome shown (λ s. IsAway m s.connections)) (sym same)
+        (is_away answers acceptor.begun acceptor.threads acceptor.accepted acceptor.end shown acceptor.pass
+        (take at acceptor.threads) (drop (suc at) acceptor.threads) w (split_at at acceptor.threads w lt is) s)
+
+    -- it is joined
+    pub joined : (result : Accepting E K W) (shown' : Option Shown) (n : ℕ) (ending : Ending) (other : Pass Noted)
+        → n ≡ w.number → IsTalked answers w.desk w.users w.arrival ending other → result.begun ≡ acceptor.begun
+        → result.accepted ≡ acceptor.accepted → result.end ≡ acceptor.end
+        → result.threads ≡ take at acceptor.threads ++ drop (at + 1) acceptor.threads
+        → HasMet acceptor.begun.desk acceptor.pass other result.pass
+        → shown' ≡ option_map (after_back n ending) shown → Stands answers result shown'
+    joined result shown' n ending other same talked begun accepted end threads met shows =
+        stands_as result acceptor.begun result.pass result.threads acceptor.accepted acceptor.end shown' begun refl refl
+        accepted end
+        (comes_back answers acceptor.begun acceptor.threads acceptor.accepted acceptor.end shown acceptor.pass
+        result.pass other result.threads (take at acceptor.threads) (drop (suc at) acceptor.threads) w shown' ending
+        (split_at at acceptor.threads w lt is)
+        (threads ∙ ap (λ (n : ℕ). take at acceptor.threads ++ drop n acceptor.threads) one_more_place)
+        talked met
+        (shows ∙ ap (λ (m : ℕ). option_map (after_back m ending) shown) same) s)
+      where
+        one_more_place : at + 1 ≡ suc at
+        one_more_place = omega arith
+
+  module _ (acceptor : Accepting E K W) (link : LinkSeen) (shown : Option Shown)
+      (has : HasAsked answers acceptor link shown) where
+    stands_before : StandsAt answers acceptor.begun acceptor.pass acceptor.threads acceptor.accepted served.All
+        has.before
+    stands_before =
+        subst (λ (e : Served). StandsAt answers acceptor.begun acceptor.pass acceptor.threads acceptor.accepted e
+        has.before) has.end_is has.stands
+
+    -- the connection is away
+    pub asked_away : IfSome shown (λ s. IsAway acceptor.accepted s.connections)
+    asked_away =
+        newcomer_away answers acceptor.begun acceptor.threads acceptor.accepted shown has.before acceptor.pass link
+        has.fresh stands_before has.shown_is
+
+    -- so it is for a pass that has seen the same
+    pub asked_again : (result : Accepting E K W) → result.begun ≡ acceptor.begun → result.accepted ≡ acceptor.accepted
+        → result.end ≡ acceptor.end → result.threads ≡ acceptor.threads → IsPass acceptor.begun.desk result.pass
+        → seen_by result.pass ≡ seen_by acceptor.pass → number_of result.pass ≡ number_of acceptor.pass
+        → count_of acceptor.pass ≤ count_of result.pass → HasAsked answers result link shown
+    asked_again result begun accepted end threads is seen number le = record {
+      before = has.before;
+      stands = stands_as result acceptor.begun result.pass acceptor.threads acceptor.accepted acceptor.end has.before
+          begun refl threads accepted end
+          (recounts answers acceptor.begun acceptor.threads acceptor.accepted acceptor.end has.before acceptor.pass
+          result.pass is seen number le has.stands);
+      end_is = end ∙ has.end_is;
+      fresh = has.fresh;
+      shown_is = has.shown_is;
+    }
+
+    -- it was served with the first pass
+    pub served_own : (pass' : Pass Noted) (shown' : Option Shown) (ending : Ending)
+        → IsTalked answers acceptor.begun.desk acceptor.begun.users (arrival_of acceptor.pass link) ending pass'
+        → count_of pass' ≡ count_of acceptor.pass → shown' ≡ option_map (after_back acceptor.accepted ending) shown
+        → StandsAt answers acceptor.begun pass' acceptor.threads (acceptor.accepted + 1) acceptor.end shown'
+    served_own pass' shown' ending talked count shows =
+        subst (λ (e : Served). StandsAt answers acceptor.begun pass' acceptor.threads (acceptor.accepted + 1) e shown')
+        (sym has.end_is)
+        (served_here answers acceptor.begun acceptor.threads acceptor.accepted shown has.before acceptor.pass link
+        has.fresh stands_before has.shown_is pass' shown' ending talked count shows)
+
+    module _ (pass' own : Pass Noted) (split : HasSplit acceptor.begun.desk acceptor.pass pass' own) where
+      -- a thread serves it
+      pub started : (threads' : List (Waiting E K W)) (w : Waiting E K W) → threads' ≡ acceptor.threads ++ w ∷ []
+          → w ≡ thread_of acceptor.begun acceptor.accepted (arrival_of own link)
+          → StandsAt answers acceptor.begun pass' threads' (acceptor.accepted + 1) acceptor.end shown
+      started threads' w are is =
+          subst (λ (e : Served). StandsAt answers acceptor.begun pass' threads' (acceptor.accepted + 1) e shown)
+          (sym has.end_is)
+          (starts answers acceptor.begun acceptor.threads acceptor.accepted shown has.before acceptor.pass link
+          has.fresh
+          stands_before has.shown_is pass' own threads' split.pass_is split.seen split.number
+          (omega (arith, split.next, split.counted)) split.own_seen split.next split.counted
+          (record { other = split.other; unused = split.unused })
+          (are ∙ ap (λ (v : Waiting E K W). acceptor.threads ++ v ∷ []) is))
+
+      -- no thread could be started, and it was served at once
+      pub handed_back : (result : Accepting E K W) (shown' : Option Shown) (ending : Ending) (other : Pass Noted)
+          → IsTalked answers acceptor.begun.desk acceptor.begun.users (arrival_of own link) ending other
+          → result.begun ≡ acceptor.begun → result.accepted ≡ acceptor.accepted + 1 → result.end ≡ acceptor.end
+          → result.threads ≡ acceptor.threads → HasMet acceptor.begun.desk pass' other result.pass
+          → shown' ≡ option_map (after_back acceptor.accepted ending) shown → Stands answers result shown'
+      handed_back result shown' ending other talked begun accepted end threads met shows =
+          let w : Waiting E K W = thread_of acceptor.begun acceptor.accepted (arrival_of own link) in
+          stands_as result acceptor.begun result.pass result.threads (acceptor.accepted + 1) acceptor.end shown' begun
+          refl refl accepted end
+          (comes_back answers acceptor.begun (acceptor.threads ++ w ∷ [])
+          (acceptor.accepted + 1) acceptor.end shown pass'
+          result.pass other result.threads acceptor.threads [] w shown' ending refl
+          (threads ∙ sym (append-nil acceptor.threads)) talked met shows
+          (started (acceptor.threads ++ w ∷ []) w refl refl))
+
+  -- the doors failed
+  pub failed : (acceptor result : Accepting E K W) (shown shown' : Option Shown) → acceptor.end ≡ served.All
+      → result.begun ≡ acceptor.begun → result.pass ≡ acceptor.pass → result.threads ≡ acceptor.threads
+      → result.accepted ≡ acceptor.accepted → result.end ≡ served.DoorFault
+      → shown' ≡ option_map after_refusal shown → Stands answers acceptor shown → Stands answers result shown'
+  failed acceptor result shown shown' all begun pass threads accepted end shows s =
+      stands_as result acceptor.begun acceptor.pass acceptor.threads acceptor.accepted served.DoorFault shown' begun
+      pass
+      threads accepted end
+      (fails answers acceptor.begun acceptor.threads acceptor.accepted shown shown' acceptor.pass shows
+      (subst (λ (e : Served). StandsAt answers acceptor.begun acceptor.pass acceptor.threads acceptor.accepted e
+      shown) all
+      s))
+
+  -- where no thread is left
+  pub ended : (acceptor : Accepting E K W) (begun : Begun E K W) (limit : ℕ) (shown : Option Shown)
+      → acceptor.begun ≡ begun → length acceptor.threads ≡ 0 → HasAccepted limit acceptor.end acceptor.accepted
+      → Stands answers acceptor shown
+      → HaveTalked answers begun.desk begun.users (number_of begun.pass) (seen_by begun.pass) (seen_by acceptor.pass)
+      limit acceptor.end begun.shown shown
+  ended acceptor begun limit shown same none accepted s =
+      ends answers begun acceptor.pass acceptor.threads acceptor.accepted limit acceptor.end shown none accepted
+      (subst (λ (b : Begun E K W). StandsAt answers b acceptor.pass acceptor.threads acceptor.accepted acceptor.end
+      shown)
+      same s)
+
+  pub ended_pass : (acceptor : Accepting E K W) (begun : Begun E K W) (shown : Option Shown) → acceptor.begun ≡ begun
+      → Stands answers acceptor shown
+      → IsPass begun.desk acceptor.pass × (number_of acceptor.pass ≡ number_of begun.pass)
+  ended_pass acceptor begun shown same s =
+      subst (λ (b : Begun E K W). IsPass b.desk acceptor.pass × (number_of acceptor.pass ≡ number_of b.pass)) same
+      (s.pass_is, s.number_is)
+
+-- steady doors never fail
+pub never_fails : (end : Served) (steady steady' : Bool) (failures failures' : ℕ)
+    → (end ≡ served.DoorFault → Rose failures failures') → StaysSteady steady steady' failures failures'
+    → (IsTrue steady → failures < last_count) → IsTrue steady → end ≡ served.All
+never_fails served.All steady steady' failures failures' cause stays low is = refl
+never_fails served.DoorFault steady steady' failures failures' cause stays low is =
+    let same = (stays is).1 in let below = low is in
+    elim (cause refl) [
+      | inl more ↦ absurd (omega (arith, more, same))
+      | inr last ↦ absurd (omega (arith, last, same, below))
+    ]
+
+-- a count that rose from a later one rose
+pub rose_later : (a b c : ℕ) → a ≤ b → Rose b c → Rose a c
+rose_later a b c le rose = elim rose [ inl more ↦ inl (omega (arith, more, le)) | inr last ↦ inr last ]
+
+pub stays_then : (a b c : Bool) (x y z : ℕ) → StaysSteady a b x y → StaysSteady b c y z → StaysSteady a c x z
+stays_then a b c x y z first second is =
+    let (then, same) = first is in let (last, again) = second then in (last, again ∙ same)

@@ -1,0 +1,267 @@
+-- Many connections that are served at one desk: what each of them was answered, and what is left of them all.
+use Rattle.std.specs.Prelude.{◌≡◌, ◌≢◌, ◌⊎◌, ℕ, zero, suc, ◌+◌, ◌<◌, ◌≤◌, List, [], ◌∷◌, All, map, length, drop, Option, None, Some, IfSome}
+use Rattle.std.specs.Option.{option_map}
+use Rattle.cell_value.specs.Calls.{one_more}
+use Rattle.cell_value.specs.FaultCount.{Rose}
+use Rattle.sheets_http.specs.declared.request.Wire.{Wire}
+use Rattle.history_lock.specs.History.{StartsWith, NoneOf}
+use Rattle.history_lock.specs.Passes.{seen_by, number_of, count_of}
+use Rattle.history_lock.specs.declared.pass.Pass.{Pass}
+use Rattle.desk.specs.declared.desk.Desk.{Desk}
+use Rattle.desk.specs.declared.entry.Entry.{Entry}
+use Rattle.desk.specs.declared.entry.Noted.{Noted}
+use Rattle.desk.specs.Points.{IsClosed, caller_of}
+use Rattle.desk.specs.Desks.{IsPass, pair_at, list_at, callers_at}
+use Rattle.conversation.specs.declared.ended.Ended.TheVariants as how
+use Rattle.conversation.specs.Conversation.{at_moment, IsConversation, EndsAs, LosesFirst}
+use Rattle.connections.specs.Calls.{UserTable}
+use Rattle.connections.specs.Doors.{LinkSeen, IsFresh, Ending, Connection, Shown, after_accept}
+use Rattle.serving.specs.declared.accepting.Served.{Served}
+use Rattle.serving.specs.declared.accepting.Served.TheVariants as served
+
+-- ---- one connection
+
+-- how many bytes of a connection are served
+abbrev pub longest_talk : ℕ
+longest_talk = 1099511627776
+
+-- a connection as it was accepted: who calls the desk for it, the list that this caller had seen then, and what its
+-- link told
+pub record Arrival : Type 0 where
+  pub caller : ℕ
+  pub before : List Noted
+  pub link : LinkSeen
+
+-- a connection that was served: how it was accepted, the list that its caller had seen at the end, and how it ended
+pub record Talk : Type 0 where
+  pub arrival : Arrival
+  pub after : List Noted
+  pub ending : Ending
+
+-- which response answers a request at a desk with these users, of a caller with this number, that had seen the items
+-- before and has seen those after
+abbrev pub AnswersAt : Type 0 → Type 0 → Type 0 → Type 1
+AnswersAt E K W = Desk E K W → UserTable → ℕ → List Noted → Wire → List Noted → List ℕ → Type 0
+
+-- The requests of a link were answered by calls of the desk, from the list that the caller had seen before to the one
+-- that it had seen after; it ended as their talk does, or was cut off.
+pub record IsTalk {E K W : Type 0} (answers : AnswersAt E K W) (desk : Desk E K W) (users : UserTable)
+    (arrival : Arrival) (after : List Noted) (ending : Ending) : Type 0 where
+  pub served : IsConversation (answers desk users arrival.caller) longest_talk arrival.link.left
+      (at_moment arrival.before arrival.link.written arrival.link.shortages)
+      (at_moment after ending.link.written ending.link.shortages) ending.ended
+  pub ends : IfSome arrival.link.left (λ bytes. EndsAs longest_talk bytes ending.ended)
+  pub left : LosesFirst arrival.link.left ending.link.left
+  pub grows : StartsWith after arrival.before
+  pub read : ending.ended ≡ how.ReadFault → Rose arrival.link.read_faults ending.link.read_faults
+  pub write : ending.ended ≡ how.WriteFault → Rose arrival.link.write_faults ending.link.write_faults
+  pub shortages : arrival.link.shortages ≤ ending.link.shortages
+
+-- the caller isn't the one with that number, and no item since the opening that it had seen before was its own
+pub record IsAnother {E K W : Type 0} (desk : Desk E K W) (number : ℕ) (arrival : Arrival) : Type 0 where
+  pub other : arrival.caller ≢ number
+  pub unused : NoneOf caller_of arrival.caller (drop (length (list_at desk)) arrival.before)
+
+-- a connection came with a link that had not failed, and its caller had seen these items
+pub record HasArrived (first : List Noted) (arrival : Arrival) : Type 0 where
+  pub fresh : IsFresh arrival.link
+  pub begins : StartsWith arrival.before first
+
+-- A connection was served at the desk, where the first caller has this number and had seen the first items, and the
+-- last items were seen by all: by the first caller, or by another that made no call before.
+pub record WasServed {E K W : Type 0} (answers : AnswersAt E K W) (desk : Desk E K W)
+    (users : UserTable) (number : ℕ) (first last : List Noted) (talk : Talk) : Type 0 where
+  pub arrived : HasArrived first talk.arrival
+  pub talked : IsTalk answers desk users talk.arrival talk.after talk.ending
+  pub within : StartsWith last talk.after
+  pub by : (talk.arrival.caller ≡ number) ⊎ IsAnother desk number talk.arrival
+
+-- no item is of both: their callers differ, or the later one's had seen before it all that the other's had after it
+abbrev pub AreApart : Talk → Talk → Type 0
+AreApart talk later = (talk.arrival.caller ≢ later.arrival.caller) ⊎ StartsWith later.arrival.before talk.after
+
+-- so it is of any two of the list, of which the one stands before the other
+abbrev pub OfAnyTwo : {A : Type 0} → (A → A → Type 0) → List A → Type 0
+OfAnyTwo R [] = Unit {0}
+OfAnyTwo R (x ∷ xs) = All (R x) xs × OfAnyTwo R xs
+
+-- ---- all connections
+
+-- so many connections were accepted where at most `limit` were to be: all, or fewer where the doors failed
+abbrev pub HasAccepted : ℕ → Served → ℕ → Type 0
+HasAccepted limit served.All count = count ≡ limit
+HasAccepted limit served.DoorFault count = count < limit
+
+-- how often the doors were asked for so many connections
+abbrev pub asked : Served → ℕ → ℕ
+asked served.All count = count
+asked served.DoorFault count = suc count
+
+-- a count that went up so often
+abbrev pub counted_up : ℕ → ℕ → ℕ
+counted_up zero count = count
+counted_up (suc more) count = one_more (counted_up more count)
+
+-- a connection that is back, as doors show it
+abbrev pub connection_of : Talk → Connection
+connection_of talk = record { held = talk.arrival.link.left; back = Some talk.ending }
+
+-- what doors show that were asked for connections so often, and accepted these
+abbrev pub showing : ℕ → List Connection → Shown → Shown
+showing calls connections shown = record {
+  opened = shown.opened;
+  accepts = counted_up calls shown.accepts;
+  connections = connections;
+}
+
+-- What was served before the desk was closed, of a caller with this number that had seen the first items, and has seen
+-- the last ones at the end: the connections, in the order of accepting, and what the doors showed before and show.
+pub record HaveTalked {E K W : Type 0} (answers : AnswersAt E K W) (desk : Desk E K W) (users : UserTable) (number : ℕ)
+    (first last : List Noted) (limit : ℕ) (end : Served) (shown shown' : Option Shown) : Type 0 where
+  pub talks : List Talk
+  pub each : All (WasServed answers desk users number first last) talks
+  pub apart : OfAnyTwo AreApart talks
+  pub sees : StartsWith last first
+  pub accepted : HasAccepted limit end (length talks)
+  pub shown_is : shown' ≡ option_map (showing (asked end (length talks)) (map connection_of talks)) shown
+
+-- What serving many connections came to, by the pass that was given: the history is that of a list that begins with
+-- all that the connections' callers have seen, and goes on without the given pass.
+pub record AreServed {E K W : Type 0} (answers : AnswersAt E K W) (desk : Desk E K W)
+    (users : UserTable) (pass : Pass Noted) (limit : ℕ) (end : Served) (shown shown' : Option Shown)
+    (entries : List Entry) (failures : ℕ) : Type 0 where
+  pub last : List Noted
+  pub talked : HaveTalked answers desk users (number_of pass) (seen_by pass) last limit end shown shown'
+  pub closed : IsClosed (pair_at desk).1 (callers_at desk) (number_of pass) last entries failures
+
+-- ---- while connections are accepted
+
+-- what doesn't change: the desk, the users, the pass that was given, and what the doors showed at the beginning
+pub record Begun (E K W : Type 0) : Type 0 where
+  pub desk : Desk E K W
+  pub users : UserTable
+  pub pass : Pass Noted
+  pub shown : Option Shown
+
+-- a connection that a thread serves at this desk: its number, counted from 0, and how it was accepted
+pub record Waiting (E K W : Type 0) : Type 0 where
+  pub number : ℕ
+  pub arrival : Arrival
+  pub desk : Desk E K W
+  pub users : UserTable
+
+-- who accepts connections: what it began with, its pass, the threads that aren't joined, how many connections it
+-- accepted, and whether the doors failed
+pub record Accepting (E K W : Type 0) : Type 0 where
+  pub begun : Begun E K W
+  pub pass : Pass Noted
+  pub threads : List (Waiting E K W)
+  pub accepted : ℕ
+  pub end : Served
+
+-- a connection as it is accepted for this pass, with a link that tells this
+abbrev pub arrival_of : Pass Noted → LinkSeen → Arrival
+arrival_of pass link = record { caller = number_of pass; before = seen_by pass; link = link }
+
+-- what a conversation leaves: its end, and the pass, which is of the desk
+pub record IsTalked {E K W : Type 0} (answers : AnswersAt E K W) (desk : Desk E K W)
+    (users : UserTable) (arrival : Arrival) (ending : Ending) (pass : Pass Noted) : Type 0 where
+  pub pass_is : IsPass desk pass
+  pub number_is : number_of pass ≡ arrival.caller
+  pub talk : IsTalk answers desk users arrival (seen_by pass) ending
+
+-- the pass took in another: it has seen what both have seen
+pub record HasMet {E K W : Type 0} (desk : Desk E K W) (pass other met : Pass Noted) : Type 0 where
+  pub pass_is : IsPass desk met
+  pub number_is : number_of met ≡ number_of pass
+  pub count : count_of pass ≤ count_of met
+  pub mine : StartsWith (seen_by met) (seen_by pass)
+  pub theirs : StartsWith (seen_by met) (seen_by other)
+
+-- a connection is under way, or over
+pub data Course : Type 0 where
+  under_way : Arrival → Course
+  over : Talk → Course
+
+abbrev pub start_of : Course → Arrival
+start_of (under_way arrival) = arrival
+start_of (over talk) = talk.arrival
+
+-- as doors show it
+abbrev pub shown_course : Course → Connection
+shown_course (under_way arrival) = record { held = arrival.link.left; back = None }
+shown_course (over talk) = connection_of talk
+
+-- the thread of a connection with this number
+abbrev pub thread_of : {E K W : Type 0} → Begun E K W → ℕ → Arrival → Waiting E K W
+thread_of begun number arrival =
+    record { number = number; arrival = arrival; desk = begun.desk; users = begun.users }
+
+-- the threads of those that are under way, numbered from this number on
+abbrev pub threads_of : {E K W : Type 0} → Begun E K W → ℕ → List Course → List (Waiting E K W)
+threads_of begun number [] = []
+threads_of begun number (under_way arrival ∷ courses) =
+    thread_of begun number arrival ∷ threads_of begun (suc number) courses
+threads_of begun number (over talk ∷ courses) = threads_of begun (suc number) courses
+
+-- the caller has a number that was given before the count came to this
+pub record IsGiven {E K W : Type 0} (begun : Begun E K W) (count : ℕ) (arrival : Arrival) : Type 0 where
+  pub another : IsAnother begun.desk (number_of begun.pass) arrival
+  pub below : arrival.caller < count
+
+-- what is known of a connection while the list was seen, and so many numbers were drawn
+abbrev pub Fits : {E K W : Type 0} → AnswersAt E K W → Begun E K W → List Noted → ℕ → Course
+    → Type 0
+Fits answers begun seen count (under_way arrival) =
+    HasArrived (seen_by begun.pass) arrival × IsGiven begun count arrival
+Fits answers begun seen count (over talk) =
+    HasArrived (seen_by begun.pass) talk.arrival
+    × IsTalk answers begun.desk begun.users talk.arrival talk.after talk.ending × StartsWith seen talk.after
+    × ((talk.arrival.caller ≡ number_of begun.pass) ⊎ IsGiven begun count talk.arrival)
+
+-- no item is of both, where the later one was accepted so
+abbrev pub LeavesApart : Course → Arrival → Type 0
+LeavesApart (under_way arrival) later = arrival.caller ≢ later.caller
+LeavesApart (over talk) later = (talk.arrival.caller ≢ later.caller) ⊎ StartsWith later.before talk.after
+
+abbrev pub CoursesApart : Course → Course → Type 0
+CoursesApart course later = LeavesApart course (start_of later)
+
+-- where accepting stands: the connections so far, in order
+pub record StandsAt {E K W : Type 0} (answers : AnswersAt E K W) (begun : Begun E K W)
+    (pass : Pass Noted) (threads : List (Waiting E K W)) (accepted : ℕ) (end : Served) (shown : Option Shown)
+    : Type 0 where
+  pub courses : List Course
+  pub pass_is : IsPass begun.desk pass
+  pub number_is : number_of pass ≡ number_of begun.pass
+  pub sees : StartsWith (seen_by pass) (seen_by begun.pass)
+  pub each : All (Fits answers begun (seen_by pass) (count_of pass)) courses
+  pub apart : OfAnyTwo CoursesApart courses
+  pub threads_are : threads ≡ threads_of begun 0 courses
+  pub accepted_is : accepted ≡ length courses
+  pub shown_is : shown ≡ option_map (showing (asked end (length courses)) (map shown_course courses)) begun.shown
+
+abbrev pub Stands : {E K W : Type 0} → AnswersAt E K W → Accepting E K W → Option Shown → Type 0
+Stands answers acceptor shown =
+    StandsAt answers acceptor.begun acceptor.pass acceptor.threads acceptor.accepted acceptor.end shown
+
+-- a further connection was accepted, with a link that tells this, and isn't served yet
+pub record HasAsked {E K W : Type 0} (answers : AnswersAt E K W) (acceptor : Accepting E K W)
+    (link : LinkSeen) (shown : Option Shown) : Type 0 where
+  pub before : Option Shown
+  pub stands : Stands answers acceptor before
+  pub end_is : acceptor.end ≡ served.All
+  pub fresh : IsFresh link
+  pub shown_is : shown ≡ option_map (after_accept link.left) before
+
+-- nothing changed but the pass and the threads
+pub record IsSame {E K W : Type 0} (acceptor acceptor' : Accepting E K W) : Type 0 where
+  pub begun : acceptor'.begun ≡ acceptor.begun
+  pub accepted : acceptor'.accepted ≡ acceptor.accepted
+  pub end : acceptor'.end ≡ acceptor.end
+
+-- one connection more was accepted
+pub record HasOneMore {E K W : Type 0} (acceptor acceptor' : Accepting E K W) : Type 0 where
+  pub begun : acceptor'.begun ≡ acceptor.begun
+  pub accepted : acceptor'.accepted ≡ acceptor.accepted + 1
+  pub end : acceptor'.end ≡ acceptor.end
