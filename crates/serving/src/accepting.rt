@@ -667,7 +667,7 @@ where
 /// the next one is accepted. Where the doors fail, no further connection is accepted; [`Served::DoorFault`] comes only
 /// where their count of faults rose in this call.
 ///
-/// No clause says that two connections are served at the same time, or that a wait ends.
+/// No clause says which pass or thread serves a connection, that two are served at the same time, or that a wait ends.
 pub fn serve_all<R: Threads + Wait + Sync, D: Doors + Send, E: Engine + Send, K: Keeper + Send>(
     rt: &R,
     alloc: Global,
@@ -682,7 +682,8 @@ where
     requires pass { IsPass desk pass }
     requires new_doors { IfSome (D.shown doors.old) (λ shown. shown.connections ≡ []) }
 
-    // What each connection was answered, what the doors show of it, and the history that all calls made.
+    // What each connection was answered, what the doors show of it, and a history that has the calls of each. No clause
+    // says that it has no others.
     ensures served { AreServed (IsAnswer E.plain K.failures K.steady) desk users.now pass limit result.0
         (D.shown doors.old) (D.shown doors.new) result.1 (K.failures result.2) }
 
