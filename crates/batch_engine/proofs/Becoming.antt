@@ -84,6 +84,10 @@ one_grows named (BookChange.SheetAdded at sheet) = omega arith
 one_grows named (BookChange.SheetDeleted sheet) = omega arith
 one_grows named (BookChange.SheetTitled sheet title) = omega arith
 one_grows named (BookChange.SheetHidden sheet hidden) = omega arith
+one_grows named (BookChange.RangeAdded range) = omega arith
+one_grows named (BookChange.RangeChanged range) = omega arith
+one_grows named (BookChange.RangeDeleted id) = omega arith
+one_grows named (BookChange.WordsRenamed old new) = omega arith
 
 names_grow : (changes : List BookChange) (named : Named) → named.next ≤ (changed_by_all named changes).next
 names_grow [] named = omega arith

@@ -8,6 +8,9 @@ pub mod Created
 pub mod WritingRows
 pub mod RowsOnce
 pub mod RowsAppended
+pub mod Listing
+pub mod RangesMade
+pub mod RangesOnce
 pub mod RequestsOnce
 pub mod Once
 pub mod Judging

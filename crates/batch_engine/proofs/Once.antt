@@ -59,21 +59,21 @@ none_some x e = cc
 -- ---- ranges
 
 module _ (one_reading : HasOneReading) where
-  resolves_once : (text : List ℕ) (sheets : List PlaceSheet) (one other : Result FoundArea Rule)
-      → Resolves text sheets one → Resolves text sheets other → one ≡ other
-  resolves_once text sheets one other (named range names is) (named range' names' is') =
-      is ∙ ap (λ read. part_of sheets read.sheet read.part) (one_reading 3 text range range' names names') ∙ sym is'
-  resolves_once text sheets one other (named range names is) (unnamed none is') = absurd (none range names)
-  resolves_once text sheets one other (unnamed none is) (named range' names' is') = absurd (none range' names')
-  resolves_once text sheets one other (unnamed none is) (unnamed none' is') = is ∙ sym is'
+  resolves_once : (text : List ℕ) (book : PlaceBook) (one other : Result FoundArea Rule)
+      → Resolves text book one → Resolves text book other → one ≡ other
+  resolves_once text book one other (named range names is) (named range' names' is') =
+      is ∙ ap (λ read. part_of book read.sheet read.part) (one_reading 3 text range range' names names') ∙ sym is'
+  resolves_once text book one other (named range names is) (unnamed none is') = absurd (none range names)
+  resolves_once text book one other (unnamed none is) (named range' names' is') = absurd (none range' names')
+  resolves_once text book one other (unnamed none is) (unnamed none' is') = is ∙ sym is'
 
-  target_once : (range : List ℕ) (body : Option (List ℕ)) (sheets : List PlaceSheet) (one other : Result FoundArea Rule)
-      → IsTarget range body sheets one → IsTarget range body sheets other → one ≡ other
-  target_once range None sheets one other is is' = resolves_once range sheets one other is is'
-  target_once range (Some body) sheets one other is is' =
+  target_once : (range : List ℕ) (body : Option (List ℕ)) (book : PlaceBook) (one other : Result FoundArea Rule)
+      → IsTarget range body book one → IsTarget range body book other → one ≡ other
+  target_once range None book one other is is' = resolves_once range book one other is is'
+  target_once range (Some body) book one other is is' =
       is.found_is
-      ∙ ap (λ found. agreed found is.said) (resolves_once range sheets is.named is'.named is.resolves is'.resolves)
-      ∙ ap (λ said. agreed is'.named said) (resolves_once body sheets is.said is'.said is.says is'.says)
+      ∙ ap (λ found. agreed found is.said) (resolves_once range book is.named is'.named is.resolves is'.resolves)
+      ∙ ap (λ said. agreed is'.named said) (resolves_once body book is.said is'.said is.says is'.says)
       ∙ sym is'.found_is
 
 abbrev as_found : FoundArea → Result FoundArea Rule
@@ -260,13 +260,13 @@ module _ (one_reading : HasOneReading) (news : NewSheetsOnce) (reads : ReadsOnce
       (one other : Result ShownRange Rule) → IsShown dimension render book range one
       → IsShown dimension render book range other → one ≡ other
   shown_once dimension render book sound range =
-      on_range_once (Resolves range book.sheets) book.sheets (IsRead book dimension render)
-      (resolves_once one_reading range book.sheets) (read_once reads dimension render book sound)
+      on_range_once (Resolves range book) book.sheets (IsRead book dimension render)
+      (resolves_once one_reading range book) (read_once reads dimension render book sound)
 
   cleared_once : (book : PlaceBook) (range : Reading (List ℕ)) (one other : Result (List ℕ × List BookChange) Rule)
       → IsCleared book range one → IsCleared book range other → one ≡ other
   cleared_once book (Ok range) =
-      on_range_once (Resolves range book.sheets) book.sheets IsClear (resolves_once one_reading range book.sheets)
+      on_range_once (Resolves range book) book.sheets IsClear (resolves_once one_reading range book)
       (λ found sheet told told' is is'. is ∙ sym is')
   cleared_once book (Err shape) = λ one other is is'. is ∙ sym is'
 
@@ -274,24 +274,24 @@ module _ (one_reading : HasOneReading) (news : NewSheetsOnce) (reads : ReadsOnce
       (one other : Result (Wrote × List BookChange) Rule) → IsWritten range book values one → IsWritten range book values other
       → one ≡ other
   written_once range book sound (Ok values) =
-      on_range_once (IsTarget range values.range book.sheets) book.sheets (IsUpdate book values.block)
-      (target_once one_reading range values.range book.sheets) (update_once writes book sound values.block)
+      on_range_once (IsTarget range values.range book) book.sheets (IsUpdate book values.block)
+      (target_once one_reading range values.range book) (update_once writes book sound values.block)
   written_once range book sound (Err shape) = λ one other is is'. is ∙ sym is'
 
   appended_once : (range : List ℕ) (insert : Bool) (book : PlaceBook) → IsSound book → (values : Reading ValueRange)
       (one other : Result (Appended × List BookChange) Rule) → IsAppended range insert book values one
       → IsAppended range insert book values other → one ≡ other
   appended_once range insert book sound (Ok values) =
-      on_range_once (IsTarget range values.range book.sheets) book.sheets
-      (λ found. IsAppendOn book insert values.block found.0) (target_once one_reading range values.range book.sheets)
+      on_range_once (IsTarget range values.range book) book.sheets
+      (λ found. IsAppendOn book insert values.block found.0) (target_once one_reading range values.range book)
       (λ found. append_once appends apart book sound insert values.block found.0)
   appended_once range insert book sound (Err shape) = λ one other is is'. is ∙ sym is'
 
   updated_once : (book : PlaceBook) → IsSound book → (values : Reading RangeBlock)
       (one other : Result (Wrote × List BookChange) Rule) → IsUpdated book values one → IsUpdated book values other → one ≡ other
   updated_once book sound (Ok values) =
-      on_range_once (Resolves values.range book.sheets) book.sheets (IsUpdate book values.block)
-      (resolves_once one_reading values.range book.sheets) (update_once writes book sound values.block)
+      on_range_once (Resolves values.range book) book.sheets (IsUpdate book values.block)
+      (resolves_once one_reading values.range book) (update_once writes book sound values.block)
   updated_once book sound (Err shape) = λ one other is is'. is ∙ sym is'
 
   read_many_once : (ranges : List (List ℕ)) (dimension : Option Axis) (render : Option Render) (book : PlaceBook)

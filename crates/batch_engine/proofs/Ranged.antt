@@ -132,18 +132,18 @@ seen_so range dimension render book refusal.NoMemory is = tt
 -- ---- reads
 
 pub read_done : (range : List ℕ) (dimension : Option Axis) (render : Option Render) (book : PlaceBook)
-    (found : FoundArea) (text : List ℕ) (shown : List (List Cell)) → Resolves range book.sheets (Ok found)
+    (found : FoundArea) (text : List ℕ) (shown : List (List Cell)) → Resolves range book (Ok found)
     → IsSomeAnd (place_sheet_with found.0.sheet book.sheets) (λ sheet. text ≡ area_text sheet found.0)
     → IfSome (place_sheet_with found.0.sheet book.sheets)
-    (λ sheet. IsAreaShown book.sheets found.0 (is_columns (axis_or_rows dimension)) (render_or_formatted render) sheet shown)
+    (λ sheet. IsAreaShown book found.0 (is_columns (axis_or_rows dimension)) (render_or_formatted render) sheet shown)
     → IsShown dimension render book range
     (Ok (record { range = text; major_dimension = axis_or_rows dimension; values = unless_empty shown }))
 read_done range dimension render book found text shown resolves text_of shown_if =
     let (sheet, is, text_is) = some_and (λ (sheet : PlaceSheet). text ≡ area_text sheet found.0)
     (place_sheet_with found.0.sheet book.sheets) text_of in
-    let shown_is : IsAreaShown book.sheets found.0 (is_columns (axis_or_rows dimension)) (render_or_formatted render) sheet shown =
+    let shown_is : IsAreaShown book found.0 (is_columns (axis_or_rows dimension)) (render_or_formatted render) sheet shown =
     subst (λ one. IfSome one (λ (sheet : PlaceSheet).
-    IsAreaShown book.sheets found.0 (is_columns (axis_or_rows dimension)) (render_or_formatted render) sheet shown)) is shown_if in
+    IsAreaShown book found.0 (is_columns (axis_or_rows dimension)) (render_or_formatted render) sheet shown)) is shown_if in
     done found sheet resolves is (record {
       lines = shown;
       shown = shown_is;
@@ -157,7 +157,7 @@ read_done range dimension render book found text shown resolves text_of shown_if
 -- ---- clears
 
 pub emptied_done : UpdatesAreChanges → (range : List ℕ) (book after : PlaceBook) (found : FoundArea) (text : List ℕ)
-    → Resolves range book.sheets (Ok found)
+    → Resolves range book (Ok found)
     → IsSomeAnd (place_sheet_with found.0.sheet book.sheets) (λ sheet. text ≡ area_text sheet found.0)
     → AreUpdated found.0.sheet (cleared found.0) book after → IsDoneTo (IsCleared book (Ok range)) book after (Ok text)
 emptied_done are range book after found text resolves text_of updated =

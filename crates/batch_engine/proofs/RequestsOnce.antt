@@ -22,6 +22,7 @@ use Rattle.batch_engine.specs.AddSheet.{IsAddSheet, IsAdded, any_properties, she
 use Rattle.batch_engine.specs.Requests.{IsDoneAsAsked, IsRequested}
 use Rattle.batch_engine.specs.Rows.{AreRowsWritten, area_or_broken}
 use Rattle.batch_engine.specs.UpdateCells.{IsUpdateCells, area_emptied, area_from}
+use Rattle.batch_engine.proofs.RangesOnce.{add_named_range_once, update_named_range_once}
 use Rattle.batch_engine.proofs.RowsAppended.{append_cells_once}
 use Rattle.batch_engine.proofs.RowsOnce.{on_area_once, rows_once}
 
@@ -69,9 +70,9 @@ module _ (news : NewSheetsOnce) (writes : WritesOnce) (apart : ChangesApart) (tu
   asked_once (request.MoveDimension source destination) = λ told told' is is'. is ∙ sym is'
   asked_once (request.MergeCells range type) = refused_once _
   asked_once (request.UnmergeCells range) = refused_once _
-  asked_once (request.AddNamedRange range) = refused_once _
-  asked_once (request.UpdateNamedRange id name range) = refused_once _
-  asked_once (request.DeleteNamedRange id) = refused_once _
+  asked_once (request.AddNamedRange range) = add_named_range_once book range
+  asked_once (request.UpdateNamedRange id name range) = update_named_range_once book id name range
+  asked_once (request.DeleteNamedRange id) = λ told told' is is'. is ∙ sym is'
   asked_once (request.AddProtectedRange id patch) = refused_once _
   asked_once (request.UpdateProtectedRange id patch) = refused_once _
   asked_once (request.DeleteProtectedRange id) = refused_once _

@@ -11,6 +11,9 @@ pub mod AddSheet
 pub mod DeleteSheet
 pub mod UpdateSheetProperties
 pub mod Dimensions
+pub mod AddNamedRange
+pub mod UpdateNamedRange
+pub mod DeleteNamedRange
 pub mod Requests
 pub mod Calls
 pub mod Laws

@@ -1,5 +1,5 @@
 -- What is shown of a spreadsheet itself (Google Sheets API v4 reference, spreadsheets.get, Spreadsheet, Sheet,
--- SheetProperties and GridData). None has merged cells, named ranges or filters yet.
+-- SheetProperties, GridData and NamedRange). None has merged cells or filters yet.
 use Rattle.std.specs.Prelude.{ℕ, ◌+◌, Bool, true, false, List, [], ◌∷◌, Option, None, Some, unwrap_or}
 use Rattle.world_model.specs.Book.{PlaceBook}
 use Rattle.world_model.specs.Sheet.{PlaceSheet}
@@ -9,6 +9,7 @@ use Rattle.sheets_json.specs.declared.spreadsheet.GridData.{GridData}
 use Rattle.sheets_json.specs.declared.spreadsheet.ShownProperties.{ShownProperties}
 use Rattle.sheets_json.specs.declared.spreadsheet.ShownSheet.{ShownSheet}
 use Rattle.sheets_json.specs.declared.spreadsheet.Spreadsheet.{Spreadsheet}
+use Rattle.batch_engine.specs.Values.{unless_empty}
 
 -- what is known of the sheet itself, at its place among the sheets
 abbrev pub shown_properties : ℕ → PlaceSheet → ShownProperties
@@ -36,9 +37,10 @@ abbrev pub shown_from : Bool → ℕ → List PlaceSheet → List ShownSheet
 shown_from grids index [] = []
 shown_from grids index (sheet ∷ sheets) = shown_sheet grids index sheet ∷ shown_from grids (index + 1) sheets
 
+-- the named ranges stand in order of creation, where there are some
 abbrev pub spreadsheet_of : Bool → PlaceBook → Spreadsheet
 spreadsheet_of grids book = record {
-  named_ranges = None;
+  named_ranges = unless_empty book.ranges;
   title = book.title;
   sheets = shown_from grids 0 book.sheets;
   spreadsheet_id = book.id;

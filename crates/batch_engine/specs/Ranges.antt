@@ -4,7 +4,7 @@ use Rattle.std.specs.Prelude.{◌≡◌, ℕ, Bool, true, false, ◌&&◌, ◌||
 use Rattle.grid_range.specs.declared.area.Area.{Area}
 use Rattle.grid_range.specs.declared.band.Band.{Band}
 use Rattle.grid_range.specs.declared.band.Band.TheVariants.{Whole, From, Span}
-use Rattle.world_model.specs.Sheet.{PlaceSheet}
+use Rattle.world_model.specs.Book.{PlaceBook}
 use Rattle.dimension_ops.specs.declared.rule.Rule.{Rule}
 use Rattle.dimension_ops.specs.declared.rule.Rule.TheVariants.{NoSheet, BadRange, OutsideGrid}
 use Rattle.values_api.specs.Ranges.{FoundArea, Resolves}
@@ -48,13 +48,13 @@ agreed found other =
     else Err BadRange
 
 -- what a write is on, by the range of its path and that of its body
-pub record Agree (range body : List ℕ) (sheets : List PlaceSheet) (found : Result FoundArea Rule) : Type 0 where
+pub record Agree (range body : List ℕ) (book : PlaceBook) (found : Result FoundArea Rule) : Type 0 where
   pub named : Result FoundArea Rule
   pub said : Result FoundArea Rule
-  pub resolves : Resolves range sheets named
-  pub says : Resolves body sheets said
+  pub resolves : Resolves range book named
+  pub says : Resolves body book said
   pub found_is : found ≡ agreed named said
 
-abbrev pub IsTarget : List ℕ → Option (List ℕ) → List PlaceSheet → Result FoundArea Rule → Type 0
-IsTarget range None sheets found = Resolves range sheets found
-IsTarget range (Some body) sheets found = Agree range body sheets found
+abbrev pub IsTarget : List ℕ → Option (List ℕ) → PlaceBook → Result FoundArea Rule → Type 0
+IsTarget range None book found = Resolves range book found
+IsTarget range (Some body) book found = Agree range body book found

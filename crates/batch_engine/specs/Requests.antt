@@ -11,11 +11,14 @@ use Rattle.json_requests.specs.declared.request.Request.TheVariants as request
 use Rattle.json_requests.specs.declared.request.Step.{Step}
 use Rattle.json_requests.specs.declared.request.Step.TheVariants as step
 use Rattle.sheets_json.specs.declared.spreadsheet.Reply.{Reply}
+use Rattle.batch_engine.specs.AddNamedRange.{IsAddNamedRange}
 use Rattle.batch_engine.specs.AddSheet.{IsAddSheet}
 use Rattle.batch_engine.specs.AppendCells.{IsAppendCells}
+use Rattle.batch_engine.specs.DeleteNamedRange.{range_deleted}
 use Rattle.batch_engine.specs.DeleteSheet.{IsDeleteSheet}
 use Rattle.batch_engine.specs.Dimensions.{dimension_appended, dimension_deleted, dimension_inserted, dimension_moved}
 use Rattle.batch_engine.specs.UpdateCells.{IsUpdateCells}
+use Rattle.batch_engine.specs.UpdateNamedRange.{IsUpdateNamedRange}
 use Rattle.batch_engine.specs.UpdateSheetProperties.{sheet_properties_updated}
 use Rattle.batch_engine.specs.Values.{rule_of}
 
@@ -33,6 +36,9 @@ IsDoneAsAsked book (request.DeleteDimension range) told = told ≡ dimension_del
 IsDoneAsAsked book (request.AppendDimension sheet axis length) told =
     told ≡ dimension_appended sheet axis length book.sheets
 IsDoneAsAsked book (request.MoveDimension range to) told = told ≡ dimension_moved range to book.sheets
+IsDoneAsAsked book (request.AddNamedRange range) told = IsAddNamedRange range book told
+IsDoneAsAsked book (request.UpdateNamedRange id name range) told = IsUpdateNamedRange id name range book told
+IsDoneAsAsked book (request.DeleteNamedRange id) told = told ≡ range_deleted id book.ranges
 IsDoneAsAsked book _ told = told ≡ Err rule.Unsupported
 
 -- a request whose shape is broken is refused in its turn

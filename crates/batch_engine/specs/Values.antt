@@ -61,9 +61,9 @@ abbrev pub render_or_formatted : Option Render → Render
 render_or_formatted render = unwrap_or render Formatted
 
 -- the list, unless it is empty
-abbrev pub unless_empty : List (List Cell) → Option (List (List Cell))
+abbrev pub unless_empty : {A : Type 0} → List A → Option (List A)
 unless_empty [] = None
-unless_empty (line ∷ lines) = Some (line ∷ lines)
+unless_empty (one ∷ others) = Some (one ∷ others)
 
 abbrev pub shown_range : Axis → Area → PlaceSheet → List (List Cell) → ShownRange
 shown_range axis area sheet lines = record {
@@ -76,12 +76,12 @@ shown_range axis area sheet lines = record {
 pub record IsRead (book : PlaceBook) (dimension : Option Axis) (render : Option Render) (found : FoundArea)
     (sheet : PlaceSheet) (told : Result ShownRange Rule) : Type 0 where
   pub lines : List (List Cell)
-  pub shown : IsAreaShown book.sheets found.0 (is_columns (axis_or_rows dimension)) (render_or_formatted render) sheet lines
+  pub shown : IsAreaShown book found.0 (is_columns (axis_or_rows dimension)) (render_or_formatted render) sheet lines
   pub told_is : told ≡ Ok (shown_range (axis_or_rows dimension) found.0 sheet lines)
 
 -- what a range shows
 abbrev pub IsShown : Option Axis → Option Render → PlaceBook → List ℕ → Result ShownRange Rule → Type 0
-IsShown dimension render book range = OnRange (Resolves range book.sheets) book.sheets (IsRead book dimension render)
+IsShown dimension render book range = OnRange (Resolves range book) book.sheets (IsRead book dimension render)
 
 -- ---- clears
 
@@ -91,7 +91,7 @@ IsClear found sheet told =
 
 -- the range as text, and its cells emptied; a text whose shape is broken is no range
 abbrev pub IsCleared : PlaceBook → Reading (List ℕ) → Result (List ℕ × List BookChange) Rule → Type 0
-IsCleared book (Ok range) told = OnRange (Resolves range book.sheets) book.sheets IsClear told
+IsCleared book (Ok range) told = OnRange (Resolves range book) book.sheets IsClear told
 IsCleared book (Err shape) told = told ≡ Err (rule_of shape)
 
 -- ---- writes
@@ -125,13 +125,13 @@ pub record IsUpdate (book : PlaceBook) (block : Block) (found : FoundArea) (shee
 -- values for a range are written; those whose shape is broken are refused whatever the range is
 abbrev pub IsWritten : List ℕ → PlaceBook → Reading ValueRange → Result (Wrote × List BookChange) Rule → Type 0
 IsWritten range book (Ok values) told =
-    OnRange (IsTarget range values.range book.sheets) book.sheets (IsUpdate book values.block) told
+    OnRange (IsTarget range values.range book) book.sheets (IsUpdate book values.block) told
 IsWritten range book (Err shape) told = told ≡ Err (rule_of shape)
 
 -- and those that say their range
 abbrev pub IsUpdated : PlaceBook → Reading RangeBlock → Result (Wrote × List BookChange) Rule → Type 0
 IsUpdated book (Ok values) told =
-    OnRange (Resolves values.range book.sheets) book.sheets (IsUpdate book values.block) told
+    OnRange (Resolves values.range book) book.sheets (IsUpdate book values.block) told
 IsUpdated book (Err shape) told = told ≡ Err (rule_of shape)
 
 -- ---- appends
@@ -162,7 +162,7 @@ pub record IsAppendOn (book : PlaceBook) (insert : Bool) (block : Block) (area :
 -- values for a range are appended; those whose shape is broken are refused whatever the range is
 abbrev pub IsAppended : List ℕ → Bool → PlaceBook → Reading ValueRange → Result (Appended × List BookChange) Rule → Type 0
 IsAppended range insert book (Ok values) told =
-    OnRange (IsTarget range values.range book.sheets) book.sheets
+    OnRange (IsTarget range values.range book) book.sheets
     (λ found. IsAppendOn book insert values.block found.0) told
 IsAppended range insert book (Err shape) told = told ≡ Err (rule_of shape)
 

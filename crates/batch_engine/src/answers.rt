@@ -11,7 +11,7 @@ ghost use Rattle.batch_engine.specs.Values.{is_columns, axis_or_rows, render_or_
 
 use crate::targets::target;
 use cell_calc::Table;
-use cell_value::{Block, Cell, Duplicate, Items, NoMemory, Render, Text};
+use cell_value::{Block, Duplicate, Items, NoMemory, Render, Text};
 use dimension_ops::{Book, Rule, RuleOr};
 use grid_range::{Area, Axis};
 use sheets_json::{Answer, RangeBlock, ShapeFault, ShownRange, Update, ValueRange};
@@ -46,9 +46,9 @@ pub(crate) fn shown(
     dimension: Option<Axis>,
     render: Option<Render>,
 ) -> Result<ShownRange, RuleOr>
-    requires { IsTableOf (stored_in book.now.sheets) table.old }
+    requires { IsTableOf (stored_in book.now) table.old }
     ensures shown { IsUnlessNoMemory (IsShown dimension render book.now range.now) result }
-    ensures table { OnOk result (IsTableOf (stored_in book.now.sheets) table.new) }
+    ensures table { OnOk result (IsTableOf (stored_in book.now) table.new) }
 {
     let (area, _) = resolve(alloc, book, range)?;
     let (axis, render) = (axis_or_rows(dimension), render_or_formatted(render));
@@ -215,13 +215,13 @@ fn is_columns(axis: Axis) -> bool
     axis == Axis::Columns
 }
 
-/// The lines, unless there are none.
-fn unless_empty(lines: Items<Items<Cell>>) -> Option<Items<Items<Cell>>>
-    ensures { result ≡ unless_empty lines }
+/// The list, unless it is empty.
+pub(crate) fn unless_empty<T: Drop>(list: Items<T>) -> Option<Items<T>>
+    ensures { result ≡ unless_empty list }
 {
-    if lines.as_slice().is_empty() {
+    if list.as_slice().is_empty() {
         None
     } else {
-        Some(lines)
+        Some(list)
     }
 }

@@ -2,22 +2,29 @@ ghost use Rattle.dimension_ops.specs.Rules.{IsUnlessNoMemory};
 ghost use Rattle.batch_engine.specs.Members.{IsDoneTo};
 ghost use Rattle.batch_engine.specs.Requests.{IsDoneAsAsked};
 
+mod add_named_range;
 mod add_sheet;
 mod append_cells;
 mod areas;
+mod delete_named_range;
 mod delete_sheet;
 mod dimensions;
+mod given;
 mod update_cells;
+mod update_named_range;
 mod update_sheet_properties;
 
+use add_named_range::add_named_range;
 use add_sheet::add_sheet;
 use append_cells::append_cells;
+use delete_named_range::delete_named_range;
 use delete_sheet::delete_sheet;
 use dimension_ops::{Book, Rule, RuleOr};
 use dimensions::{append_dimension, delete_dimension, insert_dimension, move_dimension};
 use sheets_json::{Reply, Request};
 use std::alloc::Global;
 use update_cells::update_cells;
+use update_named_range::update_named_range;
 use update_sheet_properties::update_sheet_properties;
 
 /// Does what a request asks for, by its kind: its reply.
@@ -52,6 +59,15 @@ pub(crate) fn done(
             source,
             destination_index,
         } => move_dimension(book, *source, *destination_index),
+        Request::AddNamedRange { named_range } => add_named_range(book, named_range),
+        Request::UpdateNamedRange {
+            named_range_id,
+            name,
+            range,
+        } => update_named_range(book, named_range_id.as_str(), name, *range),
+        Request::DeleteNamedRange { named_range_id } => {
+            delete_named_range(book, named_range_id.as_str())
+        }
         _ => Err(RuleOr::Rule(Rule::Unsupported)),
     }
 }

@@ -3,8 +3,10 @@ ghost use Rattle.world_model.specs.Sheet.{PlaceSheet};
 ghost use Rattle.world_model.specs.Sound.{most_sheets};
 ghost use Rattle.batch_engine.specs.Looks.{looked, spreadsheet_of, shown_from, shown_sheet, rows_shown, shown_properties};
 
+use crate::answers::unless_empty;
 use cell_value::{Duplicate, Items, NoMemory};
 use dimension_ops::{Book, Sheet};
+use named_ranges::{NamedRange, Names};
 use sheets_json::{Answer, GridData, ShownProperties, ShownSheet, Spreadsheet};
 use std::alloc::Global;
 use world_model::ids_find;
@@ -26,11 +28,26 @@ pub(crate) fn spreadsheet_of(
     ensures { IfOk result (λ shown. shown ≡ spreadsheet_of grids book.now) }
 {
     Ok(Spreadsheet {
-        named_ranges: None,
+        named_ranges: unless_empty(ranges_of(alloc, book.names())?),
         title: book.title().duplicate()?,
         sheets: shown_sheets(alloc, book, grids)?,
         spreadsheet_id: book.id().duplicate()?,
     })
+}
+
+/// The named ranges, in order of creation. More than a `u32` counts aren't listed, as for want of memory; no request
+/// makes so many.
+fn ranges_of(alloc: Global, names: &Names) -> Result<Items<NamedRange>, NoMemory>
+    ensures { IfOk result (λ ranges. ranges ≡ names.now) }
+{
+    let mut ranges = Vec::new(alloc);
+    for at in 0..u32::MAX {
+        match names.list(at) {
+            Some(range) => ranges.push(range.duplicate()?)?,
+            None => return Ok(Items::of(ranges)),
+        }
+    }
+    Err(NoMemory)
 }
 
 /// The sheets as they are shown, in their order.

@@ -25,7 +25,7 @@ pub(crate) fn target(
     range: &str,
     body: Option<&Text>,
 ) -> Result<(Area, bool), RuleOr>
-    ensures found { IsUnlessNoMemory (IsTarget range.now (option_copied body.entry) book.now.sheets) result }
+    ensures found { IsUnlessNoMemory (IsTarget range.now (option_copied body.entry) book.now) result }
     ensures there { IfOk result (λ found. IsThere book.now.sheets found.0) }
 {
     match body {
@@ -41,7 +41,7 @@ fn agreed_target(
     range: &str,
     body: &str,
 ) -> Result<(Area, bool), RuleOr>
-    ensures found { IsUnlessNoMemory (Agree range.now body.now book.now.sheets) result }
+    ensures found { IsUnlessNoMemory (Agree range.now body.now book.now) result }
     ensures there { IfOk result (λ found. IsThere book.now.sheets found.0) }
 {
     let named = found(alloc, book, range)?;
@@ -54,7 +54,7 @@ fn agreed_target(
 
 /// What a range names, or the rule that it breaks.
 fn found(alloc: Global, book: &Book, range: &str) -> Result<Found, NoMemory>
-    ensures found { IfOk result (Resolves range.now book.now.sheets) }
+    ensures found { IfOk result (Resolves range.now book.now) }
     ensures there { IfOk result (λ found. IfOk found (λ area. IsThere book.now.sheets area.0)) }
 {
     match resolve(alloc, book, range) {

@@ -11,12 +11,13 @@ use sheets_http::{Duplex, Users};
 use std::alloc::Global;
 use std::sync::Wait;
 
-/// Serves one connection at a desk that nobody else has, whose history begins empty and is kept in memory. Each request
-/// is answered as one thread does behind the calls that were accepted before it, and a head that is refused by its
-/// closing response. A request is made by the user of its token. At most `most` bytes are served.
+/// Serves one connection by a history that is empty at first. Each request is answered as one thread does behind the
+/// calls that were accepted before it, or by the constant response for want of memory, which adds nothing; a head that
+/// is refused is answered by its closing response. A request is made by the user of its token. At most `most` bytes are
+/// served.
 ///
 /// Where it was cut off by a fault or by want of memory, the first requests were answered whole, and at most one more
-/// was begun. Where there is no memory for the desk nothing is done.
+/// was begun.
 pub fn converse_alone<R: Wait, L: Duplex, E: Engine>(
     rt: &R,
     alloc: Global,

@@ -2,7 +2,7 @@ ghost use Rattle.std.specs.Prelude.{◌≡◌, ◌≢◌, ◌≤◌, ℕ, ◌++�
 ghost use Rattle.std.specs.Option.{option_and_then};
 ghost use Rattle.cell_value.specs.FaultCount.{Rose};
 ghost use Rattle.history_lock.specs.History.{StartsWith};
-ghost use Rattle.history_lock.specs.Passes.{seen_by, number_of, given_by, count_of};
+ghost use Rattle.history_lock.specs.Passes.{seen_by, number_of, given_by, count_of, met_by};
 ghost use Rattle.sheets_http.specs.Users.{user_of};
 ghost use Rattle.sheets_http.specs.Responses.{IsServedStatus};
 ghost use Rattle.desk.specs.Points.{IsCallAt, AreCountsOf};
@@ -40,14 +40,28 @@ impl<'a, E: Engine, K: Keeper> Model for Caller<'a, E, K> {
 }
 
 impl<E: Engine, K: Keeper> Replies for Caller<'_, E, K> {
-    ghost use Rattle.history_lock.specs.Passes.{seen_by, number_of, given_by, count_of};
+    ghost use Rattle.history_lock.specs.Passes.{seen_by, number_of, given_by, count_of, met_by};
     ghost use Rattle.connections.specs.Calls.{IsAnswer};
 
-    type Context = (Desk<E, K>, Users, u32, Option<u64>, u64);
+    type Context = (
+        Desk<E, K>,
+        Users,
+        u32,
+        Option<u64>,
+        u64,
+        LinkedList<(u64, u64)>,
+    );
 
     type Point = LinkedList<Noted>;
 
-    ghost about = { λ caller. (caller.desk, caller.users, number_of caller.pass, given_by caller.pass, count_of caller.pass) };
+    ghost about = { λ caller. (
+      caller.desk,
+      caller.users,
+      number_of caller.pass,
+      given_by caller.pass,
+      count_of caller.pass,
+      met_by caller.pass,
+    ) };
 
     ghost at = { λ caller. seen_by caller.pass };
 
@@ -73,6 +87,7 @@ impl<'a, E: Engine, K: Keeper> Caller<'a, E, K> {
         ensures number { number_of result.0.pass ≡ number_of self.entry.pass }
         ensures drawn { (given_by result.0.pass ≡ given_by self.entry.pass)
             × (count_of result.0.pass ≡ count_of self.entry.pass) }
+        ensures met { met_by result.0.pass ≡ met_by self.entry.pass }
         ensures call { IsCallAt E.plain (pair_at self.entry.desk) (callers_at self.entry.desk)
             (number_of self.entry.pass) ask.now (seen_by self.entry.pass) (seen_by result.0.pass) result.1 }
         ensures faults { (before : K) × (after : K) × AreCountsOf K.failures K.steady result.1.faults before after }
@@ -172,9 +187,9 @@ fn say(alloc: Global, close: bool, reply: Reply) -> Said
     }
 }
 
-/// Serves one connection at a shared desk, and gives the pass back. Each request is answered by a call at a point of the
-/// desk's history, behind all that the pass has seen, and a head that is refused by its closing response. A request is
-/// made by the user of its token. At most `most` bytes are served.
+/// Serves one connection at a shared desk, and gives the pass back. Each request is answered by a call at a point of
+/// the desk's history, behind all that the pass has seen, and a head that is refused by its closing response. A request
+/// is made by the user of its token. At most `most` bytes are served.
 ///
 /// Where it was cut off by a fault or by want of memory, the first requests were answered whole, and at most one more
 /// was begun. Nothing is held of the desk while the link is read or written.
@@ -191,6 +206,7 @@ pub fn converse<R: Wait, L: Duplex, E: Engine, K: Keeper>(
     ensures pass { IsPass desk.now result.1 }
     ensures number { number_of result.1 ≡ number_of pass }
     ensures drawn { (given_by result.1 ≡ given_by pass) × (count_of result.1 ≡ count_of pass) }
+    ensures met { met_by result.1 ≡ met_by pass }
     ensures begins { StartsWith (seen_by result.1) (seen_by pass) }
 
     // What was answered and written, whatever the link tells of itself.

@@ -9,8 +9,9 @@ use sheets_http::Duplex;
 
 /// Where connections come in: a listener of the system's, or links in memory.
 ///
-/// Doors count how often they have failed. Those that tell show contracts the ports on which they were opened, how often they
-/// were asked for a connection, and of each connection that they accepted what its link held and, once it is back, how it ended.
+/// Doors count how often they have failed. Those that tell show contracts the ports on which they were opened, how
+/// often they were asked for a connection, and of each connection that they accepted what its link held and, once it is
+/// back, how it ended.
 pub trait Doors {
     ghost use Rattle.connections.specs.Doors.{LinkSeen, Shown, link_seen, IsFresh, IsAway};
     ghost use Rattle.connections.specs.Doors.{after_open, after_accept, after_refusal, after_back};

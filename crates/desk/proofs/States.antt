@@ -1,5 +1,5 @@
 -- What a state keeps, after a call that is refused, kept or marked.
-use Rattle.std.proofs.Common.{◌≡◌, ◌≢◌, ℕ, ◌+◌, ◌<◌, ◌≤◌, true, false, List, [], ◌∷◌, ◌++◌, length, sym, ap, subst, ◌∙◌, arith, min, length-append}
+use Rattle.std.proofs.Common.{◌≡◌, ◌≢◌, inl, ℕ, ◌+◌, ◌<◌, ◌≤◌, true, false, List, [], ◌∷◌, ◌++◌, length, sym, ap, subst, ◌∙◌, arith, min, length-append}
 use Rattle.std.specs.Prelude.{Option, Some, None, IfSome, nat_eq}
 use Rattle.std.specs.Option.{option_map}
 use Rattle.std.proofs.lemmas.Bool.{lt-ltb, le-ltb}
@@ -8,16 +8,16 @@ use Rattle.cell_value.specs.FaultCount.{last_count}
 use Rattle.desk.specs.declared.entry.Entry.{Entry}
 use Rattle.desk.specs.declared.entry.Ask.{Ask}
 use Rattle.desk.specs.declared.entry.Noted.{Noted}
+use Rattle.desk.specs.declared.entry.Noted.TheVariants as noted
 use Rattle.desk.specs.Journal.{entry_text, journal_text, FieldsFit}
 use Rattle.desk.specs.Keeping.{with_piece, IsTornPut}
 use Rattle.desk.specs.Noting.{piece_of, is_first, place_of, IsTornBehind, IsKept, IsMarked, IsNoted}
 use Rattle.desk.specs.declared.noting.Noting.{Noting}
 use Rattle.desk.specs.declared.noting.Noting.TheVariants as noting
 use Rattle.desk.specs.Steps.{entry_of, is_full}
-use Rattle.desk.specs.Points.{entries_of, last_counted, Keeps, IsSound}
+use Rattle.desk.specs.Points.{entries_of, last_counted, marked_last, IsJournal, Keeps, IsSound}
 use Rattle.desk.specs.Entries.{entries_entry, entries_mark}
-use Rattle.desk.proofs.Lists.{counted_entry, counted_mark, journal_length, few_entries, put_keeps, torn_keeps, entry_length, size_same}
-use Rattle.std.proofs.lemmas.List.{append-nil}
+use Rattle.desk.proofs.Lists.{counted_entry, counted_mark, journal_length, few_entries, put_keeps, marked_more, torn_keeps, entry_length, size_same}
 
 -- ---- the world, the counts and what is kept
 
@@ -46,7 +46,7 @@ module _ {W : Type 0} (stands : W → List Entry → Type 0) where
       sound next_is
       total_is piece_is at_is put =
       let more = ap entries_of put.list_is ∙ entries_entry list e in
-      let kept_is = put_keeps kept kept' (entries_of list) e sound.keeps
+      let kept_is = put_keeps kept kept' (entries_of list) (marked_last [] list) e sound.keeps
       (put.kept_is ∙ ap (λ (p : List ℕ). option_map (with_piece at p) kept) piece_is
       ∙ ap (λ (n : ℕ). option_map (with_piece n (piece_of (is_first (entries_of list)) e)) kept) at_is) in
       let kept_now = subst (λ (l : List Entry). IfSome kept' (λ b. b ≡ journal_text l)) (sym more) kept_is in (
@@ -58,24 +58,24 @@ module _ {W : Type 0} (stands : W → List Entry → Type 0) where
           limit_is = sound.limit_is;
           failures_is = put.failures_are ∙ sound.failures_is ∙ sym (counted_entry opened list e)
               ∙ ap (last_counted opened) (sym put.list_is);
-          keeps = whole_keeps kept' (entries_of list') kept_now;
+          keeps = whole_keeps kept' kept_now;
         },
         kept_now,
       )
     where
-      whole_keeps : (k : Option (List ℕ)) (es : List Entry) → IfSome k (λ b. b ≡ journal_text es) → Keeps k es
-      whole_keeps None es whole = tt
-      whole_keeps (Some b) es whole = λ _. ([], whole ∙ sym (append-nil (journal_text es)))
+      whole_keeps : (k : Option (List ℕ)) → IfSome k (λ b. b ≡ journal_text (entries_of list')) → Keeps k list'
+      whole_keeps None whole = tt
+      whole_keeps (Some b) whole = λ _. inl whole
 
   -- where a mark was added
   pub sound_mark : (world : W) (list list' : List Noted) (entries bytes limit opened failures failures' : ℕ)
       (kept kept' : Option (List ℕ)) (e : Entry) (before after : ℕ) (piece : List ℕ) (at : ℕ)
       → IsSound stands world list entries bytes limit opened failures kept
-      → at ≡ place_of (entries_of list)
+      → at ≡ place_of (entries_of list) → piece ≡ piece_of (is_first (entries_of list)) e
       → IsMarked e before after at piece list list' kept kept' failures failures'
       → IsSound stands world list' entries bytes limit opened failures' kept'
   sound_mark world list list' entries bytes limit opened failures failures' kept kept' e before after piece at
-      sound at_is
+      sound at_is piece_is
       put =
       let same = ap entries_of put.list_is ∙ entries_mark list e before after in
       record {
@@ -85,8 +85,14 @@ module _ {W : Type 0} (stands : W → List Entry → Type 0) where
         limit_is = sound.limit_is;
         failures_is = sym put.after_is ∙ sym (counted_mark opened list e before after)
             ∙ ap (last_counted opened) (sym put.list_is);
-        keeps = subst (Keeps kept') (sym same) (torn_keeps kept kept' (entries_of list) piece sound.keeps
-            (subst (λ (n : ℕ). IsTornPut kept kept' n piece) at_is put.kept_is));
+        keeps = subst (λ (l : List Noted). Keeps kept' l) (sym put.list_is)
+            (subst (λ (es : List Entry). IfSome kept' (λ bytes. es ≢ [] → IsJournal es
+            (marked_last [] (list ++ noted.Mark e before after ∷ [])) bytes)) (sym (entries_mark list e before after))
+            (subst (λ (marks : List Entry). IfSome kept' (λ bytes. entries_of list ≢ [] → IsJournal (entries_of list)
+            marks bytes)) (sym (marked_more [] list e before after))
+            (torn_keeps kept kept' (entries_of list) (marked_last [] list) e sound.keeps
+            (subst (λ (p : List ℕ). IsTornPut kept kept' (place_of (entries_of list)) p) piece_is
+            (subst (λ (n : ℕ). IsTornPut kept kept' n piece) at_is put.kept_is)))));
       }
 
 -- ---- the limit

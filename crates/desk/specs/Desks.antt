@@ -4,7 +4,7 @@ use Rattle.history_lock.specs.declared.pass.Pass.{Pass}
 use Rattle.history_lock.specs.Passes.{IsPassOf, opened_with, callers_of}
 use Rattle.desk.specs.declared.entry.Noted.{Noted}
 use Rattle.desk.specs.declared.desk.Desk.{Desk}
-use Rattle.desk.specs.Points.{list_of, pair_of}
+use Rattle.desk.specs.Points.{list_of, pair_of, caller_of}
 
 -- the list at the opening
 abbrev pub list_at : {E K W : Type 0} → Desk E K W → List Noted
@@ -20,4 +20,4 @@ callers_at desk = callers_of desk.lock
 
 -- the pass is of this desk
 abbrev pub IsPass : {E K W : Type 0} → Desk E K W → Pass Noted → Type 0
-IsPass desk pass = IsPassOf list_of pair_of desk.lock pass
+IsPass desk pass = IsPassOf list_of pair_of caller_of desk.lock pass

@@ -1,13 +1,16 @@
 -- The list that a desk tells, and what a call is at a point of it.
-use Rattle.std.specs.Prelude.{◌≡◌, ◌≢◌, ◌⊎◌, ℕ, ◌≤◌, ◌<◌, Bool, true, List, [], ◌∷◌, ◌++◌, All, length, drop, Option, Some, None, IfSome, if◌then◌else◌}
+use Rattle.std.specs.Prelude.{◌≡◌, ◌≢◌, ◌⊎◌, ℕ, ◌≤◌, ◌<◌, Bool, true, List, [], ◌∷◌, ◌++◌, All, length, take, drop, Option, Some, None, IfSome, if◌then◌else◌}
+use Rattle.std.specs.List.{Contains}
 use Rattle.cell_value.specs.FaultCount.{Rose}
-use Rattle.history_lock.specs.History.{StartsWith, NoneOf}
+use Rattle.history_lock.specs.History.{StartsWith, NoneOf, AreDone}
+use Rattle.history_lock.specs.Passes.{seen_by, number_of, met_by}
+use Rattle.history_lock.specs.declared.pass.Pass.{Pass}
 use Rattle.desk.specs.declared.entry.Entry.{Entry}
 use Rattle.desk.specs.declared.entry.Ask.{Ask}
 use Rattle.desk.specs.declared.entry.Reply.{Reply}
 use Rattle.desk.specs.declared.entry.Noted.{Noted}
 use Rattle.desk.specs.declared.entry.Noted.TheVariants as noted
-use Rattle.desk.specs.Journal.{journal_text}
+use Rattle.desk.specs.Journal.{journal_text, entry_text}
 use Rattle.desk.specs.Keeping.{StaysSteady}
 use Rattle.desk.specs.Steps.{Outcome, entry_of, StepsTo, unavailable_body}
 
@@ -59,9 +62,23 @@ pub record IsUnmade {K : Type 0} (failures : K → ℕ) (steady : K → Bool) (b
   pub count_is : failures after.keeper ≡ failures before.keeper
   pub stays : StaysSteady (steady before.keeper) (steady after.keeper) (failures before.keeper) (failures after.keeper)
 
--- the bytes that are kept begin with the journal of the entries, where there is one
-abbrev pub Keeps : Option (List ℕ) → List Entry → Type 0
-Keeps kept entries = IfSome kept (λ bytes. entries ≢ [] → StartsWith bytes (journal_text entries))
+-- the entries of the marks behind the last entry; where there is none, behind the given ones
+abbrev pub marked_last : List Entry → List Noted → List Entry
+marked_last marks [] = marks
+marked_last marks (noted.Entry entry ∷ items) = marked_last [] items
+marked_last marks (noted.Mark entry before after ∷ items) = marked_last (marks ++ entry ∷ []) items
+
+-- the journal of the entries, or that and a beginning of the piece of one entry more, which has one of these marks
+abbrev pub IsJournal : List Entry → List Entry → List ℕ → Type 0
+IsJournal entries marks bytes =
+    (bytes ≡ journal_text entries)
+    ⊎ ((entry : Entry) × (count : ℕ) × Contains marks entry
+    × (bytes ≡ journal_text entries ++ take count (entry_text entry)))
+
+-- where there is an entry, the bytes that are kept are the journal of the entries, but for the torn piece of a mark
+-- behind the last one
+abbrev pub Keeps : Option (List ℕ) → List Noted → Type 0
+Keeps kept list = IfSome kept (λ bytes. entries_of list ≢ [] → IsJournal (entries_of list) (marked_last [] list) bytes)
 
 -- ---- a call at a point
 
@@ -118,14 +135,18 @@ pub record IsCallAt (plain : List Entry → Ask → Outcome → Type 0) (pair : 
   pub others : AreOthers callers caller (drop (length before) told)
   pub happens : Happens plain pair caller ask told after reply
 
--- What a closed desk's history is, of a caller that had seen these items: the entries of a list that begins with them,
--- to which others may have added items; the keeper's count of faults is that of the list's last mark.
-pub record IsClosed (opened callers caller : ℕ) (seen : List Noted) (entries : List Entry) (failures : ℕ) : Type 0 where
+-- What a closed desk's history is, by the pass that closed it: the entries of a list that begins with all that the pass
+-- had seen, to which others may have added items, but none whose pass this one took in; the keeper's count of faults is
+-- that of the list's last mark, and it keeps the journal of the entries.
+pub record IsClosed (opened callers : ℕ) (pass : Pass Noted) (entries : List Entry) (failures : ℕ)
+    (kept : Option (List ℕ)) : Type 0 where
   pub told : List Noted
-  pub begins : StartsWith told seen
-  pub others : AreOthers callers caller (drop (length seen) told)
+  pub begins : StartsWith told (seen_by pass)
+  pub others : AreOthers callers (number_of pass) (drop (length (seen_by pass)) told)
+  pub done : AreDone caller_of (met_by pass) told
   pub entries_are : entries ≡ entries_of told
   pub counted : failures ≡ last_counted opened told
+  pub keeps : Keeps kept told
 
 -- ---- what a state keeps
 
@@ -138,4 +159,4 @@ pub record IsSound {W : Type 0} (stands : W → List Entry → Type 0) (world : 
   pub bytes_is : bytes ≡ length (journal_text (entries_of list))
   pub limit_is : limit ≤ 1073741824
   pub failures_is : failures ≡ last_counted opened list
-  pub keeps : Keeps kept (entries_of list)
+  pub keeps : Keeps kept list

@@ -1,9 +1,9 @@
-ghost use Rattle.std.specs.Prelude.{◌≡◌, ◌≢◌, ◌≤◌, ◌<◌, ◌+◌, ◌++◌, ℕ, List, [], length, drop, Some, None, IfOk};
+ghost use Rattle.std.specs.Prelude.{◌≡◌, ◌≢◌, ◌≤◌, ◌<◌, ◌+◌, ◌++◌, ℕ, List, [], ◌∷◌, length, drop, Some, None, IfOk};
 ghost use Rattle.std.specs.Prelude.{IfErr, IfSome};
 ghost use Rattle.history_lock.specs.History.{StartsWith, NoneOf, longer};
-ghost use Rattle.history_lock.specs.Passes.{seen_by, number_of, given_by, count_of};
+ghost use Rattle.history_lock.specs.Passes.{seen_by, number_of, given_by, count_of, met_by};
 ghost use Rattle.desk.specs.declared.entry.Noted.{Noted};
-ghost use Rattle.desk.specs.Points.{IsCallAt, IsClosed, AreCountsOf, Keeps, caller_of};
+ghost use Rattle.desk.specs.Points.{IsCallAt, IsClosed, AreCountsOf, caller_of};
 
 use crate::{Ask, Engine, History, Keeper, Noted, Reply, State};
 use cell_value::NoMemory;
@@ -60,6 +60,7 @@ impl<E: Engine, K: Keeper> Desk<E, K> {
         ensures pair { IfOk result (λ made. pair_at made.0 ≡ (limit, K.failures keeper)) }
         ensures callers { IfOk result (λ made. callers_at made.0 ≡ callers) }
         ensures drawn { IfOk result (λ made. (count_of made.1 ≡ 1) × (given_by made.1 ≡ None)) }
+        ensures met { IfOk result (λ made. met_by made.1 ≡ []) }
         ensures err { IfErr result (λ failed. failed.1 ≡ keeper) }
     {
         let state = State::open(alloc, keeper, limit)?;
@@ -89,6 +90,8 @@ impl<E: Engine, K: Keeper> Desk<E, K> {
         ensures unused { IfOk result (λ new. NoneOf caller_of (number_of new)
             (drop (length (list_at self.now)) (seen_by new))) }
         ensures given { IfOk result (λ new. (given_by from.new ≡ Some (number_of new)) × (given_by new ≡ None)) }
+        ensures met { met_by from.new ≡ met_by from.old }
+        ensures none_met { IfOk result (λ new. met_by new ≡ []) }
         ensures spent { IfErr result (λ _. count_of from.new ≡ callers_at self.now) }
         ensures none_given { IfErr result (λ _. given_by from.new ≡ given_by from.old) }
     {
@@ -102,6 +105,7 @@ impl<E: Engine, K: Keeper> Desk<E, K> {
         ensures pass { IsPass self.now result.0 }
         ensures number { number_of result.0 ≡ number_of pass }
         ensures drawn { (count_of result.0 ≡ count_of pass) × (given_by result.0 ≡ given_by pass) }
+        ensures met { met_by result.0 ≡ met_by pass }
         ensures call { IsCallAt E.plain (pair_at self.now) (callers_at self.now) (number_of pass) ask.now (seen_by pass)
             (seen_by result.0) result.1 }
 
@@ -114,7 +118,9 @@ impl<E: Engine, K: Keeper> Desk<E, K> {
         (self.lock.leave(turn, state), reply)
     }
 
-    /// The pass has then seen the longer of both lists, which begins with each of them. The other pass is used up.
+    /// The pass has then seen the longer of both lists, which begins with each of them. What is new to it has no item
+    /// of its own. The other pass is used up, and its number is taken in, with the length of its list: what is added
+    /// from then on isn't from it.
     pub fn meet(&self, pass: &mut Pass, other: Pass)
         requires pass { IsPass self.now pass.old }
         requires other { IsPass self.now other }
@@ -124,18 +130,22 @@ impl<E: Engine, K: Keeper> Desk<E, K> {
         ensures longer { seen_by pass.new ≡ longer (seen_by pass.old) (seen_by other) }
         ensures mine { StartsWith (seen_by pass.new) (seen_by pass.old) }
         ensures theirs { StartsWith (seen_by pass.new) (seen_by other) }
+        ensures own { NoneOf caller_of (number_of pass.old) (drop (length (seen_by pass.old)) (seen_by pass.new)) }
+        ensures met { met_by pass.new
+            ≡ met_by pass.old ++ (number_of other, length (seen_by other)) ∷ met_by other }
     {
         self.lock.meet(pass, other);
     }
 
     /// Waits for the turn, and gives the history and the keeper. The entries are those of a list that begins with all
-    /// that the pass has seen, and has no further call of the pass; the keeper has failed as often as its last mark
-    /// tells. What the keeper has begins with the journal of the entries, where there is one. It takes no memory.
+    /// that the pass has seen, and has no further call of the pass, nor of one that it took in; the keeper has failed
+    /// as often as its last mark tells. Where there is an entry the keeper has the journal of them all; behind it may
+    /// stand a part of the piece of one more that was answered 503, where that came behind the last. It takes no
+    /// memory.
     pub fn close<R: Wait>(self, rt: &R, pass: Pass) -> (History<E>, K)
         requires { IsPass self pass }
-        ensures history { IsClosed (pair_at self).1 (callers_at self) (number_of pass) (seen_by pass) result.0
-            (K.failures result.1) }
-        ensures kept { Keeps (K.kept result.1) result.0 }
+        ensures { IsClosed (pair_at self).1 (callers_at self) pass result.0 (K.failures result.1)
+            (K.kept result.1) }
     {
         let Desk { lock } = self;
         lock.close(rt, pass).into_history()

@@ -77,7 +77,8 @@ impl From<NoMemory> for PutFault {
     }
 }
 
-/// What keeps the bytes of a journal, as [`crate::SteadyKeeper`] does in memory. It may fail, and counts how often it did.
+/// What keeps the bytes of a journal, as [`crate::SteadyKeeper`] does in memory. It may fail, and counts how often it
+/// did.
 pub trait Keeper {
     ghost use Rattle.desk.specs.Keeping.{StaysSteady, Puts};
 

@@ -20,7 +20,8 @@ pub const LONGEST_JOURNAL: u64 = 1_073_741_824;
 /// with the keeper's count of faults at the opening, and the keeper.
 ///
 /// The world stands for the entries of the list. The keeper's count of faults is that of the last mark, or, where there
-/// is none, the one of the opening. Where there is an entry, the bytes that are kept begin with the journal of all.
+/// is none, the one of the opening. Where there is an entry, the bytes that are kept are the journal of all, or end
+/// with a beginning of the piece of a mark behind the last.
 pub struct State<E: Engine, K: Keeper> {
     alloc: Global,
     keeper: K,
@@ -128,7 +129,7 @@ impl<E: Engine, K: Keeper> State<E, K> {
     pub fn into_history(self) -> (History<E>, K)
         ensures history { result.0 ≡ entries_of self.list }
         ensures keeper { result.1 ≡ self.keeper }
-        ensures kept { Keeps (K.kept result.1) result.0 }
+        ensures kept { Keeps (K.kept result.1) self.list }
         ensures counted { IsCounted K.failures self }
     {
         let State {

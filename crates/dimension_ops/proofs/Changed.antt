@@ -6,7 +6,7 @@ use Rattle.std.specs.Option.{option_map}
 use Rattle.std.proofs.lemmas.Bool.{cases_Bool, cond-true, cond-false, eqb-true, eq-eqb, false≢true, false_from_ne_true}
 use Rattle.std.proofs.lemmas.List.Sums.{sum_by-cons}
 use Rattle.std.proofs.lemmas.Option.{none-some, same_Some}
-use Rattle.grid_range.specs.Area.{AreaWithin, band_on}
+use Rattle.grid_range.specs.Area.{AreaWithin, IsWithinOn, band_on}
 use Rattle.grid_range.specs.Band.{Within}
 use Rattle.grid_range.specs.Change.{count_after}
 use Rattle.grid_range.specs.declared.area.Area.{Area}
@@ -15,6 +15,8 @@ use Rattle.grid_range.specs.declared.axis.Axis.TheVariants.{Rows, Columns}
 use Rattle.grid_range.specs.declared.change.Change.{Change}
 use Rattle.cell_store.specs.Moved.{IsRoomAfter, size_after}
 use Rattle.cell_store.specs.Table.{Table, item_at}
+use Rattle.named_ranges.specs.Following.{IsRangeWithinOn}
+use Rattle.named_ranges.specs.declared.range.NamedRange.{NamedRange}
 use Rattle.ref_rewrite.specs.Following.{IsPieceWithinOn}
 use Rattle.ref_rewrite.specs.declared.cell_content.Content.{Content}
 use Rattle.ref_rewrite.specs.declared.cell_content.Content.TheVariants as content
@@ -25,7 +27,7 @@ use Rattle.world_model.specs.Counts.{grid_places}
 use Rattle.world_model.specs.Laws.{size_of}
 use Rattle.world_model.specs.PlaceChange.{BookChanged, SheetChanged}
 use Rattle.world_model.specs.Sheet.{PlaceSheet}
-use Rattle.world_model.specs.Sound.{IsSheetSound, IsContentWithin, IsLineCount, IsPieceWithin, place_sheet_with}
+use Rattle.world_model.specs.Sound.{IsSheetSound, IsContentWithin, IsLineCount, IsOnSheet, IsPieceWithin, place_sheet_with}
 use Rattle.dimension_ops.specs.Lines.{HasSizesChanged, SheetFollows, lines_of_sheet, places_changed, size_changed}
 use Rattle.dimension_ops.specs.References.{CanChange, IsContentWithinOn}
 
@@ -206,14 +208,23 @@ module _ (id : ℕ) (axis : Axis) (count : ℕ) (change : Change) where
     both_found area None is within = absurd within
     both_found area (Some sheet) is within = subst (Within (band_on axis area)) is (on_axis axis area sheet within)
 
+    -- an area on one of the sheets has lines that are among `count`
+    area_within : (area : Area) → IsOnSheet sheets area → IsWithinOn id axis count area
+    area_within area on same =
+        both_found area (place_sheet_with id sheets) long
+        (subst (λ n. IsSomeAnd (place_sheet_with n sheets) (λ sheet. AreaWithin area sheet.table.rows sheet.table.cols))
+        same on)
+
     piece_within : (one : Piece) → IsPieceWithin sheets one → IsPieceWithinOn id axis count one
     piece_within (piece.Text text) within = tt
     piece_within (piece.Word word) within = tt
-    piece_within (piece.Ref reference) within = λ same.
-        both_found reference.area (place_sheet_with id sheets) long
-        (subst (λ n. IsSomeAnd (place_sheet_with n sheets)
-        (λ sheet. AreaWithin reference.area sheet.table.rows sheet.table.cols)) same within.0)
+    piece_within (piece.Ref reference) within = area_within reference.area within.0
     piece_within piece.Lost within = tt
+
+    -- so is each range
+    pub ranges_within : (ranges : List NamedRange) → All (λ range. IsOnSheet sheets range.area) ranges
+        → All (IsRangeWithinOn id axis count) ranges
+    ranges_within ranges on k d there = area_within (get_or ranges k d).area (on k d there)
 
     content_within : (item : Content) → IsContentWithin sheets item → IsContentWithinOn id axis count item
     content_within (content.Number number) within = tt

@@ -1,19 +1,17 @@
 -- The formulas of a table: those that follow a change, and how many there are.
-use Rattle.std.proofs.Common.{◌≡◌, ℕ, ◌+◌, refl, sym, ap, subst, ◌∙◌, List, [], ◌∷◌, cond, Bool, true, false, ◌||◌, arith, inl, inr}
+use Rattle.std.proofs.Common.{◌≡◌, ℕ, ◌+◌, refl, sym, ap, subst, ◌∙◌, List, [], ◌∷◌, cond, Bool, true, false, ◌||◌, arith}
 use Rattle.std.specs.Prelude.{Option, None, Some, IfSome, is_some, map}
-use Rattle.std.specs.List.{AllByRecursion, count_by, filter, fold, list_any}
+use Rattle.std.specs.List.{AllByRecursion, count_by, fold, list_any}
 use Rattle.std.specs.List.Sorted.{IsStrictlySortedBy}
-use Rattle.std.specs.Option.{option_map, option_map_or}
+use Rattle.std.specs.Option.{option_map_or}
 use Rattle.std.specs.Ordering.{is_eq}
 use Rattle.std.specs.declared.cmp.Ordering.TheVariants.{Less}
 use Rattle.std.specs.Cmp.{eq_by_cmp_equiv}
 use Rattle.std.specs.FinMap as finite
-use Rattle.std.proofs.lemmas.Bool.{cases_Bool, false≢true}
-use Rattle.std.proofs.lemmas.List.Kept.{IsStrictlySortedBy-filter}
+use Rattle.std.proofs.lemmas.Bool.{false≢true}
 use Rattle.std.proofs.lemmas.List.Sums.{sum_by-cons}
 use Rattle.std.proofs.lemmas.Map.Keys.{sorted_head, sorted_tail}
 use Rattle.std.proofs.lemmas.Map.Views.{list_any-from_Contains}
-use Rattle.cell_value.specs.Elements.{Contains-filter, Contains-filter_from}
 use Rattle.grid_range.specs.Area.{by_rows}
 use Rattle.grid_range.specs.declared.axis.Axis.{Axis}
 use Rattle.grid_range.specs.declared.band.Band.TheVariants.{Whole}
@@ -30,8 +28,9 @@ use Rattle.ref_rewrite.specs.declared.pieces.Piece.TheVariants as piece
 use Rattle.world_model.specs.Counts.{is_formula, formulas_at, formulas_in}
 use Rattle.world_model.specs.Laws.{FormulasCounted}
 use Rattle.world_model.specs.PlaceChange.{FollowsInPlace, content_followed}
-use Rattle.dimension_ops.specs.References.{AreMarked, AreReferring, AreWithinOn, IsContentWithinOn, followed_at, is_formula_at, is_reference_to, refers_at, refers_to}
-use Rattle.dimension_ops.proofs.Places.{all_followed, among, by_rows_total, same, size_stays}
+use Rattle.dimension_ops.specs.References.{AreMarked, AreReferring, AreWithinOn, IsContentWithinOn, followed_at, is_formula_at, is_reference_to, refers_to}
+use Rattle.dimension_ops.proofs.Becoming.{cols_stay, items_become, rows_stay}
+use Rattle.dimension_ops.proofs.Places.{among, by_rows_total, same}
 
 -- ---- what has no reference to the sheet stays
 
@@ -64,35 +63,14 @@ module _ (sheet : ℕ) (axis : Axis) (count : ℕ) (change : Change) where
   content_stays (content.Formula formula) is =
       ap (λ pieces. content.Formula (record formula { pieces = pieces })) (pieces_stay formula.pieces is)
 
-  held_stays : (held : Option Content) → option_map_or (refers_to sheet) held false ≡ false → option_map after held ≡ held
-  held_stays None is = refl
-  held_stays (Some item) is = ap Some (content_stays item is)
-
-  -- ---- all formulas with a reference to it follow
-
-  module _ (table : Table Content) (places : List (ℕ × ℕ)) (are : AreReferring sheet table places) where
-    by_cases : (b : Bool) (held : Option Content) → (b ≡ false → option_map after held ≡ held)
-        → cond b (option_map after held) held ≡ option_map after held
-    by_cases true held stays = refl
-    by_cases false held stays = sym (stays refl)
-
-    not_listed : (row col : ℕ) → among places (row, col) ≡ false → refers_at sheet table (row, col) ≡ false
-    not_listed row col none = elim (cases_Bool (refers_at sheet table (row, col))) [
-      | inl refers ↦ absurd (false≢true (sym none
-          ∙ list_any-from_Contains (eq_by_cmp_equiv by_rows_total) (row, col) places ((are.exactly row col).1 refers)))
-      | inr is ↦ is
-    ]
-
-    pub sheet_follows : FollowsInPlace sheet axis count change table
-        (fold (followed_at sheet axis count change) table places)
-    sheet_follows = record {
-      rows = (size_stays after places table).0;
-      cols = (size_stays after places table).1;
-      items = λ row col.
-          all_followed after places table (row, col) are.in_order
-          ∙ by_cases (among places (row, col)) (item_at table row col)
-          (λ none. held_stays (item_at table row col) (not_listed row col none));
-    }
+  -- all formulas with a reference to it follow
+  pub sheet_follows : (table : Table Content) (places : List (ℕ × ℕ)) → AreReferring sheet table places
+      → FollowsInPlace sheet axis count change table (fold (followed_at sheet axis count change) table places)
+  sheet_follows table places are = record {
+    rows = rows_stay after (refers_to sheet) content_stays table places are;
+    cols = cols_stay after (refers_to sheet) content_stays table places are;
+    items = items_become after (refers_to sheet) content_stays table places are;
+  }
 
   -- where there is none, nothing follows
   pub unreferred : (table : Table Content) → AreReferring sheet table []
@@ -116,30 +94,12 @@ module _ (sheet : ℕ) (axis : Axis) (count : ℕ) (change : Change) where
   formula_stays (content.Truth truth) = refl
   formula_stays (content.Formula formula) = refl
 
--- ---- the marked places are those of the formulas with a reference, and others
-
 -- what has a reference is a formula
-is_formula_then : (sheet : ℕ) (held : Option Content) → option_map_or (refers_to sheet) held false ≡ true
-    → option_map_or is_formula held false ≡ true
-is_formula_then sheet None refers = refers
-is_formula_then sheet (Some (content.Formula formula)) refers = refl
-is_formula_then sheet (Some (content.Number number)) refers = refers
-is_formula_then sheet (Some (content.Text text)) refers = refers
-is_formula_then sheet (Some (content.Truth truth)) refers = refers
-
-pub referring : {M : Type 0} (sheet : ℕ) (table : Table Content) (marks : Table M) (places : List (ℕ × ℕ))
-    → AreMarked table marks
-    → AreFilledPlaces (record { sheet = 0; rows = Whole; cols = Whole }) marks places
-    → AreReferring sheet table (filter (refers_at sheet table) places)
-referring sheet table marks places marked are = record {
-  in_order = IsStrictlySortedBy-filter by_rows (refers_at sheet table) places are.in_order;
-  exactly = λ row col. (
-    λ there. (Contains-filter_from (refers_at sheet table) places (row, col) there).1,
-    λ refers. Contains-filter (refers_at sheet table) places (row, col)
-        ((are.exactly row col).1 ((tt, tt), marked.each row col (is_formula_then sheet (item_at table row col) refers)))
-        refers,
-  );
-}
+pub formula_then : (sheet : ℕ) (item : Content) → refers_to sheet item ≡ true → is_formula item ≡ true
+formula_then sheet (content.Formula formula) refers = refl
+formula_then sheet (content.Number number) refers = refers
+formula_then sheet (content.Text text) refers = refers
+formula_then sheet (content.Truth truth) refers = refers
 
 -- ---- how many formulas there are
 

@@ -12,10 +12,14 @@ pub mod SheetRoom
 pub mod Making
 pub mod Marking
 pub mod Places
+pub mod Becoming
 pub mod Formulas
 pub mod Marked
 pub mod Unmoved
 pub mod Changed
 pub mod PastLines
 pub mod LostReferences
+pub mod RenamedWords
+pub mod KeptRanges
+pub mod RangeAnswers
 pub mod Setting

@@ -1,12 +1,10 @@
 -- The formulas of a table that lose their references to a sheet.
-use Rattle.std.proofs.Common.{◌≡◌, ℕ, refl, sym, ap, subst, ◌∙◌, List, [], ◌∷◌, ◌++◌, cond, Bool, true, false, not, inl, inr, ◌||◌, ◌&&◌}
-use Rattle.std.specs.Prelude.{Option, None, Some, map, filter, ◌==◌}
+use Rattle.std.proofs.Common.{◌≡◌, ℕ, refl, sym, ap, subst, ◌∙◌, List, [], ◌∷◌, ◌++◌, cond, Bool, true, false, not, ◌||◌, ◌&&◌}
+use Rattle.std.specs.Prelude.{map, filter, ◌==◌}
 use Rattle.std.specs.List.{AllZip, fold, list_all, list_any}
-use Rattle.std.specs.Option.{option_map, option_map_or}
-use Rattle.std.specs.Cmp.{eq_by_cmp_equiv}
-use Rattle.std.proofs.lemmas.Bool.{cases_Bool, false≢true, or_parts}
+use Rattle.std.specs.Option.{option_map}
+use Rattle.std.proofs.lemmas.Bool.{or_parts}
 use Rattle.std.proofs.lemmas.List.{append-nil, map-append}
-use Rattle.std.proofs.lemmas.Map.Views.{list_any-from_Contains}
 use Rattle.cell_store.specs.Table.{Table, item_at}
 use Rattle.ref_rewrite.specs.Following.{piece_without_sheet}
 use Rattle.ref_rewrite.specs.declared.cell_content.Content.{Content}
@@ -16,9 +14,9 @@ use Rattle.ref_rewrite.specs.declared.pieces.Piece.TheVariants as piece
 use Rattle.world_model.specs.Counts.{is_formula}
 use Rattle.world_model.specs.Sheet.{PlaceSheet}
 use Rattle.world_model.specs.SheetChange.{LosesReferences, content_without, other_sheets}
-use Rattle.dimension_ops.specs.References.{AreReferring, is_reference_to, refers_at, refers_to}
+use Rattle.dimension_ops.specs.References.{AreReferring, is_reference_to, refers_to}
 use Rattle.dimension_ops.specs.Losing.{lost_at}
-use Rattle.dimension_ops.proofs.Places.{all_followed, among, by_rows_total, size_stays}
+use Rattle.dimension_ops.proofs.Becoming.{items_become, rows_stay as size_rows, cols_stay as size_cols}
 
 module _ (sheet : ℕ) where
   piece_stays : (one : Piece) → is_reference_to sheet one ≡ false → piece_without_sheet sheet one ≡ one
@@ -42,37 +40,17 @@ module _ (sheet : ℕ) where
   content_stays (content.Formula formula) is =
       ap (λ pieces. content.Formula (record formula { pieces = pieces })) (pieces_stay formula.pieces is)
 
-  held_stays : (held : Option Content) → option_map_or (refers_to sheet) held false ≡ false
-      → option_map (content_without sheet) held ≡ held
-  held_stays None is = refl
-  held_stays (Some item) is = ap Some (content_stays item is)
-
   -- all formulas with a reference to it lose it
   module _ (table : Table Content) (places : List (ℕ × ℕ)) (are : AreReferring sheet table places) where
-    by_cases : (b : Bool) (held : Option Content) → (b ≡ false → option_map (content_without sheet) held ≡ held)
-        → cond b (option_map (content_without sheet) held) held ≡ option_map (content_without sheet) held
-    by_cases true held stays = refl
-    by_cases false held stays = sym (stays refl)
-
-    not_listed : (row col : ℕ) → among places (row, col) ≡ false → refers_at sheet table (row, col) ≡ false
-    not_listed row col none = elim (cases_Bool (refers_at sheet table (row, col))) [
-      | inl refers ↦ absurd (false≢true (sym none
-          ∙ list_any-from_Contains (eq_by_cmp_equiv by_rows_total) (row, col) places ((are.exactly row col).1 refers)))
-      | inr is ↦ is
-    ]
-
     pub items_lost : (row col : ℕ) → item_at (fold (lost_at sheet) table places) row col
         ≡ option_map (content_without sheet) (item_at table row col)
-    items_lost row col =
-        all_followed (content_without sheet) places table (row, col) are.in_order
-        ∙ by_cases (among places (row, col)) (item_at table row col)
-        (λ none. held_stays (item_at table row col) (not_listed row col none))
+    items_lost = items_become (content_without sheet) (refers_to sheet) content_stays table places are
 
     pub rows_stay : (fold (lost_at sheet) table places).rows ≡ table.rows
-    rows_stay = (size_stays (content_without sheet) places table).0
+    rows_stay = size_rows (content_without sheet) (refers_to sheet) content_stays table places are
 
     pub cols_stay : (fold (lost_at sheet) table places).cols ≡ table.cols
-    cols_stay = (size_stays (content_without sheet) places table).1
+    cols_stay = size_cols (content_without sheet) (refers_to sheet) content_stays table places are
 
   -- where there is none, nothing is lost
   pub none_lost : (one : PlaceSheet) → AreReferring sheet one.table [] → LosesReferences sheet one one

@@ -8,8 +8,9 @@ use Rattle.std.proofs.lemmas.List.Elements.{All-nil, All-push}
 use Rattle.grid_range.specs.Area.{by_rows}
 use Rattle.cell_store.specs.Table.{item_at}
 use Rattle.ref_rewrite.specs.declared.cell_content.Content.{Content}
+use Rattle.named_ranges.specs.declared.range.NamedRange.{NamedRange}
 use Rattle.world_model.specs.Sheet.{PlaceSheet}
-use Rattle.world_model.specs.Sound.{IsSound, IsSheetSound, IsContentWithin}
+use Rattle.world_model.specs.Sound.{IsSound, IsOnSheet, IsSheetSound, IsContentWithin}
 use Rattle.dimension_ops.specs.World.{opening_sheet}
 
 nothing_there : (row col : ℕ) → item_at opening_sheet.table row col ≡ None
@@ -39,7 +40,7 @@ sheet_sound sheets = record {
 }
 
 pub opening_sound : (id title owner : List ℕ)
-    → IsSound (record { id = id; title = title; owner = owner; sheets = opening_sheet ∷ [] })
+    → IsSound (record { id = id; title = title; owner = owner; sheets = opening_sheet ∷ []; ranges = [] })
 opening_sound id title owner = record {
   distinct = λ i j d below there. absurd (let no : ⊥ = omega (arith, below, there) in no);
   titles = λ i j d below there. absurd (let no : ⊥ = omega (arith, below, there) in no);
@@ -47,4 +48,5 @@ opening_sound id title owner = record {
   sheets = All-push (IsSheetSound (opening_sheet ∷ [])) [] opening_sheet (All-nil (IsSheetSound (opening_sheet ∷ []))) (sheet_sound (opening_sheet ∷ []));
   few_sheets = omega arith;
   few_places = omega arith;
+  ranges = All-nil (λ (range : NamedRange). IsOnSheet (opening_sheet ∷ []) range.area);
 }

@@ -36,7 +36,13 @@ module _ (rows cols : ℕ) where
   sheet = record { id = 0; title = codes "Sheet1"; hidden = false; table = empty_table rows cols }
 
   abbrev book : PlaceBook
-  book = record { id = codes "book1"; title = codes "book1"; owner = codes "owner"; sheets = sheet ∷ [] }
+  book = record {
+    id = codes "book1";
+    title = codes "book1";
+    owner = codes "owner";
+    sheets = sheet ∷ [];
+    ranges = [];
+  }
 
   abbrev names : NameBook
   names = record {
@@ -44,6 +50,7 @@ module _ (rows cols : ℕ) where
     title = codes "book1";
     owner = codes "owner";
     sheets = opening_names rows cols ∷ [];
+    ranges = [];
   }
 
   sheet_stands : SheetStandsFor names.sheets sheet (opening_names rows cols)
@@ -61,7 +68,14 @@ module _ (rows cols : ℕ) where
   }
 
   book_stands : IsSound book → BookStandsFor book names
-  book_stands sound = record { sound = sound; id = refl; title = refl; owner = refl; sheets = (sheet_stands, tt) }
+  book_stands sound = record {
+    sound = sound;
+    id = refl;
+    title = refl;
+    owner = refl;
+    sheets = (sheet_stands, tt);
+    ranges = refl;
+  }
 
   names_are_below : (next : ℕ) → rows + cols ≤ next → HasNamesBelow next names
   names_are_below next fits =

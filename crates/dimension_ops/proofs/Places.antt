@@ -58,7 +58,7 @@ first_once place places sorted = none_of place places (sorted_head by_rows place
 -- ---- what follows at each of the places
 
 module _ {T : Type 0} (f : T → T) where
-  abbrev at_place : Table T → ℕ × ℕ → Table T
+  abbrev pub at_place : Table T → ℕ × ℕ → Table T
   at_place table place =
       option_map_or (λ item. with_item table place.0 place.1 (f item)) (item_at table place.0 place.1) table
 

@@ -2,6 +2,8 @@
 use Rattle.std.specs.Prelude.{ℕ, Bool, List, refl}
 use Rattle.std.specs.Coded.{Coded, code_by, coded×, coded_list, coded_bool, coded_ℕ}
 use Rattle.cell_store.specs.Table.{Table, table_code}
+use Rattle.named_ranges.specs.contracts.range.NamedRange as range
+use Rattle.named_ranges.specs.declared.range.NamedRange.{NamedRange}
 use Rattle.ref_rewrite.specs.contracts.cell_content.Content as content
 use Rattle.ref_rewrite.specs.declared.cell_content.Content.{Content}
 use Rattle.world_model.specs.Book.{PlaceBook}
@@ -17,10 +19,11 @@ sheet_code =
 
 abbrev pub book_code : Coded PlaceBook
 book_code =
-    code_by (List ℕ × (List ℕ × (List ℕ × List PlaceSheet)))
-    (coded× (coded_list coded_ℕ) (coded× (coded_list coded_ℕ) (coded× (coded_list coded_ℕ) (coded_list sheet_code))))
-    (λ b. (b.id, (b.title, (b.owner, b.sheets))))
-    (λ p. record { id = p.0; title = p.1.0; owner = p.1.1.0; sheets = p.1.1.1 }) (λ _. refl)
+    code_by (List ℕ × (List ℕ × (List ℕ × (List PlaceSheet × List NamedRange))))
+    (coded× (coded_list coded_ℕ) (coded× (coded_list coded_ℕ) (coded× (coded_list coded_ℕ)
+    (coded× (coded_list sheet_code) (coded_list range.the_row.coded)))))
+    (λ b. (b.id, (b.title, (b.owner, (b.sheets, b.ranges)))))
+    (λ p. record { id = p.0; title = p.1.0; owner = p.1.1.0; sheets = p.1.1.1.0; ranges = p.1.1.1.1 }) (λ _. refl)
 
 abbrev pub placed_code : Coded Placed
 placed_code =

@@ -10,4 +10,6 @@ pub mod SheetRequests
 pub mod References
 pub mod Lines
 pub mod Losing
+pub mod Renaming
+pub mod RangeRequests
 pub mod SetProperties

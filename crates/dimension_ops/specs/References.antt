@@ -30,13 +30,22 @@ refers_to sheet (content.Number number) = false
 refers_to sheet (content.Text text) = false
 refers_to sheet (content.Truth truth) = false
 
--- so is what stands at the place
+-- what stands at the place passes the test
+abbrev pub passes_at : (Content → Bool) → Table Content → ℕ × ℕ → Bool
+passes_at test table place = option_map_or test (item_at table place.0 place.1) false
+
+-- these are the places of the contents that pass the test, each once, by rows
+pub record ArePlacesOfSuch (test : Content → Bool) (table : Table Content) (places : List (ℕ × ℕ)) : Type 0 where
+  pub in_order : IsStrictlySortedBy by_rows places
+  pub exactly : (row col : ℕ) → Contains places (row, col) ↔ (passes_at test table (row, col) ≡ true)
+
+-- a formula with such a reference stands at the place
 abbrev pub refers_at : ℕ → Table Content → ℕ × ℕ → Bool
-refers_at sheet table place = option_map_or (refers_to sheet) (item_at table place.0 place.1) false
+refers_at sheet = passes_at (refers_to sheet)
 
 -- a formula stands at the place
 abbrev pub is_formula_at : Table Content → ℕ × ℕ → Bool
-is_formula_at table place = option_map_or is_formula (item_at table place.0 place.1) false
+is_formula_at = passes_at is_formula
 
 -- the marks are those of a sheet of that size, and there is one wherever a formula stands
 pub record AreMarked {M : Type 0} (table : Table Content) (marks : Table M) : Type 0 where
@@ -51,10 +60,9 @@ pub record KeepsFormulas (before after : Table Content) : Type 0 where
   pub each : (row col : ℕ) → is_formula_at after (row, col) ≡ is_formula_at before (row, col)
   pub count : formulas_in after ≡ formulas_in before
 
--- these are the places of the formulas with a reference to the sheet, each once, by rows
-pub record AreReferring (sheet : ℕ) (table : Table Content) (places : List (ℕ × ℕ)) : Type 0 where
-  pub in_order : IsStrictlySortedBy by_rows places
-  pub exactly : (row col : ℕ) → Contains places (row, col) ↔ (refers_at sheet table (row, col) ≡ true)
+-- these are the places of the formulas with a reference to the sheet
+abbrev pub AreReferring : ℕ → Table Content → List (ℕ × ℕ) → Type 0
+AreReferring sheet = ArePlacesOfSuch (refers_to sheet)
 
 -- each reference of a formula to the sheet is to lines that are among `count`
 abbrev pub IsContentWithinOn : ℕ → Axis → ℕ → Content → Type 0

@@ -27,7 +27,13 @@ opening_sheet = record { id = 0; title = codes "Sheet1"; hidden = false; table =
 
 -- the one spreadsheet that there is in the beginning
 abbrev pub opening_book : PlaceBook
-opening_book = record { id = codes "book1"; title = codes "book1"; owner = codes "owner"; sheets = opening_sheet ∷ [] }
+opening_book = record {
+  id = codes "book1";
+  title = codes "book1";
+  owner = codes "owner";
+  sheets = opening_sheet ∷ [];
+  ranges = [];
+}
 
 -- the same by names: the rows are called by the first numbers, the columns by the next ones
 abbrev pub opening_names : ℕ → ℕ → NameSheet
@@ -47,6 +53,7 @@ opening_world = record {
     title = codes "book1";
     owner = codes "owner";
     sheets = opening_names 1000 26 ∷ [];
+    ranges = [];
   }) ∷ [];
   next = 1026;
 }

@@ -1,14 +1,21 @@
-ghost use Rattle.std.specs.Prelude.{◌≡◌, ◌==◌, ◌<◌, ◌≤◌, ◌∷◌, [], map, length, IfErr, IfOk, IfSome, IsSomeAnd, OnOk, OnErr, false};
+ghost use Rattle.std.specs.Prelude.{◌≡◌, ◌≢◌, ◌↔◌, ◌==◌, ◌<◌, ◌≤◌, ◌∷◌, [], map, length, is_some, IfErr, IfOk, IfSome, IsSomeAnd, None, OnOk, OnErr, true, false};
 ghost use Rattle.std.specs.List.{insert, list_all, position_from};
-ghost use Rattle.std.specs.Option.{IsSome, option_copied};
+ghost use Rattle.std.specs.Option.{IsSome, option_copied, option_map};
+ghost use Rattle.cell_value.specs.Ids.{IsNewId, is_taken};
+ghost use Rattle.named_ranges.specs.Given.{given_range};
+ghost use Rattle.named_ranges.specs.Listed.{AreNames, IsBadName, IsFirstUnused, IsTakenName, TakesNoMemory, has_id as has_range, with_changed, with_id, with_name};
+ghost use Rattle.named_ranges.specs.NameRule.{IsName};
+ghost use Rattle.named_ranges.specs.declared.range.NameFault.TheVariants.{NoId, IdTaken, BadName, NameTaken};
 ghost use Rattle.cell_store.specs.Table.{HasPlace, filled_places, most_filled};
 ghost use Rattle.world_model.specs.Counts.{filled_of, formulas_of, grid_places};
+ghost use Rattle.world_model.specs.RangeChange.{PlaceWordsRenamed, place_range_added, place_range_deleted, with_place_ranges};
 ghost use Rattle.world_model.specs.SheetChange.{PlaceSheetDeleted, on_place_sheet, other_sheets, place_marked_hidden, place_sheet_added, place_titled};
-ghost use Rattle.world_model.specs.Sound.{IsContentWithin, IsLineCount, IsSound, most_places, most_sheets, place_sheet_with};
+ghost use Rattle.world_model.specs.Sound.{IsContentWithin, IsLineCount, IsOnSheet, IsSound, most_places, most_sheets, place_sheet_with};
 ghost use Rattle.world_model.specs.Writing.{book_put, table_written};
 ghost use Rattle.std.specs.Arc.{arc_value};
 ghost use Rattle.dimension_ops.specs.Found.{ArePlacesOf, content_at};
 ghost use Rattle.dimension_ops.specs.ByName.{WritesByName};
+ghost use Rattle.dimension_ops.specs.RangeRequests.{range_of};
 ghost use Rattle.dimension_ops.specs.Titles.{sheet_titled, first_visible};
 ghost use Rattle.dimension_ops.specs.SheetRequests.{has_title};
 ghost use Rattle.dimension_ops.specs.World.{opening_book};
@@ -18,12 +25,13 @@ ghost use Rattle.dimension_ops.specs.Lines.{lines_of_sheet, places_changed};
 
 use crate::lines::sheets_changed;
 use crate::losing::sheets_left;
+use crate::renaming::sheets_renamed;
 use crate::sheet::Sheet;
 use crate::sheets::places_of;
 use cell_value::{Duplicate, Items, NoMemory, Text};
 use dev_metadata::Metadata;
 use grid_range::{Area, SheetChange};
-use named_ranges::Names;
+use named_ranges::{NameFault, NamedRange, Names};
 use protection::Protections;
 use ref_rewrite::Content;
 use std::alloc::{AllocError, Global};
@@ -31,8 +39,8 @@ use std::marker::Model;
 use std::mem;
 use std::sync::Arc;
 use world_model::{
-    changes_stay_sound, filled_within_places, formulas_counted, sheets_deleted, writes_follow,
-    writes_stay_sound,
+    changes_stay_sound, filled_within_places, formulas_counted, ranges_added, ranges_deleted,
+    sheets_deleted, words_are_renamed, writes_follow, writes_stay_sound,
 };
 
 /// A spreadsheet: its sheets in their order, named ranges, protected ranges and metadata (Sheets API v4
@@ -61,11 +69,23 @@ impl Model for Book {
 
     ghost coded = { book_code };
 
-    ghost view = { λ b. record { id = b.id; title = b.title; owner = b.owner; sheets = map arc_value b.sheets.items } };
+    ghost view = { λ b. record {
+      id = b.id;
+      title = b.title;
+      owner = b.owner;
+      sheets = map arc_value b.sheets.items;
+      ranges = b.names;
+    } };
 
-    ghost invariant = { λ b. IsSound (record { id = b.id; title = b.title; owner = b.owner; sheets = map arc_value b.sheets.items })
+    ghost invariant = { λ b. IsSound (record {
+      id = b.id;
+      title = b.title;
+      owner = b.owner;
+      sheets = map arc_value b.sheets.items;
+      ranges = b.names;
+    })
         × (b.ids ≡ map (λ sheet. sheet.id) (map arc_value b.sheets.items))
-        × (b.names ≡ []) × (b.protections ≡ []) × (b.metadata ≡ []) };
+        × (b.protections ≡ []) × (b.metadata ≡ []) };
 }
 
 impl Book {
@@ -95,7 +115,7 @@ impl Book {
         })
     }
 
-    /// The spreadsheet with these sheets.
+    /// The spreadsheet with these sheets, and no named ranges.
     ///
     /// # Errors
     ///
@@ -107,8 +127,10 @@ impl Book {
         owner: Text,
         sheets: Vec<Arc<Sheet>>,
     ) -> Result<Book, NoMemory>
-        requires { IsSound (record { id = id; title = title; owner = owner; sheets = map arc_value sheets.items }) }
-        ensures { IfOk result (λ book. book ≡ record { id = id; title = title; owner = owner; sheets = map arc_value sheets.items }) }
+        requires { IsSound
+            (record { id = id; title = title; owner = owner; sheets = map arc_value sheets.items; ranges = [] }) }
+        ensures { IfOk result (λ book. book
+            ≡ record { id = id; title = title; owner = owner; sheets = map arc_value sheets.items; ranges = [] }) }
     {
         let mut ids = Vec::new(alloc);
         for sheet in &sheets {
@@ -257,8 +279,9 @@ impl Book {
         })
     }
 
-    /// Takes the sheet with the id out, with each reference to it. A sheet without one isn't copied. While
-    /// references are lost a spare spreadsheet stands here, since what always holds of one doesn't hold until all are.
+    /// Takes the sheet with the id out, with each reference to it and its named ranges. A sheet without a reference to
+    /// it isn't copied. While references are lost a spare spreadsheet stands here, since what always holds of one
+    /// doesn't hold until all are.
     ///
     /// # Errors
     ///
@@ -282,6 +305,8 @@ impl Book {
         let sheets = sheets_left(self.alloc, self.sheets, sheet)?;
         let mut ids = self.ids.into_vec();
         ids.retain(|id| *id != sheet);
+        let mut names = self.names;
+        names.lose_sheet(sheet);
         Ok(Book {
             alloc: self.alloc,
             id: self.id,
@@ -289,7 +314,7 @@ impl Book {
             owner: self.owner,
             sheets,
             ids: Items::of(ids),
-            names: self.names,
+            names,
             protections: self.protections,
             metadata: self.metadata,
         })
@@ -331,11 +356,135 @@ impl Book {
         Ok(())
     }
 
-    /// The named ranges, lent; no request makes any yet.
+    /// The named ranges, lent.
     pub fn names(&self) -> &Names
-        ensures { result.now ≡ [] }
+        ensures { result.now ≡ self.now.ranges }
     {
         &self.names
+    }
+
+    /// No two named ranges have one id, or one name, whatever the case of its ASCII letters.
+    pub(crate) fn names_apart(&self)
+        ensures { AreNames self.now.ranges }
+    {
+        let _first = self.names.list(0);
+    }
+
+    /// The name of the named range with the id; None where there is none.
+    ///
+    /// # Errors
+    ///
+    /// [`NoMemory`] where memory runs out.
+    pub(crate) fn name_of(&self, id: &str) -> Result<Option<Text>, NoMemory>
+        ensures { IfOk result (λ name. name ≡ option_map (λ range. range.name) (with_id id.now self.now.ranges)) }
+    {
+        let mut names = self.names.duplicate()?;
+        match names.drop(id) {
+            Ok(range) => Ok(Some(range.name)),
+            Err(_) => Ok(None),
+        }
+    }
+
+    /// Puts a named range behind the others, and gives its id.
+    ///
+    /// # Errors
+    ///
+    /// Those of [`Names::add`]; the spreadsheet is as it was.
+    pub(crate) fn add_name(
+        &mut self,
+        id: Option<Text>,
+        name: Text,
+        area: Area,
+    ) -> Result<Text, NameFault>
+        requires there { IsOnSheet self.old.sheets area }
+        ensures taken { (result ≡ Err IdTaken) ↔ (is_taken (has_range self.old.ranges) id ≡ true) }
+        ensures bad_name { (result ≡ Err BadName)
+            ↔ ((is_taken (has_range self.old.ranges) id ≡ false) × ¬ (IsName name)) }
+        ensures name_taken { (result ≡ Err NameTaken)
+            ↔ ((is_taken (has_range self.old.ranges) id ≡ false) × IsName name
+            × (is_some (with_name name self.old.ranges) ≡ true)) }
+        ensures no_other { result ≢ Err NoId }
+        ensures id { IfOk result (IsNewId (IsFirstUnused self.old.ranges) id) }
+        ensures added { IfOk result (λ new. self.new ≡ place_range_added (range_of new name area) self.old) }
+        ensures unchanged { OnErr result (self.new ≡ self.old) }
+    {
+        ranges_added();
+        self.names.add(id, name, area)
+    }
+
+    /// Gives the named range with the id what is given.
+    ///
+    /// # Errors
+    ///
+    /// Those of [`Names::update`]; the spreadsheet is as it was.
+    pub(crate) fn update_name(
+        &mut self,
+        id: &str,
+        name: Option<Text>,
+        area: Option<Area>,
+    ) -> Result<(), NameFault>
+        requires there { IfSome area (IsOnSheet self.old.sheets) }
+        ensures no_id { (result ≡ Err NoId) ↔ (with_id id.now self.old.ranges ≡ None) }
+        ensures bad_name { (result ≡ Err BadName)
+            ↔ (IsSome (with_id id.now self.old.ranges) × IsBadName name) }
+        ensures name_taken { (result ≡ Err NameTaken)
+            ↔ (IsSome (with_id id.now self.old.ranges) × IsTakenName id.now name self.old.ranges) }
+        ensures no_other { result ≢ Err IdTaken }
+        ensures no_memory { IfErr result TakesNoMemory }
+        ensures updated { OnOk result (self.new
+            ≡ with_place_ranges (with_changed id.now (given_range name area) self.old.ranges) self.old) }
+        ensures unchanged { OnErr result (self.new ≡ self.old) }
+    {
+        self.names.update(id, name, area)
+    }
+
+    /// Takes the named range with the id out, and gives it.
+    ///
+    /// # Errors
+    ///
+    /// [`NameFault::NoId`] where none has the id; the spreadsheet is as it was.
+    pub(crate) fn drop_name(&mut self, id: &str) -> Result<NamedRange, NameFault>
+        ensures no_id { (result ≡ Err NoId) ↔ (with_id id.now self.old.ranges ≡ None) }
+        ensures no_other { IfErr result (λ fault. fault ≡ NoId) }
+        ensures left { OnOk result (self.new ≡ place_range_deleted id.now self.old) }
+        ensures unchanged { OnErr result (self.new ≡ self.old) }
+    {
+        ranges_deleted();
+        self.names.drop(id)
+    }
+
+    /// Renames a word in the formulas of all sheets, whatever the case of its ASCII letters. A sheet without it isn't
+    /// copied.
+    ///
+    /// # Errors
+    ///
+    /// [`NoMemory`] where memory runs out; the spreadsheet is to be given up then.
+    pub(crate) fn rename_words(&mut self, old: &str, new: &str) -> Result<(), NoMemory>
+        ensures { OnOk result (PlaceWordsRenamed old.now new.now self.old self.new) }
+    {
+        let spare = Book::opening(self.alloc)?;
+        let book = mem::replace(self, spare);
+        *self = book.words_renamed(old, new)?;
+        Ok(())
+    }
+
+    /// The spreadsheet with the word renamed.
+    fn words_renamed(self, old: &str, new: &str) -> Result<Book, NoMemory>
+        ensures { IfOk result (PlaceWordsRenamed old.now new.now self) }
+    {
+        words_are_renamed();
+        let sheets = sheets_renamed(self.alloc, self.sheets, old, new)?;
+        Ok(Book {
+            alloc: self.alloc,
+            id: self.id,
+            title: self.title,
+            owner: self.owner,
+            sheets,
+            ids: self.ids,
+            names: self.names,
+            protections: self.protections,
+            metadata: self.metadata,
+        })
     }
 
     /// The protected ranges, lent; no request makes any yet.
@@ -447,6 +596,8 @@ impl Book {
     {
         changes_stay_sound();
         let sheets = sheets_changed(self.alloc, self.sheets, by)?;
+        let mut names = self.names;
+        names.change(by.sheet, by.axis, by.count, by.change);
         Ok(Book {
             alloc: self.alloc,
             id: self.id,
@@ -454,7 +605,7 @@ impl Book {
             owner: self.owner,
             sheets,
             ids: self.ids,
-            names: self.names,
+            names,
             protections: self.protections,
             metadata: self.metadata,
         })

@@ -1,5 +1,5 @@
-//! The sheets of a spreadsheet that is created: each is judged, and what isn't given of it is chosen, beside those before
-//! it in the list alone, and each rule is tried on all of them before the next one.
+//! The sheets of a spreadsheet that is created: each is judged, and what isn't given of it is chosen, beside those
+//! before it in the list alone, and each rule is tried on all of them before the next one.
 
 ghost use Rattle.std.specs.Prelude.{◌≡◌, ◌<◌, ◌≤◌, ◌+◌, ◌++◌, ◌||◌, ◌==◌, ◌∷◌, [], ℕ, List, length, map, nat_lt, IfOk};
 ghost use Rattle.std.specs.Arc.{arc_value};

@@ -22,7 +22,7 @@ use std::alloc::Global;
 use world_model::formulas_counted;
 
 /// The places that are marked, by rows.
-fn marked_places(marks: &Marks) -> Result<Vec<(u32, u32)>, NoMemory>
+pub(crate) fn marked_places(marks: &Marks) -> Result<Vec<(u32, u32)>, NoMemory>
     ensures { IfOk result
         (λ places. AreFilledPlaces (record { sheet = 0; rows = Whole; cols = Whole }) marks.now.table places.items) }
 {

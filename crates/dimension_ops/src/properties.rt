@@ -34,9 +34,9 @@ use world_model::{changes_in_turn, line_changes_are_changes, sheets_hidden, shee
 ///
 /// The first of these rules that is broken: [`Rule::NoSheet`], [`Rule::BadName`], [`Rule::NameTaken`] where another
 /// sheet has the title, [`Rule::LastLine`] where the sheet would have no row or no column, [`Rule::LastSheet`] where it
-/// would be hidden and no other sheet is visible, and [`Rule::PastLimit`] of rows, columns or cells, counted as they are
-/// with the new size; the spreadsheet is as it was then. [`RuleOr::NoMemory`] where memory runs out; the spreadsheet is
-/// to be given up then.
+/// would be hidden and no other sheet is visible, and [`Rule::PastLimit`] of rows, columns or cells, counted as they
+/// are with the new size; the spreadsheet is as it was then. [`RuleOr::NoMemory`] where memory runs out; the
+/// spreadsheet is to be given up then.
 pub fn set_properties(
     book: &mut Book,
     sheet: u32,

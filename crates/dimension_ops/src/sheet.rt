@@ -10,10 +10,13 @@ ghost use Rattle.grid_range.specs.Change.{Fits};
 ghost use Rattle.cell_store.specs.Moved.{IsRoomAfter, lines_on};
 ghost use Rattle.dimension_ops.specs.References.{AreMarked, AreReferring, AreWithinOn, is_formula_at};
 ghost use Rattle.dimension_ops.specs.Lines.{SheetFollows, SheetMoves};
+ghost use Rattle.dimension_ops.specs.Renaming.{AreNaming};
+ghost use Rattle.world_model.specs.RangeChange.{WordsRenamedIn};
 
 use crate::following::{count_formulas, follow_places, references};
 use crate::lines::{keeps_places, lines_on};
 use crate::losing::lose_places;
+use crate::renaming::{naming, rename_places};
 use basic_filter::Filter;
 use cell_store::{CellStore, tables_by_items};
 use cell_value::{Duplicate, Items, NoMemory, Text};
@@ -282,6 +285,37 @@ impl Sheet {
         ensures { OnOk result (LosesReferences sheet self.old self.new) }
     {
         lose_places(&mut self.cells, places, sheet)?;
+        Ok(())
+    }
+
+    /// The places of the formulas with the word, whatever the case of its ASCII letters, by rows. Only marked cells are
+    /// visited, as for references.
+    ///
+    /// # Errors
+    ///
+    /// [`NoMemory`] where memory runs out.
+    pub(crate) fn naming(&self, word: &str) -> Result<Vec<(u32, u32)>, NoMemory>
+        ensures { IfOk result (λ places. AreNaming word.now self.now.table places.items) }
+    {
+        naming(&self.cells, &self.marks, word)
+    }
+
+    /// Renames the word in those formulas.
+    ///
+    /// # Errors
+    ///
+    /// [`NoMemory`] where memory runs out; the sheet is to be given up then.
+    pub(crate) fn rename(
+        &mut self,
+        alloc: Global,
+        places: &[(u32, u32)],
+        old: &str,
+        new: &str,
+    ) -> Result<(), NoMemory>
+        requires places { AreNaming old.now self.old.table places.now }
+        ensures { OnOk result (WordsRenamedIn old.now new.now self.old self.new) }
+    {
+        rename_places(alloc, &mut self.cells, places, old, new)?;
         Ok(())
     }
 }

@@ -65,8 +65,8 @@ impl World {
     ///
     /// # Errors
     ///
-    /// The first of these rules that is broken, each tried on all sheets before the next one: [`Rule::BadRange`] where a
-    /// place is above the number of sheets before it, [`Rule::IdTaken`], [`Rule::BadName`], [`Rule::NameTaken`],
+    /// The first of these rules that is broken, each tried on all sheets before the next one: [`Rule::BadRange`] where
+    /// a place is above the number of sheets before it, [`Rule::IdTaken`], [`Rule::BadName`], [`Rule::NameTaken`],
     /// [`Rule::LastLine`] where one would have no row or no column, [`Rule::LastSheet`] where all would be hidden, and
     /// [`Rule::PastLimit`] of books, sheets, rows, columns or cells; or [`RuleOr::NoMemory`]. The spreadsheets are as
     /// they were.

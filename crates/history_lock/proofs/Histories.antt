@@ -1,11 +1,12 @@
 -- Lists that begin with others, and what holds from a place on.
-use Rattle.std.proofs.Common.{◌≡◌, ℕ, zero, suc, ◌≤◌, Bool, true, false, List, [], ◌∷◌, ◌++◌, length, drop, refl, sym}
+use Rattle.std.proofs.Common.{◌≡◌, ◌≢◌, ℕ, zero, suc, ◌≤◌, Bool, true, false, List, [], ◌∷◌, ◌++◌, length, drop, refl, sym, subst}
 use Rattle.std.proofs.Common.{ap, ◌∙◌, arith}
 use Rattle.std.specs.Prelude.{All, nat_lt, if◌then◌else◌}
+use Rattle.std.proofs.Math.Seq.{drop-length}
 use Rattle.std.proofs.lemmas.Bool.{ltb-true, ltb-false}
 use Rattle.std.proofs.lemmas.List.{append-nil, append_assoc}
-use Rattle.std.proofs.lemmas.List.Elements.{All-nil, All-cons, All-head, All-tail, All-append, All-drop}
-use Rattle.history_lock.specs.History.{StartsWith, longer, shorter}
+use Rattle.std.proofs.lemmas.List.Elements.{All-nil, All-cons, All-head, All-tail, All-append, All-drop, All-weaker}
+use Rattle.history_lock.specs.History.{StartsWith, AllOf, AreDone, longer, shorter}
 
 module _ {E : Type 0} where
   pub starts_whole : (xs : List E) → StartsWith xs xs
@@ -37,6 +38,10 @@ module _ {E : Type 0} where
       go true e = less (let lt = ltb-true (length xs) (length ys) e in omega arith)
       go false e = more (ltb-false (length xs) (length ys) e)
 
+  -- nothing stands behind the last element
+  pub nothing_behind : (P : E → Type 0) (xs : List E) → All P (drop (length xs) xs)
+  nothing_behind P xs = subst (All P) (sym (drop-length xs)) (All-nil P)
+
   pub All-drop_append : (P : E → Type 0) (n : ℕ) (xs ys : List E) → All P (drop n xs) → All P ys
       → All P (drop n (xs ++ ys))
   All-drop_append P zero xs ys old new = All-append P xs ys old new
@@ -58,3 +63,23 @@ module _ {E : Type 0} where
   All-drop_more P (suc m) zero xs le h = absurd (omega arith)
   All-drop_more P (suc m) (suc n) [] le h = h
   All-drop_more P (suc m) (suc n) (x ∷ xs) le h = All-drop_more P m n xs (omega arith) h
+
+module _ {E : Type 0} (caller : E → ℕ) where
+  -- those who are done stay so where another adds entries
+  pub done_grown : (met : List (ℕ × ℕ)) (all added : List E) (number : ℕ) → AllOf caller number added
+      → All (λ m. m.0 ≢ number) met → AreDone caller met all → AreDone caller met (all ++ added)
+  done_grown [] all added number own apart done = All-nil (λ m. All (λ e. caller e ≢ m.0) (drop m.1 (all ++ added)))
+  done_grown (m ∷ met) all added number own apart done =
+      All-cons (λ (m : ℕ × ℕ). All (λ e. caller e ≢ m.0) (drop m.1 (all ++ added))) m met
+      (All-drop_append (λ e. caller e ≢ m.0) m.1 all added
+      (All-head (λ (m : ℕ × ℕ). All (λ e. caller e ≢ m.0) (drop m.1 all)) m met done)
+      (All-weaker (λ e. caller e ≡ number) (λ e. caller e ≢ m.0)
+      (λ e is same. All-head (λ (m : ℕ × ℕ). m.0 ≢ number) m met apart (sym same ∙ is)) added own))
+      (done_grown met all added number own (All-tail (λ (m : ℕ × ℕ). m.0 ≢ number) m met apart)
+      (All-tail (λ (m : ℕ × ℕ). All (λ e. caller e ≢ m.0) (drop m.1 all)) m met done))
+
+  -- and are so in a list's beginning
+  pub done_front : (met : List (ℕ × ℕ)) (xs ys : List E) → AreDone caller met (xs ++ ys) → AreDone caller met xs
+  done_front met xs ys =
+      All-weaker (λ m. All (λ e. caller e ≢ m.0) (drop m.1 (xs ++ ys))) (λ m. All (λ e. caller e ≢ m.0) (drop m.1 xs))
+      (λ m done. All-drop_front (λ e. caller e ≢ m.0) m.1 xs ys done) met

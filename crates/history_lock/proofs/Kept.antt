@@ -7,17 +7,15 @@ use mathlib.Core.Option.{Option, some, some-injective}
 use mathlib.Core.Logic.{dite}
 use native.Mathlib.Decide.{ℕ_discrete}
 use lib.ListN.{get_elem?}
-use Rattle.std.proofs.Math.Seq.{drop-length}
-use Rattle.std.proofs.lemmas.List.Elements.{All-nil}
 use Rattle.std.proofs.lemmas.Option.{IfSome_then}
 use Rattle.atomic_table.proofs.Lists.{set_else, at_longer}
 use Rattle.history_lock.specs.declared.view.View.{View}
 use Rattle.history_lock.specs.declared.view.Stage.{Stage}
 use Rattle.history_lock.specs.declared.view.Stage.TheVariants.{Away, Opening, Holds, Ready, Gone}
-use Rattle.history_lock.specs.History.{StartsWith, NoneOf}
+use Rattle.history_lock.specs.History.{StartsWith, NoneOf, AreDone}
 use Rattle.history_lock.specs.Rule.{StandsAt, numbers_of, IsDrawnBy, IsFree, SlotAt, HeldBy, IsInTurn, Known, Apart}
 use Rattle.history_lock.specs.Rule.{KeptAt}
-use Rattle.history_lock.proofs.Histories.{starts_whole, starts_through, All-drop_append}
+use Rattle.history_lock.proofs.Histories.{starts_whole, starts_through, All-drop_append, nothing_behind}
 use Rattle.history_lock.proofs.Views.{all_set, all_more, set_there, apart_set, apart_more}
 
 pub below_more : (given : Maybe ℕ) (m n : ℕ) → m ≤ n → IfSome given (λ number. number < m)
@@ -56,9 +54,9 @@ module _ {E : Type 0} where
 module _ {T E : Type 0} (list : T → List E) (pair : T → ℕ × ℕ) (caller : E → ℕ) (start : T) (most : ℕ) where
   -- more numbers were drawn, and entries of others were added
   pub known_grown : (drawn more : ℕ) (all added : List E) (v : View E) → drawn ≤ more
-      → (v.numbered ≡ true → NoneOf caller v.number added)
+      → (v.numbered ≡ true → NoneOf caller v.number added) → AreDone caller v.met (all ++ added)
       → Known list pair caller start most drawn all v → Known list pair caller start most more (all ++ added) v
-  known_grown drawn more all added v le others k = record {
+  known_grown drawn more all added v le others done k = record {
     seen = starts_through (all ++ added) all v.seen (added, refl) k.seen;
     heard = k.heard;
     begun = k.begun;
@@ -70,13 +68,16 @@ module _ {T E : Type 0} (list : T → List E) (pair : T → ℕ × ℕ) (caller 
     given = k.given;
     own = λ numbered. All-drop_append (λ e. caller e ≢ v.number) (length v.seen) all added (k.own numbered)
         (others numbered);
+    others = k.others;
+    done = done;
   }
 
   -- the view has seen the whole list, which begins with what it had seen
   pub known_whole : (drawn : ℕ) (before all : List E) (v : View E) (stage : Stage) → StartsWith all v.seen
+      → AreDone caller v.met all
       → Known list pair caller start most drawn before v
-      → Known list pair caller start most drawn all (record v { stage = stage; seen = all })
-  known_whole drawn before all v stage longer k = record {
+      → Known list pair caller start most drawn all (record v { stage = stage; seen = all; mine = all })
+  known_whole drawn before all v stage longer done k = record {
     seen = starts_whole all;
     heard = starts_through all v.seen v.heard longer k.heard;
     begun = starts_through all v.seen v.start longer k.begun;
@@ -86,7 +87,9 @@ module _ {T E : Type 0} (list : T → List E) (pair : T → ℕ × ℕ) (caller 
     counted = k.counted;
     below = k.below;
     given = k.given;
-    own = λ _. subst (NoneOf caller v.number) (sym (drop-length all)) (All-nil (λ e. caller e ≢ v.number));
+    own = λ _. nothing_behind (λ e. caller e ≢ v.number) all;
+    others = λ _. nothing_behind (λ e. caller e ≢ v.number) all;
+    done = done;
   }
 
   slot_taken : (homes : List (Option (Maybe T))) (v : View E) (stage : Stage) → SlotAt list pair homes v stage

@@ -6,7 +6,6 @@ use Rattle.std.specs.List.{Contains}
 use mathlib.Core.Option.{Option, some, none, some-injective, some-ne-none}
 use lib.ListN.{get_elem?}
 use prog.Atomic.{either}
-use Rattle.std.proofs.Math.Seq.{drop-length}
 use Rattle.std.proofs.lemmas.List.Elements.{All-nil, All-weaker, Contains-append_cases}
 use Rattle.std.proofs.lemmas.Bool.{cases_lt}
 use Rattle.std.proofs.lemmas.List.Prefix.{front_rest}
@@ -16,13 +15,14 @@ use Rattle.atomic_table.proofs.Lists.{exchanged, set_again}
 use Rattle.history_lock.specs.declared.view.View.{View}
 use Rattle.history_lock.specs.declared.view.Stage.{Stage}
 use Rattle.history_lock.specs.declared.view.Stage.TheVariants.{Away, Opening, Holds, Ready, Gone}
-use Rattle.history_lock.specs.History.{StartsWith, NoneOf, AllOf}
+use Rattle.history_lock.specs.History.{StartsWith, NoneOf, AllOf, AreDone}
 use Rattle.history_lock.specs.Rule.{StandsAt, numbers_of, IsFree, SlotAt, IsInTurn, Known, KeptAt, Kept, opening_view}
-use Rattle.history_lock.specs.Rule.{OneNumberDrawn}
+use Rattle.history_lock.specs.Rule.{OneNumberDrawn, AreRetired}
 use Rattle.history_lock.specs.Steps.{Stayed, Opened, Took, Left, Readied, Settled}
-use Rattle.history_lock.proofs.Histories.{starts_whole, starts_nothing, All-drop_append}
+use Rattle.history_lock.proofs.Histories.{starts_whole, starts_nothing, All-drop_append, nothing_behind, done_grown, done_front}
 use Rattle.history_lock.proofs.Kept.{known_grown, known_whole, holder, turns_home, turns_held, apart_same, kept_set}
 use Rattle.history_lock.proofs.Kept.{drawn_set}
+use Rattle.history_lock.proofs.Views.{retired_same}
 
 pub away_free : {stage : Stage} → stage ≡ Away → IsFree stage
 away_free e = subst IsFree (sym e) tt
@@ -43,6 +43,7 @@ module _ {T E : Type 0} (list : T → List E) (pair : T → ℕ × ℕ) (caller 
     words = words;
     kept = subst (λ views. KeptAt list pair caller start most k.turn k.drawn s.homes views k.all)
         (sym (set_again s.views id v at)) k.kept;
+    retired = subst (AreRetired k.drawn) (sym (set_again s.views id v at)) k.retired;
   }
 
   abbrev first : View E
@@ -67,7 +68,9 @@ module _ {T E : Type 0} (list : T → List E) (pair : T → ℕ × ℕ) (caller 
     counted = omega arith;
     below = omega arith;
     given = tt;
-    own = λ _. subst (NoneOf caller 0) (sym (drop-length (list start))) (All-nil (λ e. caller e ≢ 0));
+    own = λ _. nothing_behind (λ e. caller e ≢ 0) (list start);
+    others = λ _. nothing_behind (λ e. caller e ≢ 0) (list start);
+    done = All-nil (λ m. NoneOf caller m.0 (drop m.1 (list start)));
   }
 
   pub begins : 0 < most → Kept list pair caller start most (opening (1 ∷ 1 ∷ 0 ∷ []) (None ∷ [])
@@ -91,13 +94,19 @@ module _ {T E : Type 0} (list : T → List E) (pair : T → ℕ × ℕ) (caller 
         },
       );
       bound = omega arith;
-      entries = subst (All (λ e. caller e < 1)) (sym (drop-length (list start))) (All-nil (λ e. caller e < 1));
+      entries = nothing_behind (λ e. caller e < 1) (list start);
       known = λ j u there _. subst (Known list pair caller start most 1 (list start))
           (at_first j u there).1 known_first;
       gone = λ j u there is. absurd (let h : Opening ≡ Gone = ap (λ (v : View E). v.stage) (at_first j u there).1
           ∙ is in cc);
       apart = λ i j v w at_i at_j _ _ _. (at_first i v at_i).0 ∙ sym (at_first j w at_j).0;
       drawn_by = λ number lt. (0, first, refl, (0, omega arith, omega arith));
+    };
+    retired = record {
+      below = λ j u there. subst (λ (v : View E). All (λ m. m.0 < 1) v.met) (at_first j u there).1
+          (All-nil (λ m. m.0 < 1));
+      nobodys = λ i j v u _ there _. subst (λ (w : View E). All (λ m. m.0 ≢ v.number) w.met) (at_first j u there).1
+          (All-nil (λ m. m.0 ≢ v.number));
     };
   }
 
@@ -149,10 +158,13 @@ module _ {T E : Type 0} (list : T → List E) (pair : T → ℕ × ℕ) (caller 
                 below = m.below;
                 given = m.given;
                 own = m.own;
+                others = m.others;
+                done = m.done;
               })
               (λ g. absurd (let x : Holds ≡ Gone = g in cc))
               (apart_same list pair caller start most s.views id v w at (λ n. (n, refl)) k.kept.apart)
               (λ number lt. drawn_set s.views id v w number at (λ has. has) (k.kept.drawn_by number lt));
+          retired = retired_same k.drawn s.views id v w at (λ n. (n, refl)) refl k.retired;
         },
         refl,
       )
@@ -169,8 +181,9 @@ module _ {T E : Type 0} (list : T → List E) (pair : T → ℕ × ℕ) (caller 
   taken slots id v s k at away numbered free (inr (i, u, h)) = absurd (let x = h.word in omega arith)
   taken slots id v s k at away numbered free (inl home) =
       let x = home.value in
-      let w : View E = record v { stage = Holds; seen = list x } in
+      let w : View E = record v { stage = Holds; seen = list x; mine = list x } in
       let known = k.kept.known id v at (away_live away) in
+      let done : AreDone caller v.met (list x) = subst (AreDone caller v.met) (sym home.list_is) known.done in
       let sees : StartsWith (list x) v.seen = (known.seen.0, home.list_is ∙ known.seen.1) in
       let entries : All (λ e. caller e < k.drawn) (drop (length (list start)) (list x)) =
       subst (λ all. All (λ e. caller e < k.drawn) (drop (length (list start)) all)) (sym home.list_is) k.kept.entries in (
@@ -189,10 +202,11 @@ module _ {T E : Type 0} (list : T → List E) (pair : T → ℕ × ℕ) (caller 
               (ap (λ hs. set hs 0 none) home.home) refl (λ j u _ there. home.free j u there))
               k.kept.bound entries
               (λ j u _ there m. subst (λ all. Known list pair caller start most k.drawn all u) (sym home.list_is) m)
-              (λ _. known_whole list pair caller start most k.drawn k.all (list x) v Holds sees known)
+              (λ _. known_whole list pair caller start most k.drawn k.all (list x) v Holds sees done known)
               (λ g. absurd (let y : Holds ≡ Gone = g in cc))
               (apart_same list pair caller start most s.views id v w at (λ n. (n, refl)) k.kept.apart)
               (λ number lt. drawn_set s.views id v w number at (λ has. has) (k.kept.drawn_by number lt));
+          retired = retired_same k.drawn s.views id v w at (λ n. (n, refl)) refl k.retired;
         },
         (
           (λ _. (
@@ -206,6 +220,7 @@ module _ {T E : Type 0} (list : T → List E) (pair : T → ℕ × ℕ) (caller 
                 (drop (length v.start) (list x))
                 (subst (λ l. All (λ e. caller e < k.drawn) (drop (length l) (list x))) (sym known.start_is) entries),
             home.pair_is ∙ sym known.pair_is,
+            done,
           )),
           (λ else. absurd (else (found_word s k ∙ free))),
         ),
@@ -229,23 +244,39 @@ module _ {T E : Type 0} (list : T → List E) (pair : T → ℕ × ℕ) (caller 
         ((λ hit. absurd (miss hit)), (λ _. refl)),
       ))
 
-  -- the holder has added entries of its own to the list that it saw, and goes on to this stage
+  -- the holder has added entries of its own to the list that it saw, of which no one is that was taken in
+  done_left : (drawn : ℕ) (views : List (View E)) (all : List E) (id : ℕ) (v : View E) (x : T) → AreRetired drawn views
+      → StandsAt views id v → v.numbered ≡ true → v.seen ≡ all → StartsWith (list x) v.seen
+      → AllOf caller v.number (drop (length v.seen) (list x)) → (j : ℕ) (u : View E) → StandsAt views j u
+      → AreDone caller u.met all → AreDone caller u.met (list x)
+  done_left drawn views all id v x retired at numbered seen longer own j u there done =
+      subst (AreDone caller u.met) (sym (longer.1 ∙ ap (λ l. l ++ longer.0) seen))
+      (done_grown caller u.met all longer.0 v.number
+      (subst (AllOf caller v.number) (front_rest (list x) v.seen longer.0 longer.1) own)
+      (retired.nobodys id j v u at there numbered) done)
+
+  -- and goes on to this stage
   leaver : (turn drawn turn' : ℕ) (homes homes' : List (Option (Maybe T))) (views : List (View E)) (all : List E)
       (id : ℕ) (v : View E) (x : T) (stage : Stage)
-      → KeptAt list pair caller start most turn drawn homes views all → StandsAt views id v → v.stage ≡ Holds
+      → KeptAt list pair caller start most turn drawn homes views all → AreRetired drawn views → StandsAt views id v
+      → v.stage ≡ Holds
       → v.numbered ≡ true → v.seen ≡ all
       → StartsWith (list x) v.seen → AllOf caller v.number (drop (length v.seen) (list x)) → stage ≢ Gone
-      → IsInTurn list pair start turn' homes' (set views id (record v { stage = stage; seen = list x })) (list x)
-      → KeptAt list pair caller start most turn' drawn homes' (set views id (record v { stage = stage; seen = list x }))
-      (list x)
-  leaver turn drawn turn' homes homes' views all id v x stage k at holds numbered seen longer own live turns =
+      → IsInTurn list pair start turn' homes'
+      (set views id (record v { stage = stage; seen = list x; mine = list x })) (list x)
+      → KeptAt list pair caller start most turn' drawn homes'
+      (set views id (record v { stage = stage; seen = list x; mine = list x })) (list x)
+  leaver turn drawn turn' homes homes' views all id v x stage k retired at holds numbered seen longer own live turns =
       let known = k.known id v at (λ g. let y : Holds ≡ Gone = sym holds ∙ g in cc) in
       let added : List E = longer.0 in
       let new : list x ≡ all ++ added = longer.1 ∙ ap (λ l. l ++ added) seen in
       let mine : AllOf caller v.number added = subst (AllOf caller v.number) (front_rest
       (list x) v.seen added longer.1) own in
+      let done : (j : ℕ) (u : View E) → StandsAt views j u → Known list pair caller start most drawn all u
+      → AreDone caller u.met (list x) =
+      λ j u there m. done_left drawn views all id v x retired at numbered seen longer own j u there m.done in
       kept_set list pair caller start most turn drawn turn' drawn homes homes' views all (list x) id
-      (record v { stage = stage; seen = list x }) k
+      (record v { stage = stage; seen = list x; mine = list x }) k
       turns k.bound
       (subst (λ l. All (λ e. caller e < drawn) (drop (length (list start)) l)) (sym new)
       (All-drop_append (λ e. caller e < drawn) (length (list start)) all added k.entries
@@ -255,24 +286,25 @@ module _ {T E : Type 0} (list : T → List E) (pair : T → ℕ × ℕ) (caller 
       (known_grown list pair caller start most drawn drawn all added u (omega arith)
       (λ nu. All-weaker (λ e. caller e ≡ v.number) (λ e. caller e ≢ u.number)
       (λ e is same. else (k.apart j id u v there at nu numbered (sym same ∙ is))) added mine)
-      m))
-      (λ _. known_whole list pair caller start most drawn all (list x) v stage longer known)
+      (subst (AreDone caller u.met) new (done j u there m)) m))
+      (λ _. known_whole list pair caller start most drawn all (list x) v stage longer
+      (done id v at known) known)
       (λ g. absurd (live g))
-      (apart_same list pair caller start most views id v (record v { stage = stage; seen = list x }) at
+      (apart_same list pair caller start most views id v (record v { stage = stage; seen = list x; mine = list x }) at
       (λ n. (n, refl)) k.apart)
-      (λ number lt. drawn_set views id v (record v { stage = stage; seen = list x }) number at (λ has. has)
+      (λ number lt. drawn_set views id v (record v { stage = stage; seen = list x; mine = list x }) number at (λ has. has)
       (k.drawn_by number lt))
 
   pub leaves : (slots id : ℕ) (v : View E) (x : T) → v.stage ≡ Holds → v.numbered ≡ true → StartsWith (list x) v.seen
       → AllOf caller v.number (drop (length v.seen) (list x)) → pair x ≡ v.pair
       → Allows (Kept list pair caller start most) slots id (v, (0, Some x) ∷ []) 0 (λ _. 0)
-      (λ _. Left list (v, (0, Some x) ∷ []))
+      (λ _. Left list caller (v, (0, Some x) ∷ []))
   leaves slots id v x holds numbered longer own pair_is s k len at fits =
       let h = holder list pair caller start most k.turn s.homes s.views k.all k.kept.turns id v at
       (subst (λ st. IsFree st → ⊥) (sym holds) (λ f. f)) in
       let slot : s.homes ≡ none ∷ [] = subst (SlotAt list pair s.homes v) holds h.slot in
       let known = k.kept.known id v at (λ g. let y : Holds ≡ Gone = sym holds ∙ g in cc) in (
-        record v { stage = Away; seen = list x },
+        record v { stage = Away; seen = list x; mine = list x },
         gives,
         tt,
         record {
@@ -282,13 +314,18 @@ module _ {T E : Type 0} (list : T → List E) (pair : T → ℕ × ℕ) (caller 
           all = list x;
           words = ap (λ ws. slice_set ws 0 0) k.words;
           kept = leaver k.turn k.drawn 0 s.homes (set s.homes 0
-              (some (Some x))) s.views k.all id v x Away k.kept at holds numbered h.seen longer own
+              (some (Some x))) s.views k.all id v x Away k.kept k.retired at holds numbered h.seen longer own
               (λ g. let y : Away ≡ Gone = g in cc)
               (turns_home list pair caller start most k.turn s.homes s.views k.all (list x) id v
-              (record v { stage = Away; seen = list x }) h x (set s.homes 0 (some (Some x)))
+              (record v { stage = Away; seen = list x; mine = list x }) h x (set s.homes 0 (some (Some x)))
               (ap (λ hs. set hs 0 (some (Some x))) slot) refl (pair_is ∙ known.pair_is) tt);
+          retired = retired_same k.drawn s.views id v (record v { stage = Away; seen = list x; mine = list x }) at
+              (λ n. (n, refl)) refl k.retired;
         },
-        refl,
+        (
+          refl,
+          done_left k.drawn s.views k.all id v x k.retired at numbered h.seen longer own id v at known.done,
+        ),
       )
 
   pub readies : (slots id : ℕ) (v : View E) (x : T) → v.stage ≡ Holds → v.numbered ≡ true → StartsWith (list x) v.seen
@@ -299,7 +336,7 @@ module _ {T E : Type 0} (list : T → List E) (pair : T → ℕ × ℕ) (caller 
       let h = holder list pair caller start most k.turn s.homes s.views k.all k.kept.turns id v at
       (subst (λ st. IsFree st → ⊥) (sym holds) (λ f. f)) in
       let slot : s.homes ≡ none ∷ [] = subst (SlotAt list pair s.homes v) holds h.slot in (
-        record v { stage = Ready; seen = list x },
+        record v { stage = Ready; seen = list x; mine = list x },
         gives,
         tt,
         record {
@@ -309,25 +346,33 @@ module _ {T E : Type 0} (list : T → List E) (pair : T → ℕ × ℕ) (caller 
           all = list x;
           words = ap (λ ws. slice_set ws 0 (slice_index ws 0)) k.words ∙ ap (λ t. t ∷ k.drawn ∷ k.sleepers ∷ []) h.word;
           kept = leaver k.turn k.drawn 1 s.homes (set s.homes 0
-              (some (Some x))) s.views k.all id v x Ready k.kept at holds numbered h.seen longer own
+              (some (Some x))) s.views k.all id v x Ready k.kept k.retired at holds numbered h.seen longer own
               (λ g. let y : Ready ≡ Gone = g in cc)
               (turns_held list pair caller start most (set s.homes 0 (some (Some x))) s.views (list x) id v
-              (record v { stage = Ready; seen = list x }) at
+              (record v { stage = Ready; seen = list x; mine = list x }) at
               (x, ap (λ hs. set hs 0 (some (Some x))) slot, refl, pair_is) refl h.others);
+          retired = retired_same k.drawn s.views id v (record v { stage = Ready; seen = list x; mine = list x }) at
+              (λ n. (n, refl)) refl k.retired;
         },
         refl,
       )
 
-  pub settles : (slots id : ℕ) (v : View E) → v.stage ≡ Away
-      → Allows (Kept list pair caller start most) slots id (v, []) 0 (λ n. n) (λ _. Settled (v, []))
-  settles slots id v away s k len at fits = (
-    v,
-    keeps,
-    tt,
-    stays s (slice_set s.words 0 (slice_index s.words 0)) id v at k k.sleepers
-        (ap (λ ws. slice_set ws 0 (slice_index ws 0)) k.words),
-    (refl, (k.kept.known id v at (away_live away)).heard),
-  )
+  pub settles : (slots id : ℕ) (v : View E) → v.stage ≡ Away → v.numbered ≡ true
+      → Allows (Kept list pair caller start most) slots id (v, []) 0 (λ n. n) (λ _. Settled caller (v, []))
+  settles slots id v away numbered s k len at fits =
+      let known = k.kept.known id v at (away_live away) in (
+        v,
+        keeps,
+        tt,
+        stays s (slice_set s.words 0 (slice_index s.words 0)) id v at k k.sleepers
+            (ap (λ ws. slice_set ws 0 (slice_index ws 0)) k.words),
+        (
+          refl,
+          known.heard,
+          known.others numbered,
+          done_front caller v.met v.seen known.seen.0 (subst (AreDone caller v.met) known.seen.1 known.done),
+        ),
+      )
 
   pub waits : (slots id : ℕ) (m : Me (Maybe T) (View E)) (f : ℕ → ℕ)
       → Allows (Kept list pair caller start most) slots id m 2 f (λ _. Stayed m)
@@ -355,9 +400,9 @@ module _ {T E : Type 0} (list : T → List E) (pair : T → ℕ × ℕ) (caller 
   pub leaves_at : (slots id : ℕ) (m : Me (Maybe T) (View E)) (x : T) → m.1 ≡ (0, Some x) ∷ [] → m.0.stage ≡ Holds
       → m.0.numbered ≡ true
       → StartsWith (list x) m.0.seen → AllOf caller m.0.number (drop (length m.0.seen) (list x)) → pair x ≡ m.0.pair
-      → Allows (Kept list pair caller start most) slots id m 0 (λ _. 0) (λ _. Left list m)
+      → Allows (Kept list pair caller start most) slots id m 0 (λ _. 0) (λ _. Left list caller m)
   leaves_at slots id m x slot holds numbered longer own pair_is =
-      subst (λ c. Allows (Kept list pair caller start most) slots id (m.0, c) 0 (λ _. 0) (λ _. Left list (m.0, c)))
+      subst (λ c. Allows (Kept list pair caller start most) slots id (m.0, c) 0 (λ _. 0) (λ _. Left list caller (m.0, c)))
       (sym slot) (leaves slots id m.0 x holds numbered longer own pair_is)
 
   pub readies_at : (slots id : ℕ) (m : Me (Maybe T) (View E)) (x : T) → m.1 ≡ (0, Some x) ∷ [] → m.0.stage ≡ Holds
@@ -368,10 +413,11 @@ module _ {T E : Type 0} (list : T → List E) (pair : T → ℕ × ℕ) (caller 
       subst (λ c. Allows (Kept list pair caller start most) slots id (m.0, c) 0 (λ n. n) (λ _. Readied list (m.0, c)))
       (sym slot) (readies slots id m.0 x holds numbered longer own pair_is)
 
-  pub settles_at : (slots id : ℕ) (m : Me (Maybe T) (View E)) → m.1 ≡ [] → m.0.stage ≡ Away
-      → Allows (Kept list pair caller start most) slots id m 0 (λ n. n) (λ _. Settled m)
-  settles_at slots id m slot away = subst (λ c. Allows (Kept list pair caller start most) slots id (m.0, c) 0 (λ n. n)
-      (λ _. Settled (m.0, c))) (sym slot) (settles slots id m.0 away)
+  pub settles_at : (slots id : ℕ) (m : Me (Maybe T) (View E)) → m.1 ≡ [] → m.0.stage ≡ Away → m.0.numbered ≡ true
+      → Allows (Kept list pair caller start most) slots id m 0 (λ n. n) (λ _. Settled caller m)
+  settles_at slots id m slot away numbered =
+      subst (λ c. Allows (Kept list pair caller start most) slots id (m.0, c) 0 (λ n. n) (λ _. Settled caller (m.0, c)))
+      (sym slot) (settles slots id m.0 away numbered)
 
   -- at the end the slot has a value with the list of the pass that was ready
   closes : (id : ℕ) (v : View E) (ws : List ℕ) (xs : List (Maybe T)) (found : Maybe T) → v.stage ≡ Ready

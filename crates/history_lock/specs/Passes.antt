@@ -6,7 +6,7 @@ use Rattle.history_lock.specs.declared.view.Stage.TheVariants.{Away, Holds}
 use Rattle.history_lock.specs.declared.pass.Pass.{Pass}
 use Rattle.history_lock.specs.declared.pass.Turn.{Turn}
 use Rattle.history_lock.specs.declared.lock.Lock.{Lock}
-use Rattle.history_lock.specs.History.{StartsWith, NoneOf}
+use Rattle.history_lock.specs.History.{StartsWith, NoneOf, AreDone}
 use Rattle.history_lock.specs.Steps.{the_view}
 
 abbrev pub view_of : {E : Type 0} → Pass E → View E
@@ -28,6 +28,10 @@ given_by pass = (view_of pass).given
 abbrev pub count_of : {E : Type 0} → Pass E → ℕ
 count_of pass = (view_of pass).count
 
+-- the numbers of the passes that it took in, each with the length of the list that that one had seen
+abbrev pub met_by : {E : Type 0} → Pass E → List (ℕ × ℕ)
+met_by pass = (view_of pass).met
+
 -- the list of the value that was taken with the turn, and what its pass knew
 abbrev pub taken_by : {T E : Type 0} → Turn T E → List E
 taken_by turn = turn.seat.me.0.seen
@@ -40,6 +44,9 @@ turn_given_by turn = turn.seat.me.0.given
 
 abbrev pub turn_count_of : {T E : Type 0} → Turn T E → ℕ
 turn_count_of turn = turn.seat.me.0.count
+
+abbrev pub turn_met_by : {T E : Type 0} → Turn T E → List (ℕ × ℕ)
+turn_met_by turn = turn.seat.me.0.met
 
 -- the value with which the lock was opened
 abbrev pub opened_with : {T A E : Type 0} → Lock T A E → T
@@ -56,12 +63,14 @@ pub record IsViewOf {T A E : Type 0} (list : T → List E) (pair : T → ℕ × 
   pub pair_is : v.pair ≡ pair (opened_with lock)
   pub most_is : v.most ≡ callers_of lock
 
--- the pass is of this lock, and what it has seen begins with the list at the opening
-pub record IsPassOf {T A E : Type 0} (list : T → List E) (pair : T → ℕ × ℕ) (lock : Lock T A E)
+-- The pass is of this lock, and what it has seen begins with the list at the opening. It has no entry of a pass that
+-- this one took in behind what that one had seen.
+pub record IsPassOf {T A E : Type 0} (list : T → List E) (pair : T → ℕ × ℕ) (caller : E → ℕ) (lock : Lock T A E)
     (pass : Pass E) : Type 0 where
   pub table_is : pass.badge.table_id ≡ lock.table.shared.table_id
   pub view_is : IsViewOf list pair lock (view_of pass)
   pub begins : StartsWith (seen_by pass) (list (opened_with lock))
+  pub done : AreDone caller (met_by pass) (seen_by pass)
 
 -- the turn is of this lock, and what was taken begins with the list at the opening
 pub record IsTurnOf {T A E : Type 0} (list : T → List E) (pair : T → ℕ × ℕ) (lock : Lock T A E)
@@ -82,7 +91,7 @@ pub record IsDrawn {T A E : Type 0} (caller : E → ℕ) (lock : Lock T A E) (v 
   pub same : (seat.me.0.stage ≡ Away) × (seat.me.0.seen ≡ v.seen) × (seat.me.0.start ≡ v.start)
       × (seat.me.0.pair ≡ v.pair) × (seat.me.0.most ≡ v.most)
   pub numbered : (seat.me.0.numbered ≡ true) × (seat.me.0.number ≡ number)
-  pub nothing_given : (seat.me.0.given ≡ None) × (seat.me.1 ≡ [])
+  pub nothing_given : (seat.me.0.given ≡ None) × (seat.me.0.met ≡ []) × (seat.me.1 ≡ [])
   pub fits : number < callers_of lock
   pub counted : seat.me.0.count ≡ number + 1
   pub next : v.count ≤ number

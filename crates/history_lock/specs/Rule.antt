@@ -1,7 +1,7 @@
 -- What holds of the words, the slot and all views between any two steps. In it `list`, `caller` and `pair` are what a
 -- value tells, `start` is the value at the opening, `most` the number of callers, and `all` the history: the list of
 -- the value at home, or what the holder of the turn has seen.
-use Rattle.std.specs.Prelude.{◌≡◌, ◌≢◌, ℕ, ◌<◌, ◌≤◌, true, false, List, [], ◌∷◌, ◌++◌, All, drop, length, ◌⊎◌}
+use Rattle.std.specs.Prelude.{◌≡◌, ◌≢◌, ℕ, ◌<◌, ◌≤◌, true, false, List, [], ◌∷◌, ◌++◌, All, drop, length, map, ◌⊎◌}
 use Rattle.std.specs.Prelude.{Option as Maybe, Some, None, IfSome, if◌then◌else◌}
 use Rattle.std.specs.List.{Contains}
 use mathlib.Core.Option.{Option, some, none}
@@ -10,7 +10,7 @@ use Rattle.atomic_table.specs.Table.{State, opening}
 use Rattle.history_lock.specs.declared.view.View.{View}
 use Rattle.history_lock.specs.declared.view.Stage.{Stage}
 use Rattle.history_lock.specs.declared.view.Stage.TheVariants.{Away, Opening, Holds, Ready, Gone}
-use Rattle.history_lock.specs.History.{StartsWith, NoneOf}
+use Rattle.history_lock.specs.History.{StartsWith, NoneOf, AreDone}
 
 -- the view stands at this place among the views
 abbrev pub StandsAt : {E : Type 0} → List (View E) → ℕ → View E → Type 0
@@ -22,7 +22,7 @@ own_number v = if v.numbered then v.number ∷ [] else []
 
 -- its own number, and those of the passes that it took in
 abbrev pub numbers_of : {E : Type 0} → View E → List ℕ
-numbers_of v = own_number v ++ v.met
+numbers_of v = own_number v ++ map (λ m. m.0) v.met
 
 -- some view has this number
 abbrev pub IsDrawnBy : {E : Type 0} → List (View E) → ℕ → Type 0
@@ -44,6 +44,7 @@ opening_view start pair most = record {
   number = 0;
   met = [];
   seen = start;
+  mine = start;
   heard = [];
   count = 1;
   given = None;
@@ -91,7 +92,8 @@ IsInTurn {T} {E} list pair start turn homes views all =
 -- What a view knows where this many numbers were drawn. It has seen a beginning of the history, which begins with the
 -- list at the opening. It knows the list and the pair at the opening and the number of callers. Its count is at most
 -- that of the drawn numbers, and above its number and each that it gave. If it has a number of its own, it has seen
--- each entry that carries it.
+-- each entry that carries it, and had seen it before the last join. Of a pass that it took in, it has seen each entry,
+-- and so had that one.
 pub record Known {T E : Type 0} (list : T → List E) (pair : T → ℕ × ℕ) (caller : E → ℕ) (start : T) (most : ℕ)
     (drawn : ℕ) (all : List E) (v : View E) : Type 0 where
   pub seen : StartsWith all v.seen
@@ -104,11 +106,19 @@ pub record Known {T E : Type 0} (list : T → List E) (pair : T → ℕ × ℕ) 
   pub below : v.number < v.count
   pub given : IfSome v.given (λ number. number < v.count)
   pub own : v.numbered ≡ true → NoneOf caller v.number (drop (length v.seen) all)
+  pub others : v.numbered ≡ true → NoneOf caller v.number (drop (length v.mine) v.seen)
+  pub done : AreDone caller v.met all
 
 -- the numbers of two views differ
 abbrev pub Apart : {E : Type 0} → List (View E) → Type 0
 Apart {E} views = (i j : ℕ) (v w : View E) → StandsAt views i v → StandsAt views j w → v.numbered ≡ true
     → w.numbered ≡ true → v.number ≡ w.number → i ≡ j
+
+-- the number of a pass that was taken in was drawn, and is no view's own
+pub record AreRetired {E : Type 0} (drawn : ℕ) (views : List (View E)) : Type 0 where
+  pub below : (id : ℕ) (v : View E) → StandsAt views id v → All (λ m. m.0 < drawn) v.met
+  pub nobodys : (i j : ℕ) (v w : View E) → StandsAt views i v → StandsAt views j w → v.numbered ≡ true
+      → All (λ m. m.0 ≢ v.number) w.met
 
 -- The turn is taken once at most. Numbers are below the count of those that were drawn, also those of the entries since
 -- the opening; each number below the count is some view's, and two views have two numbers. Of a view that another took
@@ -134,6 +144,7 @@ pub record Kept {T E : Type 0} (list : T → List E) (pair : T → ℕ × ℕ) (
   pub all : List E
   pub words : s.words ≡ turn ∷ drawn ∷ sleepers ∷ []
   pub kept : KeptAt list pair caller start most turn drawn s.homes s.views all
+  pub retired : AreRetired drawn s.views
 
 -- where these are the words of a lock that is just made, one number was drawn: that of the first pass
 abbrev pub OneNumberDrawn : {T E : Type 0} → (T → List E) → (T → ℕ × ℕ) → (E → ℕ) → T → ℕ → Type 0

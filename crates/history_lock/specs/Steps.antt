@@ -4,8 +4,7 @@ use Rattle.std.specs.Prelude.{Option as Maybe, Some, None, IfSome}
 use Rattle.atomic_table.specs.Table.{Me}
 use Rattle.history_lock.specs.declared.view.View.{View}
 use Rattle.history_lock.specs.declared.view.Stage.TheVariants.{Away, Holds, Ready, Gone}
-use Rattle.history_lock.specs.History.{StartsWith, NoneOf, longer, shorter}
-use Rattle.history_lock.specs.Rule.{numbers_of}
+use Rattle.history_lock.specs.History.{StartsWith, NoneOf, AreDone, longer, shorter}
 
 -- a copy with no number
 abbrev pub copy_of : {E : Type 0} → View E → View E
@@ -14,8 +13,9 @@ copy_of v = record v { stage = Away; numbered = false; met = []; given = None }
 -- both lists were seen, and the other's numbers are kept
 abbrev pub joined : {E : Type 0} → View E → View E → View E
 joined v w = record v {
-  met = v.met ++ numbers_of w;
+  met = v.met ++ (w.number, length w.seen) ∷ w.met;
   seen = longer v.seen w.seen;
+  mine = v.seen;
   heard = shorter v.seen w.seen;
   count = max v.count w.count;
 }
@@ -32,6 +32,7 @@ gone = record {
   number = 0;
   met = [];
   seen = [];
+  mine = [];
   heard = [];
   count = 0;
   given = None;
@@ -51,15 +52,16 @@ Stayed before after = after ≡ before
 abbrev pub Opened : {T E : Type 0} → Me (Maybe T) (View E) → Me (Maybe T) (View E) → Type 0
 Opened before after = after ≡ (record before.0 { stage = Holds }, (0, None) ∷ [])
 
--- with 0 found the turn is taken. The list begins with what was seen, and has no further entry of the own number. Each
--- entry since the opening is from one of so many callers
+-- With 0 found the turn is taken. The list begins with what was seen, and has no further entry of the own number, nor
+-- of a pass that was taken in. Each entry since the opening is from one of so many callers.
 abbrev pub Took : {T E : Type 0} → (T → List E) → (T → ℕ × ℕ) → (E → ℕ) → Me (Maybe T) (View E) → ℕ
     → Me (Maybe T) (View E) → Type 0
 Took {T} list pair caller before found after =
-    (found ≡ 0 → (value : T) × (after ≡ (record before.0 { stage = Holds; seen = list value }, (0, Some value) ∷ []))
+    (found ≡ 0 → (value : T)
+    × (after ≡ (record before.0 { stage = Holds; seen = list value; mine = list value }, (0, Some value) ∷ []))
     × StartsWith (list value) before.0.seen × NoneOf caller before.0.number (drop (length before.0.seen) (list value))
     × All (λ entry. caller entry < before.0.most) (drop (length before.0.start) (list value))
-    × (pair value ≡ before.0.pair))
+    × (pair value ≡ before.0.pair) × AreDone caller before.0.met (list value))
     × (found ≢ 0 → after ≡ before)
 
 -- the list of the value in the slot that is held
@@ -68,13 +70,16 @@ held_list list [] = []
 held_list list ((slot, None) ∷ slots) = []
 held_list list ((slot, Some value) ∷ slots) = list value
 
--- the turn is given back
-abbrev pub Left : {T E : Type 0} → (T → List E) → Me (Maybe T) (View E) → Me (Maybe T) (View E) → Type 0
-Left list before after = after ≡ (record before.0 { stage = Away; seen = held_list list before.1 }, [])
+-- the turn is given back, and the list has no further entry of a pass that was taken in
+abbrev pub Left : {T E : Type 0} → (T → List E) → (E → ℕ) → Me (Maybe T) (View E) → Me (Maybe T) (View E) → Type 0
+Left list caller before after =
+    (after ≡ (record before.0 { stage = Away; seen = held_list list before.1; mine = held_list list before.1 }, []))
+    × AreDone caller before.0.met (held_list list before.1)
 
 -- the value is back in its place, and the turn is still taken
 abbrev pub Readied : {T E : Type 0} → (T → List E) → Me (Maybe T) (View E) → Me (Maybe T) (View E) → Type 0
-Readied list before after = after ≡ (record before.0 { stage = Ready; seen = held_list list before.1 }, [])
+Readied list before after =
+    after ≡ (record before.0 { stage = Ready; seen = held_list list before.1; mine = held_list list before.1 }, [])
 
 -- all known numbers are below the count that was found
 abbrev pub Counted : {T E : Type 0} → Me (Maybe T) (View E) → ℕ → Me (Maybe T) (View E) → Type 0
@@ -87,12 +92,18 @@ Counted before found after =
 abbrev pub Drew : {T E : Type 0} → (E → ℕ) → ℕ → ℕ → Me (Maybe T) (View E) → ℕ → Me (Maybe T) (View E) → Type 0
 Drew caller expected next before found after =
     (found ≡ expected → (next ≡ expected + 1)
-    × (after ≡ (record before.0 { numbered = true; number = expected; count = next }, before.1))
+    × (after
+    ≡ (record before.0 { numbered = true; number = expected; mine = before.0.seen; count = next }, before.1))
     × NoneOf caller expected (drop (length before.0.start) before.0.seen))
     × (found ≢ expected → after ≡ before)
 
-abbrev pub Settled : {T E : Type 0} → Me (Maybe T) (View E) → Me (Maybe T) (View E) → Type 0
-Settled before after = (after ≡ before) × StartsWith before.0.seen before.0.heard
+-- Of the last join: what was seen begins with both lists, and behind the own one it has no entry of the own number. Of
+-- a pass that was taken in it has no entry behind that one's list.
+abbrev pub Settled : {T E : Type 0} → (E → ℕ) → Me (Maybe T) (View E) → Me (Maybe T) (View E) → Type 0
+Settled caller before after =
+    (after ≡ before) × StartsWith before.0.seen before.0.heard
+    × NoneOf caller before.0.number (drop (length before.0.mine) before.0.seen)
+    × AreDone caller before.0.met before.0.seen
 
 -- the same but for the count, and for the number that was given last
 abbrev pub Recounted : {E : Type 0} → View E → View E → Type 0

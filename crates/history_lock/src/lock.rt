@@ -1,7 +1,7 @@
-ghost use Rattle.std.specs.Prelude.{◌≡◌, ◌≢◌, ℕ, ◌+◌, ◌<◌, ◌≤◌, true, [], ◌∷◌, All, drop, length, Some, None, IfOk, IfErr};
+ghost use Rattle.std.specs.Prelude.{◌≡◌, ◌≢◌, ℕ, ◌+◌, ◌++◌, ◌<◌, ◌≤◌, true, [], ◌∷◌, All, drop, length, Some, None, IfOk, IfErr};
 ghost use Rattle.std.specs.Prelude.{IfSome};
 ghost use Rattle.history_lock.specs.declared.view.Stage.TheVariants.{Away, Holds};
-ghost use Rattle.history_lock.specs.History.{StartsWith, NoneOf, AllOf, longer};
+ghost use Rattle.history_lock.specs.History.{StartsWith, NoneOf, AllOf, AreDone, longer};
 
 use crate::pass::{Pass, Spent, Turn};
 use crate::steps::{
@@ -45,7 +45,7 @@ impl<T: Told, A: Allocator> Lock<T, A> {
     ghost use Rattle.history_lock.specs.Steps.{Recounted};
     ghost use Rattle.history_lock.specs.Passes.{seen_by, number_of, given_by, count_of, taken_by, turn_number_of};
     ghost use Rattle.history_lock.specs.Passes.{turn_given_by, turn_count_of, opened_with, callers_of, IsViewOf};
-    ghost use Rattle.history_lock.specs.Passes.{IsPassOf, IsTurnOf, IsDrawn};
+    ghost use Rattle.history_lock.specs.Passes.{met_by, turn_met_by, IsPassOf, IsTurnOf, IsDrawn};
 
     /// A lock round the value, for this many callers, and the pass of number 0, which has seen the value's list.
     ///
@@ -59,10 +59,11 @@ impl<T: Told, A: Allocator> Lock<T, A> {
     ) -> Result<(Lock<T, A>, Pass<T::Entry>), (T, NoMemory)>
         requires { 0 < callers }
         ensures lock { IfOk result (λ made. (opened_with made.0 ≡ value) × (callers_of made.0 ≡ callers)) }
-        ensures pass { IfOk result (λ made. IsPassOf T.list T.pair made.0 made.1) }
+        ensures pass { IfOk result (λ made. IsPassOf T.list T.pair T.caller made.0 made.1) }
         ensures seen { IfOk result (λ made. seen_by made.1 ≡ T.list value) }
         ensures number { IfOk result (λ made. number_of made.1 ≡ 0) }
         ensures drawn { IfOk result (λ made. (count_of made.1 ≡ 1) × (given_by made.1 ≡ None)) }
+        ensures met { IfOk result (λ made. met_by made.1 ≡ []) }
 
         // In the words with which a lock is made one number is drawn, that of the first pass.
         ensures one_drawn { OneNumberDrawn T.list T.pair T.caller value callers }
@@ -83,7 +84,7 @@ impl<T: Told, A: Allocator> Lock<T, A> {
     /// Waits for the turn, and gives the value with it. Its list begins with what the pass has seen, and from there
     /// on has no entry of the pass's number. No clause says that the wait ends.
     pub fn take<R: Wait>(&self, rt: &R, pass: Pass<T::Entry>) -> (Turn<T>, T)
-        requires { IsPassOf T.list T.pair self.now pass }
+        requires { IsPassOf T.list T.pair T.caller self.now pass }
         ensures turn { IsTurnOf T.list T.pair self.now result.0 }
         ensures taken { taken_by result.0 ≡ T.list result.1 }
         ensures number { turn_number_of result.0 ≡ number_of pass }
@@ -92,6 +93,10 @@ impl<T: Told, A: Allocator> Lock<T, A> {
         // The list begins with what the pass has seen. What follows has no entry of the pass's number.
         ensures list { StartsWith (T.list result.1) (seen_by pass) }
         ensures own { NoneOf T.caller (number_of pass) (drop (length (seen_by pass)) (T.list result.1)) }
+
+        // Of a pass that this one took in the list has no entry behind what that one had seen.
+        ensures met { turn_met_by result.0 ≡ met_by pass }
+        ensures done { AreDone T.caller (met_by pass) (T.list result.1) }
 
         // Each entry since the opening is from one of so many callers.
         ensures callers { All (λ entry. T.caller entry < callers_of self.now)
@@ -154,10 +159,11 @@ impl<T: Told, A: Allocator> Lock<T, A> {
         requires list { StartsWith (T.list value) (taken_by turn) }
         requires own { AllOf T.caller (turn_number_of turn) (drop (length (taken_by turn)) (T.list value)) }
         requires pair { T.pair value ≡ T.pair (opened_with self.now) }
-        ensures pass { IsPassOf T.list T.pair self.now result }
+        ensures pass { IsPassOf T.list T.pair T.caller self.now result }
         ensures seen { seen_by result ≡ T.list value }
         ensures number { number_of result ≡ turn_number_of turn }
         ensures drawn { (count_of result ≡ turn_count_of turn) × (given_by result ≡ turn_given_by turn) }
+        ensures met { met_by result ≡ turn_met_by turn }
     {
         let Turn { number, mut seat } = turn;
         let shared = &self.table.shared;
@@ -180,11 +186,11 @@ impl<T: Told, A: Allocator> Lock<T, A> {
     ///
     /// [`Spent`] where all numbers were drawn, each of them for some pass. The pass then knows that count.
     pub fn split<R: Wait>(&self, rt: &R, pass: &mut Pass<T::Entry>) -> Result<Pass<T::Entry>, Spent>
-        requires { IsPassOf T.list T.pair self.now pass.old }
-        ensures old { IsPassOf T.list T.pair self.now pass.new }
+        requires { IsPassOf T.list T.pair T.caller self.now pass.old }
+        ensures old { IsPassOf T.list T.pair T.caller self.now pass.new }
         ensures same { (seen_by pass.new ≡ seen_by pass.old) × (number_of pass.new ≡ number_of pass.old) }
         ensures count { count_of pass.old ≤ count_of pass.new }
-        ensures new { IfOk result (λ new. IsPassOf T.list T.pair self.now new) }
+        ensures new { IfOk result (λ new. IsPassOf T.list T.pair T.caller self.now new) }
         ensures seen { IfOk result (λ new. seen_by new ≡ seen_by pass.old) }
 
         // Numbers are drawn one after the other: it is at least the count that the pass knew, and both passes then
@@ -201,6 +207,8 @@ impl<T: Told, A: Allocator> Lock<T, A> {
         ensures unused { IfOk result (λ new. NoneOf T.caller (number_of new)
             (drop (length (T.list (opened_with self.now))) (seen_by new))) }
         ensures given { IfOk result (λ new. (given_by pass.new ≡ Some (number_of new)) × (given_by new ≡ None)) }
+        ensures met { met_by pass.new ≡ met_by pass.old }
+        ensures none_met { IfOk result (λ new. met_by new ≡ []) }
 
         ensures spent { IfErr result (λ _. count_of pass.new ≡ callers_of self.now) }
         ensures none_given { IfErr result (λ _. given_by pass.new ≡ given_by pass.old) }
@@ -249,16 +257,21 @@ impl<T: Told, A: Allocator> Lock<T, A> {
         unreachable!()
     }
 
-    /// The pass has then seen the longer of both lists, which begins with each of them. The other pass is used up.
+    /// The pass has then seen the longer of both lists, which begins with each of them. What is new to it has no entry
+    /// of its own number. The other pass is used up, and its number is taken in, with the length of its list: what any
+    /// pass adds from then on isn't from it.
     pub fn meet(&self, pass: &mut Pass<T::Entry>, other: Pass<T::Entry>)
-        requires pass { IsPassOf T.list T.pair self.now pass.old }
-        requires other { IsPassOf T.list T.pair self.now other }
-        ensures pass { IsPassOf T.list T.pair self.now pass.new }
+        requires pass { IsPassOf T.list T.pair T.caller self.now pass.old }
+        requires other { IsPassOf T.list T.pair T.caller self.now other }
+        ensures pass { IsPassOf T.list T.pair T.caller self.now pass.new }
         ensures same { (number_of pass.new ≡ number_of pass.old) × (given_by pass.new ≡ given_by pass.old) }
         ensures count { (count_of pass.old ≤ count_of pass.new) × (count_of other ≤ count_of pass.new) }
         ensures longer { seen_by pass.new ≡ longer (seen_by pass.old) (seen_by other) }
         ensures mine { StartsWith (seen_by pass.new) (seen_by pass.old) }
         ensures theirs { StartsWith (seen_by pass.new) (seen_by other) }
+        ensures own { NoneOf T.caller (number_of pass.old) (drop (length (seen_by pass.old)) (seen_by pass.new)) }
+        ensures met { met_by pass.new
+            ≡ met_by pass.old ++ (number_of other, length (seen_by other)) ∷ met_by other }
     {
         let mut seat = mem::replace(&mut pass.badge, Badge::blank()).into_seat();
         let (_, badge) = other.into_parts();
@@ -271,9 +284,10 @@ impl<T: Told, A: Allocator> Lock<T, A> {
     /// Waits for the turn, and gives the last value. Its list begins with what the pass has seen, and from there on
     /// has no entry of the pass's number.
     pub fn close<R: Wait>(self, rt: &R, pass: Pass<T::Entry>) -> T
-        requires { IsPassOf T.list T.pair self pass }
+        requires { IsPassOf T.list T.pair T.caller self pass }
         ensures list { StartsWith (T.list result) (seen_by pass) }
         ensures own { NoneOf T.caller (number_of pass) (drop (length (seen_by pass)) (T.list result)) }
+        ensures done { AreDone T.caller (met_by pass) (T.list result) }
         ensures callers { All (λ entry. T.caller entry < callers_of self)
             (drop (length (T.list (opened_with self))) (T.list result)) }
         ensures pair { T.pair result ≡ T.pair (opened_with self) }

@@ -36,7 +36,7 @@ impl<T: Told> Play<Option<T>, View<T::Entry>> for Takes {
 pub(crate) struct Leaves;
 
 impl<T: Told> Play<Option<T>, View<T::Entry>> for Leaves {
-    ghost then = { λ _ before _ after. Left T.list before after };
+    ghost then = { λ _ before _ after. Left T.list T.caller before after };
 }
 
 /// The count of drawn numbers is read.
@@ -57,7 +57,7 @@ impl<T: Told> Play<Option<T>, View<T::Entry>> for Draws {
 pub(crate) struct Settles;
 
 impl<T: Told> Play<Option<T>, View<T::Entry>> for Settles {
-    ghost then = { λ _ before _ after. Settled before after };
+    ghost then = { λ _ before _ after. Settled T.caller before after };
 }
 
 /// The value goes back into its place, and the turn stays taken.

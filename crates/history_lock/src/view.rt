@@ -12,15 +12,17 @@ pub enum Stage {
 }
 
 /// `number` is its own where `numbered`, and else that of the pass that it is a copy of. `met` are the numbers of the
-/// passes that it took in. `seen` is the list that it has seen, and `heard` the shorter list of the last join. `count`
-/// is a count of drawn numbers that it has read, and `given` the greatest number that a split gave. `start`, `pair` and
+/// passes that it took in, each with the length of the list that that one had seen. `seen` is the list that it has
+/// seen; of the last join, `mine` is the list that it had seen before and `heard` the shorter of both lists. `count` is
+/// a count of drawn numbers that it has read, and `given` the greatest number that a split gave. `start`, `pair` and
 /// `most` are the list and the pair of the value at the opening and the number of callers, which no step changes.
 pub struct View<E> {
     pub stage: Stage,
     pub numbered: bool,
     pub number: u64,
-    pub met: LinkedList<u64>,
+    pub met: LinkedList<(u64, u64)>,
     pub seen: LinkedList<E>,
+    pub mine: LinkedList<E>,
     pub heard: LinkedList<E>,
     pub count: u64,
     pub given: Option<u64>,

@@ -83,8 +83,8 @@ pub fn call<K, R: Wait>(
     pass: Pass,
     amount: u64,
 ) -> (Pass, Option<u64>)
-    requires { IsPassOf notes_of limits_of lock.now pass }
-    ensures pass { IsPassOf notes_of limits_of lock.now result.0 }
+    requires { IsPassOf notes_of limits_of caller_of lock.now pass }
+    ensures pass { IsPassOf notes_of limits_of caller_of lock.now result.0 }
     ensures number { number_of result.0 ≡ number_of pass }
     ensures drawn { (count_of result.0 ≡ count_of pass) × (given_by result.0 ≡ given_by pass) }
     ensures added { IfSome result.1 (λ at. Adds (number_of pass) amount at (seen_by pass) (seen_by result.0)) }
@@ -108,9 +108,9 @@ pub fn two_more<K, R: Wait>(
     mut pass: Pass,
     amount: u64,
 ) -> Result<(Pass, Pass, Pass), Spent>
-    requires { IsPassOf notes_of limits_of lock.now pass }
-    ensures passes { IfOk result (λ all. IsPassOf notes_of limits_of lock.now all.0
-        × IsPassOf notes_of limits_of lock.now all.1 × IsPassOf notes_of limits_of lock.now all.2) }
+    requires { IsPassOf notes_of limits_of caller_of lock.now pass }
+    ensures passes { IfOk result (λ all. IsPassOf notes_of limits_of caller_of lock.now all.0
+        × IsPassOf notes_of limits_of caller_of lock.now all.1 × IsPassOf notes_of limits_of caller_of lock.now all.2) }
     ensures old { IfOk result (λ all. (number_of all.0 ≢ number_of all.1) × (number_of all.0 ≢ number_of all.2)) }
     ensures new { IfOk result (λ all. number_of all.1 ≢ number_of all.2) }
 {

@@ -1,6 +1,6 @@
 ghost use Rattle.std.specs.Prelude.{◌≡◌, ◌<◌, IfOk};
 ghost use Rattle.history_lock.specs.Passes.{IsPassOf};
-ghost use Rattle.history_notes.specs.Notes.{notes_of, limits_of};
+ghost use Rattle.history_notes.specs.Notes.{notes_of, limits_of, caller_of};
 
 use cell_value::NoMemory;
 use history_lock::{Lock, Spent, Told};
@@ -13,7 +13,7 @@ use std::thread::join;
 // A lock round a book with these notes.
 fn open(alloc: Global, notes: Vec<Note>, callers: u32) -> Result<(Lock<Book<()>>, Pass), NoMemory>
     requires { 0 < callers }
-    ensures { IfOk result (λ opened. IsPassOf notes_of limits_of opened.0 opened.1) }
+    ensures { IfOk result (λ opened. IsPassOf notes_of limits_of caller_of opened.0 opened.1) }
 {
     match Lock::open(alloc, Book::new((), notes, (7, 0)), callers) {
         Ok(opened) => Ok(opened),
@@ -23,8 +23,8 @@ fn open(alloc: Global, notes: Vec<Note>, callers: u32) -> Result<(Lock<Book<()>>
 
 // One note after the other.
 fn add_many<R: Wait>(rt: &R, lock: &Lock<Book<()>>, mut pass: Pass, count: u64) -> Pass
-    requires { IsPassOf notes_of limits_of lock.now pass }
-    ensures { IsPassOf notes_of limits_of lock.now result }
+    requires { IsPassOf notes_of limits_of caller_of lock.now pass }
+    ensures { IsPassOf notes_of limits_of caller_of lock.now result }
 {
     for amount in 0..count {
         pass = call(rt, lock, pass, amount).0;
@@ -101,12 +101,12 @@ fn two_threads_add_to_one_history(rt: HostRuntime) -> Result<(), Fail> {
     let (mut first, second) = join(
         &rt,
         || -> Pass
-            requires { IsPassOf notes_of limits_of lock first }
-            ensures { IsPassOf notes_of limits_of lock result }
+            requires { IsPassOf notes_of limits_of caller_of lock first }
+            ensures { IsPassOf notes_of limits_of caller_of lock result }
         { add_many(&rt, &lock, first, 1000) },
         || -> Pass
-            requires { IsPassOf notes_of limits_of lock second }
-            ensures { IsPassOf notes_of limits_of lock result }
+            requires { IsPassOf notes_of limits_of caller_of lock second }
+            ensures { IsPassOf notes_of limits_of caller_of lock result }
         { add_many(&rt, &lock, second, 1000) },
     );
     lock.meet(&mut first, second);

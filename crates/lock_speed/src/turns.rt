@@ -1,5 +1,5 @@
 ghost use Rattle.history_lock.specs.Passes.{IsPassOf};
-ghost use Rattle.lock_speed.specs.Tally.{no_entries, no_pair};
+ghost use Rattle.lock_speed.specs.Tally.{no_entries, no_pair, number_itself};
 
 use crate::tally::Tally;
 use cell_value::NoMemory;
@@ -34,8 +34,8 @@ fn each_thread<R: Threads + Wait + Sync>(
     threads: u8,
     turns: u64,
 ) -> Result<(), NoMemory>
-    requires { IsPassOf no_entries no_pair lock.now first.old }
-    ensures { IsPassOf no_entries no_pair lock.now first.new }
+    requires { IsPassOf no_entries no_pair number_itself lock.now first.old }
+    ensures { IsPassOf no_entries no_pair number_itself lock.now first.new }
 {
     let mut passes = Vec::new(alloc);
     for _ in 0..threads {
@@ -47,15 +47,15 @@ fn each_thread<R: Threads + Wait + Sync>(
         rt,
         passes,
         &|pass: Pass<u32>| -> Pass<u32>
-            requires { IsPassOf no_entries no_pair lock.now pass }
+            requires { IsPassOf no_entries no_pair number_itself lock.now pass }
         { take_turns(rt, lock, pass, turns) },
     )?;
     Ok(())
 }
 
 fn take_turns<R: Wait>(rt: &R, lock: &Lock<Tally>, mut pass: Pass<u32>, turns: u64) -> Pass<u32>
-    requires { IsPassOf no_entries no_pair lock.now pass }
-    ensures { IsPassOf no_entries no_pair lock.now result }
+    requires { IsPassOf no_entries no_pair number_itself lock.now pass }
+    ensures { IsPassOf no_entries no_pair number_itself lock.now result }
 {
     for _ in 0..turns {
         let (turn, mut tally) = lock.take(rt, pass);

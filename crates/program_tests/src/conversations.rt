@@ -4,10 +4,11 @@ use crate::batches::{
     LONG_BATCHES, Repeated, SECOND_BATCHES, SEVENTH_BATCHES, SIXTH_BATCHES, THIRD_BATCHES,
     TWO_BROKEN,
 };
-use crate::common::check;
+use crate::common::{Ran, calls, check, words_of};
 use crate::creations::{APPENDED_ROWS, CREATED};
 use crate::deletions::DELETED_SHEETS;
 use crate::lines::{COLUMNS, INSERTED_AND_DELETED, LINES, MOVED};
+use crate::names::{BROKEN_RANGES, NAMED, NAMES_OF_FORMULAS, RANGES_LISTED, TOO_MANY};
 use crate::rows::{
     BAD_REQUEST, CHANGES, CONVERSATIONS, Conversation, Exchange, FORMULAS, LIMITS, LISTS,
     LONG_HEADS, LOOKS, LongHead, NO_CALLS, OK, RANGES, TYPED, USERS, WRITES, WRITES_TO_LISTS,
@@ -15,35 +16,20 @@ use crate::rows::{
 };
 use crate::sheets::{ADDED_SHEETS, PROPERTIES, REFUSED_PROPERTIES, REFUSED_SHEETS};
 use crate::values::{VALUES, VALUES_OF_OTHERS};
-use cell_value::{Bytes, Items};
+use cell_value::Bytes;
 use connections::one_reply;
 use conversation::cut_off_laws;
+use serving_tests::TurnDoors;
 use sheet_engine::Sheets;
 use sheets_cli::sheets_main;
 use sheets_http::{MemorySink, MemorySource};
 use std::alloc::Global;
 use std::sync::Wait;
-
-/// How the program ended: its status, its output and its faults.
-#[derive(Drop)]
-struct Ran {
-    status: u8,
-    output: MemorySink,
-    faults: MemorySink,
-}
-
-impl Ran {
-    /// Whether it ended with that status, that output and that line on its faults.
-    fn is(&self, status: u8, output: &[u8], faults: &[u8]) -> bool {
-        self.status == status
-            && self.output.written().as_slice() == output
-            && self.faults.written().as_slice() == faults
-    }
-}
+use std::thread::Threads;
 
 /// Runs the program on a stream that is read and written in pieces of that size; the read and the
 /// write of these numbers fail, counted from 1.
-fn run<R: AllocGlobal + Wait>(
+fn run<R: AllocGlobal + Threads + Wait + Sync>(
     rt: &R,
     word: &str,
     stream: &[u8],
@@ -52,11 +38,19 @@ fn run<R: AllocGlobal + Wait>(
     write: u64,
 ) -> Ran {
     let alloc = rt.alloc();
-    let words = words_of(alloc, word);
+    let words = words_of(alloc, &[word]);
     let mut input = MemorySource::new(bytes_of(alloc, stream), piece.max(1), calls(alloc, read));
     let mut output = MemorySink::new(alloc, piece.max(1), calls(alloc, write));
     let mut faults = MemorySink::new(alloc, piece.max(1), calls(alloc, 0));
-    let status = sheets_main(rt, words.as_slice(), &mut input, &mut output, &mut faults);
+    let mut doors = TurnDoors::new(Vec::new(alloc), Vec::new(alloc));
+    let status = sheets_main(
+        rt,
+        words.as_slice(),
+        &mut input,
+        &mut output,
+        &mut faults,
+        &mut doors,
+    );
     Ran {
         status,
         output,
@@ -64,29 +58,11 @@ fn run<R: AllocGlobal + Wait>(
     }
 }
 
-/// The word alone, or none where memory runs out.
-fn words_of(alloc: Global, word: &str) -> Vec<String> {
-    let mut words = Vec::new(alloc);
-    if let Ok(word) = String::from_str(alloc, word) {
-        let _ = words.push(word);
-    }
-    words
-}
-
 /// The bytes, or none where memory runs out.
 fn bytes_of(alloc: Global, stream: &[u8]) -> Bytes {
     let mut bytes = Vec::new(alloc);
     let _ = bytes.extend_from_slice(stream);
     Bytes::of(bytes)
-}
-
-/// The call of that number, and none for 0.
-fn calls(alloc: Global, number: u64) -> Items<u64> {
-    let mut calls = Vec::new(alloc);
-    if number > 0 {
-        let _ = calls.push(number);
-    }
-    Items::of(calls)
 }
 
 /// Sizes of the pieces into which a conversation is cut.
@@ -101,7 +77,11 @@ fn answers_conversations_however_they_are_cut(rt: HostRuntime) {
     }
 }
 
-fn is_answered_in_pieces<R: AllocGlobal + Wait>(rt: &R, row: &Conversation, piece: u64) -> bool {
+fn is_answered_in_pieces<R: AllocGlobal + Threads + Wait + Sync>(
+    rt: &R,
+    row: &Conversation,
+    piece: u64,
+) -> bool {
     run(rt, row.1, row.2, piece, 0, 0).is(row.3, row.4, row.5)
 }
 
@@ -281,6 +261,69 @@ fn follows_columns(rt: HostRuntime) {
 }
 
 #[test]
+fn reads_named_ranges(rt: HostRuntime) {
+    for row in &NAMED {
+        check(&rt, &row.3, is_answered(&rt, row));
+    }
+}
+
+#[test]
+fn renames_in_formulas(rt: HostRuntime) {
+    for row in &NAMES_OF_FORMULAS {
+        check(&rt, &row.3, is_answered(&rt, row));
+    }
+}
+
+#[test]
+fn lists_named_ranges(rt: HostRuntime) {
+    for row in &RANGES_LISTED {
+        check(&rt, &row.3, is_answered(&rt, row));
+    }
+}
+
+#[test]
+fn refuses_named_ranges(rt: HostRuntime) {
+    for row in &BROKEN_RANGES {
+        check(&rt, &row.3, is_answered(&rt, row));
+    }
+}
+
+#[test]
+fn counts_named_ranges(rt: HostRuntime) {
+    check(&rt, &TOO_MANY, is_one_too_many(&rt));
+}
+
+/// Whether of 2,001 named ranges the last one is refused.
+fn is_one_too_many<R: AllocGlobal + Threads + Wait + Sync>(rt: &R) -> bool {
+    let alloc = rt.alloc();
+    let body = adding(alloc, 2_001);
+    let stream = batch_of(alloc, body.as_str());
+    let response = response_of(alloc, TOO_MANY.0, "", TOO_MANY.1);
+    ends_with(rt, stream.as_str(), response.as_str())
+}
+
+/// The body of a batch that adds so many named ranges.
+fn adding(alloc: Global, count: usize) -> String {
+    let mut body = String::new(alloc);
+    add(&mut body, "{\"requests\":[");
+    for number in 0..count {
+        if number > 0 {
+            add(&mut body, ",");
+        }
+        add(
+            &mut body,
+            "{\"addNamedRange\":{\"namedRange\":{\"range\":{},\"namedRangeId\":\"",
+        );
+        add_number(&mut body, number);
+        add(&mut body, "\",\"name\":\"range_");
+        add_number(&mut body, number);
+        add(&mut body, "\"}}}");
+    }
+    add(&mut body, "]}");
+    body
+}
+
+#[test]
 fn changes_rows_and_columns(rt: HostRuntime) {
     for row in &LINES {
         check(&rt, &row.3, is_answered(&rt, row));
@@ -417,7 +460,10 @@ fn bounds_the_texts_of_batches(rt: HostRuntime) {
 }
 
 /// Whether a batch that enters a text of so many bytes is answered so.
-fn is_entered<R: AllocGlobal + Wait>(rt: &R, row: &(usize, &str, &str, &str)) -> bool {
+fn is_entered<R: AllocGlobal + Threads + Wait + Sync>(
+    rt: &R,
+    row: &(usize, &str, &str, &str),
+) -> bool {
     let alloc = rt.alloc();
     let body = entering(alloc, row.0, row.1);
     let stream = batch_of(alloc, body.as_str());
@@ -448,7 +494,7 @@ fn does_long_batches(rt: HostRuntime) {
 }
 
 /// Whether the last of the requests is answered so.
-fn is_repeated<R: AllocGlobal + Wait>(rt: &R, row: &Repeated) -> bool {
+fn is_repeated<R: AllocGlobal + Threads + Wait + Sync>(rt: &R, row: &Repeated) -> bool {
     let alloc = rt.alloc();
     let body = repeating(alloc, row.0, row.1, row.2);
     let mut stream = batch_of(alloc, body.as_str());
@@ -487,7 +533,7 @@ fn batch_of(alloc: Global, body: &str) -> String {
 }
 
 /// Whether the stream is served to its end, and its output ends with that response.
-fn ends_with<R: AllocGlobal + Wait>(rt: &R, stream: &str, response: &str) -> bool {
+fn ends_with<R: AllocGlobal + Threads + Wait + Sync>(rt: &R, stream: &str, response: &str) -> bool {
     let ran = run(rt, "run", stream.as_bytes(), 100_000, 0, 0);
     ran.status == 0
         && ran
@@ -498,13 +544,17 @@ fn ends_with<R: AllocGlobal + Wait>(rt: &R, stream: &str, response: &str) -> boo
 }
 
 /// Whether requests of the owner are served to their end, and the last one is answered so.
-fn is_answered<R: AllocGlobal + Wait>(rt: &R, row: &Exchange) -> bool {
+fn is_answered<R: AllocGlobal + Threads + Wait + Sync>(rt: &R, row: &Exchange) -> bool {
     is_answered_to(rt, row, OWNER)
 }
 
 /// Whether requests, each with that field, are served to their end, and the last one is answered so: the
 /// rest of its status line, a further field, and its body.
-fn is_answered_to<R: AllocGlobal + Wait>(rt: &R, row: &Exchange, user: &str) -> bool {
+fn is_answered_to<R: AllocGlobal + Threads + Wait + Sync>(
+    rt: &R,
+    row: &Exchange,
+    user: &str,
+) -> bool {
     let stream = stream_of(rt.alloc(), row.0, user);
     let response = response_of(rt.alloc(), row.1, row.2, row.3);
     ends_with(rt, stream.as_str(), response.as_str())
@@ -558,7 +608,7 @@ fn keeps_heads_within_their_bounds(rt: HostRuntime) {
 }
 
 /// Whether a stream is answered so, and ends so.
-fn is_answered_at_length<R: AllocGlobal + Wait>(rt: &R, row: &LongHead) -> bool {
+fn is_answered_at_length<R: AllocGlobal + Threads + Wait + Sync>(rt: &R, row: &LongHead) -> bool {
     let alloc = rt.alloc();
     let mut stream = String::new(alloc);
     add(&mut stream, row.0);
@@ -609,7 +659,11 @@ fn answers_whole_requests_before_a_cut(rt: HostRuntime) {
 }
 
 /// Whether of that many bytes of the stream the whole requests are answered, and the rest is told.
-fn is_answered_before<R: AllocGlobal + Wait>(rt: &R, stream: &[u8], cut: usize) -> bool {
+fn is_answered_before<R: AllocGlobal + Threads + Wait + Sync>(
+    rt: &R,
+    stream: &[u8],
+    cut: usize,
+) -> bool {
     let alloc = rt.alloc();
     let begun = stream.get(..cut).unwrap_or(stream);
     let first = REQUESTS[0].len();
@@ -675,7 +729,7 @@ fn ends_at_a_failed_write(rt: HostRuntime) {
 }
 
 /// Runs the program on the requests; the read and the write of these numbers fail, counted from 1.
-fn run_requests<R: AllocGlobal + Wait>(rt: &R, read: u64, write: u64) -> Ran {
+fn run_requests<R: AllocGlobal + Threads + Wait + Sync>(rt: &R, read: u64, write: u64) -> Ran {
     let stream = joined(rt.alloc(), &REQUESTS, 2);
     run(rt, "run", stream.as_slice(), PIECE, read, write)
 }

@@ -1,5 +1,5 @@
-//! The tests of the program: conversations, how it ends where a read or a write fails, and the reads and
-//! writes of the system.
+//! The tests of the program: conversations, connections, how it ends where a read or a write fails, the words of its
+//! command line, and the reads and writes of the system, its sockets among them.
 //!
 //! The time in which a test is proved grows faster than its length: a test goes over a table, which is a
 //! static so that the test doesn't build it, and what it calls for a row answers without `?`. Where memory
@@ -21,10 +21,18 @@ mod deletions;
 #[cfg(test)]
 mod lines;
 #[cfg(test)]
+mod names;
+#[cfg(test)]
 mod rows;
+#[cfg(test)]
+mod serve;
 #[cfg(test)]
 mod sheets;
 #[cfg(test)]
 mod system;
 #[cfg(test)]
+mod tcp;
+#[cfg(test)]
 mod values;
+#[cfg(test)]
+mod words;

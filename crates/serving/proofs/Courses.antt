@@ -1,11 +1,14 @@
 -- Connections under way and over, in the order in which they were accepted.
 use Rattle.std.proofs.Common.{◌≡◌, inl, ℕ, zero, suc, ◌+◌, List, [], ◌∷◌, ◌++◌, map, length, refl, sym, ap, subst, ◌∙◌, arith}
-use Rattle.std.specs.Prelude.{Some, None, All}
-use Rattle.std.specs.List.{slice_get}
+use Rattle.std.specs.Prelude.{Some, None, All, Bool, ◌≢◌, drop, if◌then◌else◌}
+use Rattle.std.specs.List.{slice_get, flat_map}
+use Rattle.std.proofs.lemmas.List.{append-nil}
+use Rattle.std.proofs.lemmas.Bool.{eq-eqb, ne_eqb}
+use Rattle.std.proofs.lemmas.Grind.{flat_map-append}
 use Rattle.std.proofs.lemmas.List.Elements.{All-nil, All-cons, All-head, All-tail}
 use Rattle.desk.specs.declared.entry.Noted.{Noted}
 use Rattle.connections.specs.Doors.{Ending, Connection, came_back, IsAway}
-use Rattle.serving.specs.Serving.{Arrival, Talk, Course, under_way, over, start_of, shown_course, Begun, Waiting, thread_of, threads_of, OfAnyTwo, LeavesApart, CoursesApart, AreApart, connection_of}
+use Rattle.serving.specs.Serving.{Arrival, Visit, Course, under_way, over, start_of, shown_course, Begun, Waiting, thread_of, threads_of, OfAnyTwo, LeavesApart, CoursesApart, AreApart, connection_of, visits_of, added_by, items_of}
 
 -- ---- one of them ends
 
@@ -14,7 +17,7 @@ abbrev pub finished : ℕ → List Noted → Ending → List Course → List Cou
 finished place after ending [] = []
 finished zero after ending (under_way arrival ∷ courses) =
     over (record { arrival = arrival; after = after; ending = ending }) ∷ courses
-finished zero after ending (over talk ∷ courses) = over talk ∷ courses
+finished zero after ending (over visit ∷ courses) = over visit ∷ courses
 finished (suc place) after ending (course ∷ courses) = course ∷ finished place after ending courses
 
 -- the thread is that of the connection at this place; without it those of the others are left
@@ -34,7 +37,7 @@ module _ {E K W : Type 0} (begun : Begun E K W) where
       → (place : ℕ) × IsFoundAt begun number courses (xs ++ ys) w place
   found number [] [] w ys is = absurd (cc)
   found number [] (x ∷ xs) w ys is = absurd (cc)
-  found number (over talk ∷ courses) xs w ys is =
+  found number (over visit ∷ courses) xs w ys is =
       let (place, at) = found (suc number) courses xs w ys is in (
         suc place,
         record {
@@ -80,7 +83,7 @@ module _ {E K W : Type 0} (begun : Begun E K W) where
       ++ thread_of begun (number + length courses) arrival ∷ []
   one_thread_more number [] arrival =
       ap (λ (n : ℕ). thread_of begun n arrival ∷ []) (omega arith)
-  one_thread_more number (over talk ∷ courses) arrival =
+  one_thread_more number (over visit ∷ courses) arrival =
       one_thread_more (suc number) courses arrival
       ∙ ap (λ (n : ℕ). threads_of begun (suc number) courses
       ++ thread_of begun n arrival ∷ []) (omega arith)
@@ -91,14 +94,14 @@ module _ {E K W : Type 0} (begun : Begun E K W) where
       ∙ ap (λ (n : ℕ). threads_of begun (suc number) courses
       ++ thread_of begun n arrival ∷ []) (omega arith))
 
-  pub no_thread_more : (number : ℕ) (courses : List Course) (talk : Talk)
-      → threads_of begun number (courses ++ over talk ∷ []) ≡ threads_of begun number courses
-  no_thread_more number [] talk = refl
-  no_thread_more number (over t ∷ courses) talk = no_thread_more (suc number) courses talk
-  no_thread_more number (under_way start ∷ courses) talk =
+  pub no_thread_more : (number : ℕ) (courses : List Course) (visit : Visit)
+      → threads_of begun number (courses ++ over visit ∷ []) ≡ threads_of begun number courses
+  no_thread_more number [] visit = refl
+  no_thread_more number (over t ∷ courses) visit = no_thread_more (suc number) courses visit
+  no_thread_more number (under_way start ∷ courses) visit =
       ap (λ (l : List (Waiting E K W)).
       thread_of begun number start ∷ l)
-      (no_thread_more (suc number) courses talk)
+      (no_thread_more (suc number) courses visit)
 
 -- ---- what is shown
 
@@ -117,7 +120,7 @@ pub back : (courses : List Course) (place : ℕ) (arrival : Arrival) (after : Li
     → came_back place ending (map shown_course courses) ≡ map shown_course (finished place after ending courses)
 back [] place arrival after ending at = refl
 back (under_way start ∷ courses) zero arrival after ending at = refl
-back (over talk ∷ courses) zero arrival after ending at = absurd (cc)
+back (over visit ∷ courses) zero arrival after ending at = absurd (cc)
 back (course ∷ courses) (suc place) arrival after ending at =
     ap (λ (l : List Connection). shown_course course ∷ l) (back courses place arrival after ending at)
 
@@ -125,7 +128,7 @@ pub as_many : (courses : List Course) (place : ℕ) (after : List Noted) (ending
     → length (finished place after ending courses) ≡ length courses
 as_many [] place after ending = refl
 as_many (under_way start ∷ courses) zero after ending = refl
-as_many (over talk ∷ courses) zero after ending = refl
+as_many (over visit ∷ courses) zero after ending = refl
 as_many (course ∷ courses) (suc place) after ending = ap suc (as_many courses place after ending)
 
 -- the last of a list that is one longer
@@ -153,7 +156,7 @@ module _ (P : Course → Type 0) where
       → P (over (record { arrival = arrival; after = after; ending = ending }))
       → All P courses → All P (finished place after ending courses)
   each_finished [] place arrival after ending at p all = all
-  each_finished (over talk ∷ courses) zero arrival after ending at p all = all
+  each_finished (over visit ∷ courses) zero arrival after ending at p all = all
   each_finished (under_way start ∷ courses) zero arrival after ending at p all =
       let is : arrival ≡ start = cc in
       All-cons P (over (record { arrival = start; after = after; ending = ending })) courses
@@ -171,7 +174,7 @@ module _ (Q : Arrival → Type 0) where
   starts_finished : (courses : List Course) (place : ℕ) (after : List Noted) (ending : Ending)
       → All of_start courses → All of_start (finished place after ending courses)
   starts_finished [] place after ending all = all
-  starts_finished (over talk ∷ courses) zero after ending all = all
+  starts_finished (over visit ∷ courses) zero after ending all = all
   starts_finished (under_way start ∷ courses) zero after ending all =
       All-cons of_start (over (record { arrival = start; after = after; ending = ending })) courses
       (All-head of_start (under_way start) courses all) (All-tail of_start (under_way start) courses all)
@@ -193,7 +196,7 @@ over_apart arrival after ending (c ∷ courses) all =
 pub apart_finished : (courses : List Course) (place : ℕ) (after : List Noted) (ending : Ending)
     → OfAnyTwo CoursesApart courses → OfAnyTwo CoursesApart (finished place after ending courses)
 apart_finished [] place after ending apart = apart
-apart_finished (over talk ∷ courses) zero after ending apart = apart
+apart_finished (over visit ∷ courses) zero after ending apart = apart
 apart_finished (under_way start ∷ courses) zero after ending apart =
     (over_apart start after ending courses apart.0, apart.1)
 apart_finished (course ∷ courses) (suc place) after ending apart = (
@@ -219,33 +222,85 @@ one_more_holds P (x ∷ xs) y all p =
 
 -- ---- where no thread is left, all are over
 
-abbrev pub talks_of : List Course → List Talk
-talks_of [] = []
-talks_of (under_way arrival ∷ courses) = talks_of courses
-talks_of (over talk ∷ courses) = talk ∷ talks_of courses
-
 module _ {E K W : Type 0} (begun : Begun E K W) where
   pub all_over : (number : ℕ) (courses : List Course) → length (threads_of begun number courses) ≡ 0
-      → courses ≡ map over (talks_of courses)
+      → courses ≡ map over (visits_of courses)
   all_over number [] none = refl
   all_over number (under_way arrival ∷ courses) none = absurd (omega arith)
-  all_over number (over talk ∷ courses) none =
-      ap (λ (l : List Course). over talk ∷ l) (all_over (suc number) courses none)
+  all_over number (over visit ∷ courses) none =
+      ap (λ (l : List Course). over visit ∷ l) (all_over (suc number) courses none)
 
-pub shown_over : (talks : List Talk) → map shown_course (map over talks) ≡ map connection_of talks
+pub shown_over : (visits : List Visit) → map shown_course (map over visits) ≡ map connection_of visits
 shown_over [] = refl
-shown_over (talk ∷ talks) = ap (λ (l : List Connection). connection_of talk ∷ l) (shown_over talks)
+shown_over (visit ∷ visits) = ap (λ (l : List Connection). connection_of visit ∷ l) (shown_over visits)
 
-pub count_over : (talks : List Talk) → length (map over talks) ≡ length talks
+pub count_over : (visits : List Visit) → length (map over visits) ≡ length visits
 count_over [] = refl
-count_over (talk ∷ talks) = ap suc (count_over talks)
+count_over (visit ∷ visits) = ap suc (count_over visits)
 
-pub apart_over : (talks : List Talk) → OfAnyTwo CoursesApart (map over talks) → OfAnyTwo AreApart talks
+pub apart_over : (visits : List Visit) → OfAnyTwo CoursesApart (map over visits) → OfAnyTwo AreApart visits
 apart_over [] apart = tt
-apart_over (talk ∷ talks) apart = (each talks apart.0, apart_over talks apart.1)
+apart_over (visit ∷ visits) apart = (each visits apart.0, apart_over visits apart.1)
   where
-    each : (ts : List Talk) → All (CoursesApart (over talk)) (map over ts) → All (AreApart talk) ts
-    each [] all = All-nil (AreApart talk)
+    each : (ts : List Visit) → All (CoursesApart (over visit)) (map over ts) → All (AreApart visit) ts
+    each [] all = All-nil (AreApart visit)
     each (t ∷ ts) all =
-        All-cons (AreApart talk) t ts (All-head (CoursesApart (over talk)) (over t) (map over ts) all)
-        (each ts (All-tail (CoursesApart (over talk)) (over t) (map over ts) all))
+        All-cons (AreApart visit) t ts (All-head (CoursesApart (over visit)) (over t) (map over ts) all)
+        (each ts (All-tail (CoursesApart (over visit)) (over t) (map over ts) all))
+
+pub visits_over : (visits : List Visit) → visits_of (map over visits) ≡ visits
+visits_over [] = refl
+visits_over (visit ∷ visits) = ap (λ (l : List Visit). visit ∷ l) (visits_over visits)
+
+-- ---- what a caller added in the visits that are over
+
+pub one_visit_more : (courses : List Course) (visit : Visit) → visits_of (courses ++ over visit ∷ [])
+    ≡ visits_of courses ++ visit ∷ []
+one_visit_more [] visit = refl
+one_visit_more (under_way arrival ∷ courses) visit = one_visit_more courses visit
+one_visit_more (over t ∷ courses) visit = ap (λ (l : List Visit). t ∷ l) (one_visit_more courses visit)
+
+pub no_visit_more : (courses : List Course) (arrival : Arrival) → visits_of (courses ++ under_way arrival ∷ [])
+    ≡ visits_of courses
+no_visit_more [] arrival = refl
+no_visit_more (under_way start ∷ courses) arrival = no_visit_more courses arrival
+no_visit_more (over t ∷ courses) arrival = ap (λ (l : List Visit). t ∷ l) (no_visit_more courses arrival)
+
+module _ (number : ℕ) where
+  pub nothing_added : (visit : Visit) → visit.arrival.caller ≢ number → added_by number visit ≡ []
+  nothing_added visit other =
+      ap (λ (b : Bool). if b then items_of number (drop (length visit.arrival.before) visit.after) else [])
+      (ne_eqb visit.arrival.caller number other)
+
+  pub own_added : (visit : Visit) → visit.arrival.caller ≡ number
+      → added_by number visit ≡ items_of number (drop (length visit.arrival.before) visit.after)
+  own_added visit own =
+      ap (λ (b : Bool). if b then items_of number (drop (length visit.arrival.before) visit.after) else [])
+      (eq-eqb visit.arrival.caller number own)
+
+  -- another's connection that is over adds nothing of this caller's
+  pub added_finished : (courses : List Course) (place : ℕ) (arrival : Arrival) (after : List Noted) (ending : Ending)
+      → slice_get courses place ≡ Some (under_way arrival) → arrival.caller ≢ number
+      → flat_map (added_by number) (visits_of (finished place after ending courses))
+      ≡ flat_map (added_by number) (visits_of courses)
+  added_finished [] place arrival after ending at other = refl
+  added_finished (under_way start ∷ courses) zero arrival after ending at other =
+      let is : start ≡ arrival = cc in
+      ap (λ (l : List Noted). l ++ flat_map (added_by number) (visits_of courses))
+      (nothing_added (record { arrival = start; after = after; ending = ending })
+      (λ same. other (sym (ap (λ (a : Arrival). a.caller) is) ∙ same)))
+  added_finished (over visit ∷ courses) zero arrival after ending at other = absurd (cc)
+  added_finished (under_way start ∷ courses) (suc place) arrival after ending at other =
+      added_finished courses place arrival after ending at other
+  added_finished (over visit ∷ courses) (suc place) arrival after ending at other =
+      ap (λ (l : List Noted). added_by number visit ++ l) (added_finished courses place arrival after ending at other)
+
+  pub added_more : (courses : List Course) (visit : Visit) → visit.arrival.caller ≡ number
+      → flat_map (added_by number) (visits_of courses)
+      ++ items_of number (drop (length visit.arrival.before) visit.after)
+      ≡ flat_map (added_by number) (visits_of (courses ++ over visit ∷ []))
+  added_more courses visit own =
+      ap (λ (l : List Noted). flat_map (added_by number) (visits_of courses) ++ l)
+      (sym (own_added visit own) ∙ sym (append-nil (added_by number visit)))
+      ∙ sym (flat_map-append (added_by number) (visits_of courses) (visit ∷ []))
+      ∙ ap (λ (l : List Visit). flat_map (added_by number) l) (sym (one_visit_more courses visit))

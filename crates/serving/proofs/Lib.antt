@@ -1,4 +1,3 @@
 pub mod Histories
 pub mod Courses
 pub mod Standing
-pub mod Endings

@@ -2,12 +2,13 @@
 use Rattle.std.proofs.Common.{◌≡◌, inl, inr, ℕ, zero, suc, ◌+◌, ◌<◌, ◌≤◌, Bool, List, [], ◌∷◌, ◌++◌, map, length, take, drop, slice_index_or, refl, sym, ap, subst, ◌∙◌, arith}
 use Rattle.std.specs.Prelude.{Option, Some, None, IfSome, All, ◌≢◌, IsTrue}
 use Rattle.std.specs.Option.{option_map}
+use Rattle.std.specs.List.{Contains, flat_map}
 use Rattle.std.proofs.lemmas.List.{append-nil}
 use Rattle.cell_value.specs.FaultCount.{last_count, Rose}
 use Rattle.sheets_http.specs.Outside.{StaysSteady}
-use Rattle.std.proofs.lemmas.List.Elements.{All-nil, All-cons, All-head, All-tail, All-weaker}
-use Rattle.history_lock.specs.History.{StartsWith, NoneOf}
-use Rattle.history_lock.specs.Passes.{seen_by, number_of, count_of}
+use Rattle.std.proofs.lemmas.List.Elements.{All-nil, All-cons, All-head, All-tail, All-weaker, All-contains, Contains-append_left, Contains-append_right}
+use Rattle.history_lock.specs.History.{StartsWith, NoneOf, AreDone}
+use Rattle.history_lock.specs.Passes.{seen_by, number_of, count_of, met_by}
 use Rattle.history_lock.specs.declared.pass.Pass.{Pass}
 use Rattle.desk.specs.declared.desk.Desk.{Desk}
 use Rattle.desk.specs.declared.entry.Noted.{Noted}
@@ -17,9 +18,9 @@ use Rattle.connections.specs.Calls.{UserTable}
 use Rattle.connections.specs.Doors.{LinkSeen, IsFresh, Ending, Connection, Shown, IsAway, came_back, after_accept, after_refusal, after_back}
 use Rattle.serving.specs.declared.accepting.Served.{Served}
 use Rattle.serving.specs.declared.accepting.Served.TheVariants as served
-use Rattle.serving.specs.Serving.{AnswersAt, Arrival, Talk, IsAnother, WasServed, OfAnyTwo, HasAccepted, asked, showing, HaveTalked, Begun, Waiting, Accepting, arrival_of, IsTalked, HasMet, Course, under_way, over, shown_course, thread_of, threads_of, IsGiven, Fits, CoursesApart, StandsAt, Stands, HasAsked}
-use Rattle.serving.proofs.Histories.{starts_whole, starts_through}
-use Rattle.serving.proofs.Courses.{finished, found, one_thread_more, no_thread_more, away, back, as_many, last_away, last_back, at_place, each_finished, apart_finished, two_more, one_more_holds, talks_of, all_over, shown_over, count_over, apart_over}
+use Rattle.serving.specs.Serving.{AnswersAt, Arrival, Visit, IsAnother, WasServed, OfAnyTwo, HasAccepted, asked, showing, HaveTalked, Begun, Waiting, Accepting, arrival_of, IsTalked, HasMet, Course, under_way, over, shown_course, thread_of, threads_of, IsGiven, Fits, CoursesApart, StandsAt, Stands, HasAsked, HaveAllTalked, visits_of, items_of, added_by}
+use Rattle.serving.proofs.Histories.{starts_whole, starts_through, items_grown, items_same, nothing_behind}
+use Rattle.serving.proofs.Courses.{finished, found, one_thread_more, no_thread_more, away, back, as_many, last_away, last_back, at_place, each_finished, apart_finished, two_more, one_more_holds, all_over, shown_over, count_over, apart_over, no_visit_more, added_finished, added_more}
 
 -- ---- what is shown after two calls of the doors
 
@@ -61,46 +62,82 @@ map_length : {A B : Type 0} (f : A → B) (xs : List A) → length (map f xs) �
 map_length f [] = refl
 map_length f (x ∷ xs) = ap suc (map_length f xs)
 
+-- ---- what a later pass knows
+
+-- it has seen what the pass had seen, and took in those that this one had taken in
+record IsLater (pass pass' : Pass Noted) : Type 0 where
+  pub seen : StartsWith (seen_by pass') (seen_by pass)
+  pub count : count_of pass ≤ count_of pass'
+  pub met : (m : ℕ × ℕ) → Contains (met_by pass) m → Contains (met_by pass') m
+
+-- it has seen and taken in the same, and knows of as many numbers or more
+pub record HasRecounted (pass pass' : Pass Noted) : Type 0 where
+  pub seen : seen_by pass' ≡ seen_by pass
+  pub count : count_of pass ≤ count_of pass'
+  pub met : met_by pass' ≡ met_by pass
+
+later_recounted : (pass pass' : Pass Noted) → HasRecounted pass pass' → IsLater pass pass'
+later_recounted pass pass' has = record {
+  seen = subst (λ (l : List Noted). StartsWith l (seen_by pass)) (sym has.seen) (starts_whole (seen_by pass));
+  count = has.count;
+  met = λ m is. subst (λ (l : List (ℕ × ℕ)). Contains l m) (sym has.met) is;
+}
+
+later_met : {E K W : Type 0} (desk : Desk E K W) (pass other met : Pass Noted) → HasMet desk pass other met
+    → IsLater pass met
+later_met desk pass other met has = record {
+  seen = has.mine;
+  count = has.count;
+  met = λ m is. subst (λ (l : List (ℕ × ℕ)). Contains l m) (sym has.met_is)
+      (Contains-append_left (met_by pass) ((number_of other, length (seen_by other)) ∷ met_by other) m is);
+}
+
 module _ {E K W : Type 0} (answers : AnswersAt E K W) (begun : Begun E K W) where
   given_later : (count count' : ℕ) (arrival : Arrival) → count ≤ count' → IsGiven begun count arrival
       → IsGiven begun count' arrival
   given_later count count' arrival le is = record { another = is.another; below = omega (arith, is.below) }
 
   -- what is known stays known
-  fits_later : (seen seen' : List Noted) (count count' : ℕ) (course : Course) → StartsWith seen' seen → count ≤ count'
-      → Fits answers begun seen count course → Fits answers begun seen' count' course
-  fits_later seen seen' count count' (under_way arrival) more le (arrived, is) =
-      (arrived, given_later count count' arrival le is)
-  fits_later seen seen' count count' (over talk) more le (arrived, talked, within, by) = (
+  fits_later : (pass pass' : Pass Noted) (course : Course) → IsLater pass pass' → Fits answers begun pass course
+      → Fits answers begun pass' course
+  fits_later pass pass' (under_way arrival) later (arrived, is) =
+      (arrived, given_later (count_of pass) (count_of pass') arrival later.count is)
+  fits_later pass pass' (over visit) later (arrived, talked, within, by) = (
     arrived,
     talked,
-    starts_through seen' seen talk.after more within,
-    elim by [ inl own ↦ inl own | inr is ↦ inr (given_later count count' talk.arrival le is) ],
+    starts_through (seen_by pass') (seen_by pass) visit.after later.seen within,
+    elim by [
+      | inl own ↦ inl own
+      | inr is ↦ inr (record {
+        given = given_later (count_of pass) (count_of pass') visit.arrival later.count is.given;
+        met = later.met (visit.arrival.caller, length visit.after) is.met;
+      })
+    ],
   )
 
-  all_later : (seen seen' : List Noted) (count count' : ℕ) (courses : List Course) → StartsWith seen' seen
-      → count ≤ count' → All (Fits answers begun seen count) courses → All (Fits answers begun seen' count') courses
-  all_later seen seen' count count' courses more le =
-      All-weaker (Fits answers begun seen count) (Fits answers begun seen' count')
-      (λ course fits. fits_later seen seen' count count' course more le fits) courses
+  all_later : (pass pass' : Pass Noted) (courses : List Course) → IsLater pass pass'
+      → All (Fits answers begun pass) courses → All (Fits answers begun pass') courses
+  all_later pass pass' courses later =
+      All-weaker (Fits answers begun pass) (Fits answers begun pass')
+      (λ course fits. fits_later pass pass' course later fits) courses
 
   -- a connection of a new number is apart from those before it
-  new_apart : (seen : List Noted) (count : ℕ) (arrival : Arrival) → count ≤ arrival.caller
-      → arrival.caller ≢ number_of begun.pass → (course : Course) → Fits answers begun seen count course
+  new_apart : (pass : Pass Noted) (arrival : Arrival) → count_of pass ≤ arrival.caller
+      → arrival.caller ≢ number_of begun.pass → (course : Course) → Fits answers begun pass course
       → CoursesApart course (under_way arrival)
-  new_apart seen count arrival le other (under_way start) (arrived, is) =
+  new_apart pass arrival le other (under_way start) (arrived, is) =
       λ same. absurd (omega (arith, is.below, same))
-  new_apart seen count arrival le other (over talk) (arrived, talked, within, by) = elim by [
+  new_apart pass arrival le other (over visit) (arrived, talked, within, by) = elim by [
     | inl own ↦ inl (λ same. other (sym same ∙ own))
-    | inr is ↦ inl (λ same. absurd (omega (arith, is.below, same)))
+    | inr is ↦ inl (λ same. absurd (omega (arith, is.given.below, same)))
   ]
 
   -- and so is one of the first pass, which has seen what they had seen at their end
-  own_apart : (seen : List Noted) (count : ℕ) (talk : Talk) → talk.arrival.caller ≡ number_of begun.pass
-      → talk.arrival.before ≡ seen → (course : Course) → Fits answers begun seen count course
-      → CoursesApart course (over talk)
-  own_apart seen count talk own same (under_way start) (arrived, is) = λ e. is.another.other (e ∙ own)
-  own_apart seen count talk own same (over t) (arrived, talked, within, by) =
+  own_apart : (pass : Pass Noted) (visit : Visit) → visit.arrival.caller ≡ number_of begun.pass
+      → visit.arrival.before ≡ seen_by pass → (course : Course) → Fits answers begun pass course
+      → CoursesApart course (over visit)
+  own_apart pass visit own same (under_way start) (arrived, is) = λ e. is.another.other (e ∙ own)
+  own_apart pass visit own same (over t) (arrived, talked, within, by) =
       inr (subst (λ (l : List Noted). StartsWith l t.after) (sym same) within)
 
   -- ---- the steps
@@ -121,18 +158,27 @@ module _ {E K W : Type 0} (answers : AnswersAt E K W) (begun : Begun E K W) wher
           let talked' : IsTalked answers begun.desk begun.users w.arrival ending other =
           subst (λ (u : UserTable). IsTalked answers begun.desk u w.arrival ending other) at.users_is
           (subst (λ (d : Desk E K W). IsTalked answers d w.users w.arrival ending other) at.desk_is talked) in
-          let fits : All (Fits answers begun (seen_by met) (count_of met)) s.courses =
-          all_later (seen_by pass) (seen_by met) (count_of pass) (count_of met) s.courses has.mine has.count s.each in
-          let this : Fits answers begun (seen_by met) (count_of met) (under_way w.arrival) =
-          at_place (Fits answers begun (seen_by met) (count_of met)) s.courses place (under_way w.arrival) at.at fits in
+          let fits : All (Fits answers begun met) s.courses =
+          all_later pass met s.courses (later_met begun.desk pass other met has) s.each in
+          let this : Fits answers begun met (under_way w.arrival) =
+          at_place (Fits answers begun met) s.courses place (under_way w.arrival) at.at fits in
+          let taken_in : Contains (met_by met) (w.arrival.caller, length after) =
+          subst (λ (n : ℕ). Contains (met_by met) (n, length after)) talked'.number_is
+          (subst (λ (l : List (ℕ × ℕ)). Contains l (number_of other, length after)) (sym has.met_is)
+          (Contains-append_right (met_by pass) ((number_of other, length after) ∷ met_by other)
+          (number_of other, length after) (0, omega arith, refl))) in
           record {
             courses = finished place after ending s.courses;
             pass_is = has.pass_is;
             number_is = has.number_is ∙ s.number_is;
             sees = starts_through (seen_by met) (seen_by pass) (seen_by begun.pass) has.mine s.sees;
-            each = each_finished (Fits answers begun (seen_by met)
-                (count_of met)) s.courses place w.arrival after ending
-                at.at (this.0, talked'.talk, has.theirs, inr this.1) fits;
+            own = items_same (number_of begun.pass) (seen_by begun.pass) (seen_by pass) (seen_by met) s.sees has.mine
+                (subst (λ (n : ℕ). NoneOf caller_of n (drop (length (seen_by pass)) (seen_by met))) s.number_is has.own)
+                ∙ s.own
+                ∙ sym (added_finished (number_of begun.pass) s.courses place w.arrival after ending at.at
+                this.1.another.other);
+            each = each_finished (Fits answers begun met) s.courses place w.arrival after ending
+                at.at (this.0, talked'.visit, has.theirs, inr (record { given = this.1; met = taken_in })) fits;
             apart = apart_finished s.courses place after ending s.apart;
             threads_are = are' ∙ sym (at.others after ending);
             accepted_is = s.accepted_is ∙ sym (as_many s.courses place after ending);
@@ -163,16 +209,16 @@ module _ {E K W : Type 0} (answers : AnswersAt E K W) (begun : Begun E K W) wher
 
   -- a pass that has seen the same, and knows of more numbers
   pub recounts : (threads : List (Waiting E K W)) (accepted : ℕ) (end : Served) (shown : Option Shown)
-      (pass pass' : Pass Noted) → IsPass begun.desk pass' → seen_by pass' ≡ seen_by pass
-      → number_of pass' ≡ number_of pass → count_of pass ≤ count_of pass'
+      (pass pass' : Pass Noted) → IsPass begun.desk pass' → number_of pass' ≡ number_of pass → HasRecounted pass pass'
       → StandsAt answers begun pass threads accepted end shown → StandsAt answers begun pass' threads accepted end shown
-  recounts threads accepted end shown pass pass' is same number le s = record {
+  recounts threads accepted end shown pass pass' is number recounted s = record {
     courses = s.courses;
     pass_is = is;
     number_is = number ∙ s.number_is;
-    sees = subst (λ (l : List Noted). StartsWith l (seen_by begun.pass)) (sym same) s.sees;
-    each = all_later (seen_by pass) (seen_by pass') (count_of pass) (count_of pass') s.courses
-        (subst (λ (l : List Noted). StartsWith l (seen_by pass)) (sym same) (starts_whole (seen_by pass))) le s.each;
+    sees = subst (λ (l : List Noted). StartsWith l (seen_by begun.pass)) (sym recounted.seen) s.sees;
+    own = ap (λ (l : List Noted). items_of (number_of begun.pass) (drop (length (seen_by begun.pass)) l)) recounted.seen
+        ∙ s.own;
+    each = all_later pass pass' s.courses (later_recounted pass pass' recounted) s.each;
     apart = s.apart;
     threads_are = s.threads_are;
     accepted_is = s.accepted_is;
@@ -188,7 +234,9 @@ module _ {E K W : Type 0} (answers : AnswersAt E K W) (begun : Begun E K W) wher
     pass_is = is;
     number_is = ap (λ (p : Pass Noted). number_of p) (sym first);
     sees = subst (λ (p : Pass Noted). StartsWith (seen_by pass) (seen_by p)) (sym first) (starts_whole (seen_by pass));
-    each = All-nil (Fits answers begun (seen_by pass) (count_of pass));
+    own = ap (λ (p : Pass Noted). items_of (number_of begun.pass) (drop (length (seen_by p)) (seen_by pass))) first
+        ∙ nothing_behind (number_of begun.pass) (seen_by pass);
+    each = All-nil (Fits answers begun pass);
     apart = tt;
     threads_are = none;
     accepted_is = refl;
@@ -226,12 +274,12 @@ module _ {E K W : Type 0} (answers : AnswersAt E K W) (begun : Begun E K W) wher
 
     -- a thread serves it, with a pass of a new number
     pub starts : (pass' own : Pass Noted) (threads' : List (Waiting E K W)) → IsPass begun.desk pass'
-        → seen_by pass' ≡ seen_by pass → number_of pass' ≡ number_of pass → count_of pass ≤ count_of pass'
+        → number_of pass' ≡ number_of pass → HasRecounted pass pass'
         → seen_by own ≡ seen_by pass → count_of pass ≤ number_of own → count_of pass' ≡ number_of own + 1
         → IsAnother begun.desk (number_of pass) (arrival_of own link)
         → threads' ≡ threads ++ thread_of begun accepted (arrival_of own link) ∷ []
         → StandsAt answers begun pass' threads' (accepted + 1) served.All shown
-    starts pass' own threads' is same number_same le own_same next count another are =
+    starts pass' own threads' is number_same recounted own_same next count another are =
         let arrival = arrival_of own link in
         let first : StartsWith (seen_by own) (seen_by begun.pass) =
         subst (λ (l : List Noted). StartsWith l (seen_by begun.pass)) (sym own_same) s.sees in
@@ -241,16 +289,17 @@ module _ {E K W : Type 0} (answers : AnswersAt E K W) (begun : Begun E K W) wher
           courses = s.courses ++ under_way arrival ∷ [];
           pass_is = is;
           number_is = number_same ∙ s.number_is;
-          sees = subst (λ (l : List Noted). StartsWith l (seen_by begun.pass)) (sym same) s.sees;
-          each = one_more_holds (Fits answers begun (seen_by pass') (count_of pass')) s.courses (under_way arrival)
-              (all_later (seen_by pass) (seen_by pass') (count_of pass) (count_of pass') s.courses
-              (subst (λ (l : List Noted). StartsWith l (seen_by pass)) (sym same) (starts_whole
-              (seen_by pass))) le s.each)
+          sees = subst (λ (l : List Noted). StartsWith l (seen_by begun.pass)) (sym recounted.seen) s.sees;
+          own = ap (λ (l : List Noted). items_of (number_of begun.pass) (drop (length (seen_by begun.pass)) l))
+              recounted.seen ∙ s.own
+              ∙ ap (λ (l : List Visit). flat_map (added_by (number_of begun.pass)) l)
+              (sym (no_visit_more s.courses arrival));
+          each = one_more_holds (Fits answers begun pass') s.courses (under_way arrival)
+              (all_later pass pass' s.courses (later_recounted pass pass' recounted) s.each)
               (record { fresh = fresh; begins = first }, record { another = another'; below = omega (arith, count) });
           apart = two_more CoursesApart s.courses (under_way arrival)
-              (All-weaker (Fits answers begun (seen_by pass) (count_of pass))
-              (λ course. CoursesApart course (under_way arrival))
-              (new_apart (seen_by pass) (count_of pass) arrival next another'.other) s.courses s.each) s.apart;
+              (All-weaker (Fits answers begun pass) (λ course. CoursesApart course (under_way arrival))
+              (new_apart pass arrival next another'.other) s.courses s.each) s.apart;
           threads_are = are ∙ ap (λ (l : List (Waiting E K W)). l ++ thread_of begun accepted arrival ∷ [])
               s.threads_are
               ∙ ap (λ (n : ℕ). threads_of begun 0 s.courses
@@ -274,39 +323,47 @@ module _ {E K W : Type 0} (answers : AnswersAt E K W) (begun : Begun E K W) wher
     -- it was served with the first pass, and is back
     pub served_here : (pass' : Pass Noted) (shown' : Option Shown) (ending : Ending)
         → IsTalked answers begun.desk begun.users (arrival_of pass link) ending pass' → count_of pass' ≡ count_of pass
-        → shown' ≡ option_map (after_back accepted ending) shown
+        → met_by pass' ≡ met_by pass → shown' ≡ option_map (after_back accepted ending) shown
         → StandsAt answers begun pass' threads (accepted + 1) served.All shown'
-    served_here pass' shown' ending talked count shows' =
-        let talk : Talk = record { arrival = arrival_of pass link; after = seen_by pass'; ending = ending } in
+    served_here pass' shown' ending talked count met shows' =
+        let visit : Visit = record { arrival = arrival_of pass link; after = seen_by pass'; ending = ending } in
         record {
-          courses = s.courses ++ over talk ∷ [];
+          courses = s.courses ++ over visit ∷ [];
           pass_is = talked.pass_is;
           number_is = talked.number_is ∙ s.number_is;
-          sees = starts_through (seen_by pass') (seen_by pass) (seen_by begun.pass) talked.talk.grows s.sees;
-          each = one_more_holds (Fits answers begun (seen_by pass') (count_of pass')) s.courses (over talk)
-              (all_later (seen_by pass) (seen_by pass') (count_of pass) (count_of pass') s.courses talked.talk.grows
-              (omega (arith, count)) s.each)
-              (record { fresh = fresh; begins = s.sees }, talked.talk, starts_whole (seen_by pass'), inl s.number_is);
-          apart = two_more CoursesApart s.courses (over talk)
-              (All-weaker (Fits answers begun (seen_by pass) (count_of pass)) (λ course. CoursesApart course
-              (over talk))
-              (own_apart (seen_by pass) (count_of pass) talk s.number_is refl) s.courses s.each) s.apart;
-          threads_are = s.threads_are ∙ sym (no_thread_more begun 0 s.courses talk);
-          accepted_is = ap (λ (n : ℕ). n + 1) s.accepted_is ∙ omega arith ∙ snoc_length s.courses (over talk);
+          sees = starts_through (seen_by pass') (seen_by pass) (seen_by begun.pass) talked.visit.grows s.sees;
+          own = items_grown (number_of begun.pass) (seen_by begun.pass) (seen_by pass) (seen_by pass') s.sees
+              talked.visit.grows
+              ∙ ap (λ (l : List Noted). l ++ items_of (number_of begun.pass) (drop (length (seen_by pass))
+              (seen_by pass'))) s.own
+              ∙ added_more (number_of begun.pass) s.courses visit s.number_is;
+          each = one_more_holds (Fits answers begun pass') s.courses (over visit)
+              (all_later pass pass' s.courses
+              (record {
+                seen = talked.visit.grows;
+                count = omega (arith, count);
+                met = λ m has. subst (λ (l : List (ℕ × ℕ)). Contains l m) (sym met) has;
+              }) s.each)
+              (record { fresh = fresh; begins = s.sees }, talked.visit, starts_whole (seen_by pass'), inl s.number_is);
+          apart = two_more CoursesApart s.courses (over visit)
+              (All-weaker (Fits answers begun pass) (λ course. CoursesApart course (over visit))
+              (own_apart pass visit s.number_is refl) s.courses s.each) s.apart;
+          threads_are = s.threads_are ∙ sym (no_thread_more begun 0 s.courses visit);
+          accepted_is = ap (λ (n : ℕ). n + 1) s.accepted_is ∙ omega arith ∙ snoc_length s.courses (over visit);
           shown_is = shown_then begun.shown shown shown'
               (showing (suc (length s.courses))
               (map shown_course s.courses ++ newcomer link ∷ []))
               (after_back accepted ending)
-              (showing (length (s.courses ++ over talk ∷ [])) (map shown_course (s.courses ++ over talk ∷ [])))
+              (showing (length (s.courses ++ over visit ∷ [])) (map shown_course (s.courses ++ over visit ∷ [])))
               shown_newcomer shows'
-              (λ x. showing_same (suc (length s.courses)) (length (s.courses ++ over talk ∷ []))
+              (λ x. showing_same (suc (length s.courses)) (length (s.courses ++ over visit ∷ []))
               (came_back accepted ending
               (map shown_course s.courses ++ newcomer link ∷ []))
-              (map shown_course (s.courses ++ over talk ∷ [])) x (snoc_length s.courses (over talk))
+              (map shown_course (s.courses ++ over visit ∷ [])) x (snoc_length s.courses (over visit))
               (ap (λ (n : ℕ). came_back n ending
               (map shown_course s.courses ++ newcomer link ∷ [])) number
               ∙ last_back (map shown_course s.courses) (newcomer link) ending
-              ∙ snoc_map shown_course s.courses (over talk)));
+              ∙ snoc_map shown_course s.courses (over visit)));
         }
 
   -- the doors failed
@@ -318,6 +375,7 @@ module _ {E K W : Type 0} (answers : AnswersAt E K W) (begun : Begun E K W) wher
     pass_is = s.pass_is;
     number_is = s.number_is;
     sees = s.sees;
+    own = s.own;
     each = s.each;
     apart = s.apart;
     threads_are = s.threads_are;
@@ -328,53 +386,61 @@ module _ {E K W : Type 0} (answers : AnswersAt E K W) (begun : Begun E K W) wher
 
   -- ---- at the end
 
-  -- what fits a connection that is over
-  fits_over : (pass : Pass Noted) (talk : Talk) → Fits answers begun (seen_by pass) (count_of pass) (over talk)
-      → WasServed answers begun.desk begun.users (number_of begun.pass) (seen_by begun.pass) (seen_by pass) talk
-  fits_over pass talk (arrived, talked, within, by) = record {
-    arrived = arrived;
-    talked = talked;
-    within = within;
-    by = elim by [ inl own ↦ inl own | inr is ↦ inr is.another ];
-  }
+  module _ (pass : Pass Noted) (told : List Noted) (begins : StartsWith told (seen_by pass))
+      (done : AreDone caller_of (met_by pass) told) where
+    -- what fits a connection that is over
+    fits_over : (visit : Visit) → Fits answers begun pass (over visit)
+        → WasServed answers begun.desk begun.users (number_of begun.pass) (seen_by begun.pass) told visit
+    fits_over visit (arrived, talked, within, by) = record {
+      arrived = arrived;
+      talked = talked;
+      within = starts_through told (seen_by pass) visit.after begins within;
+      by = elim by [
+        | inl own ↦ inl own
+        | inr is ↦ inr (record {
+          another = is.given.another;
+          done = All-contains (λ (m : ℕ × ℕ). NoneOf caller_of m.0 (drop m.1 told)) (met_by pass)
+              (visit.arrival.caller, length visit.after) done is.met;
+        })
+      ];
+    }
 
-  all_served : (pass : Pass Noted) (talks : List Talk)
-      → All (Fits answers begun (seen_by pass) (count_of pass)) (map over talks)
-      → All (WasServed answers begun.desk begun.users (number_of begun.pass) (seen_by begun.pass) (seen_by pass)) talks
-  all_served pass [] all =
-      All-nil (WasServed answers begun.desk begun.users (number_of begun.pass) (seen_by begun.pass) (seen_by pass))
-  all_served pass (talk ∷ talks) all =
-      All-cons (WasServed answers begun.desk begun.users (number_of begun.pass) (seen_by begun.pass) (seen_by pass))
-      talk talks
-      (fits_over pass talk
-      (All-head (Fits answers begun (seen_by pass) (count_of pass)) (over talk) (map over talks) all))
-      (all_served pass talks
-      (All-tail (Fits answers begun (seen_by pass) (count_of pass)) (over talk) (map over talks) all))
+    all_served : (visits : List Visit) → All (Fits answers begun pass) (map over visits)
+        → All (WasServed answers begun.desk begun.users (number_of begun.pass) (seen_by begun.pass) told) visits
+    all_served [] all =
+        All-nil (WasServed answers begun.desk begun.users (number_of begun.pass) (seen_by begun.pass) told)
+    all_served (visit ∷ visits) all =
+        All-cons (WasServed answers begun.desk begun.users (number_of begun.pass) (seen_by begun.pass) told) visit
+        visits
+        (fits_over visit (All-head (Fits answers begun pass) (over visit) (map over visits) all))
+        (all_served visits (All-tail (Fits answers begun pass) (over visit) (map over visits) all))
 
-  -- where no thread is left, all have talked
-  pub ends : (pass : Pass Noted) (threads : List (Waiting E K W)) (accepted limit : ℕ) (end : Served)
-      (shown : Option Shown) → length threads ≡ 0 → HasAccepted limit end accepted
-      → StandsAt answers begun pass threads accepted end shown
-      → HaveTalked answers begun.desk begun.users (number_of begun.pass) (seen_by begun.pass) (seen_by pass) limit end
-      begun.shown shown
-  ends pass threads accepted limit end shown none counts s =
-      let talks = talks_of s.courses in
-      let over_all : s.courses ≡ map over talks = all_over begun 0 s.courses
-      (sym (ap (λ (l : List (Waiting E K W)). length l) s.threads_are) ∙ none) in
-      let count : length s.courses ≡ length talks =
-      ap (λ (l : List Course). length l) over_all ∙ count_over talks in
-      record {
-        talks = talks;
-        each = all_served pass talks
-            (subst (λ (l : List Course). All (Fits answers begun (seen_by pass) (count_of pass)) l) over_all s.each);
-        apart = apart_over talks (subst (λ (l : List Course). OfAnyTwo CoursesApart l) over_all s.apart);
-        sees = s.sees;
-        accepted = subst (λ (n : ℕ). HasAccepted limit end n) (s.accepted_is ∙ count) counts;
-        shown_is = s.shown_is ∙ ap (λ (h : Shown → Shown). option_map h begun.shown)
-            (ap (λ (n : ℕ). showing (asked end n) (map shown_course s.courses)) count
-            ∙ ap (λ (l : List Connection). showing (asked end (length talks)) l)
-            (ap (λ (l : List Course). map shown_course l) over_all ∙ shown_over talks));
-      }
+    -- where no thread is left, all have talked
+    pub ends : (limit : ℕ) (end : Served) (shown : Option Shown)
+        → NoneOf caller_of (number_of pass) (drop (length (seen_by pass)) told)
+        → HaveAllTalked answers begun pass limit end shown
+        → HaveTalked answers begun.desk begun.users (number_of begun.pass) (seen_by begun.pass) told limit end
+        begun.shown shown
+    ends limit end shown not_own all =
+        let s = all.stands in
+        let visits = visits_of s.courses in
+        let over_all : s.courses ≡ map over visits = all_over begun 0 s.courses
+        (sym (ap (λ (l : List (Waiting E K W)). length l) s.threads_are)) in
+        let count : length s.courses ≡ length visits =
+        ap (λ (l : List Course). length l) over_all ∙ count_over visits in
+        record {
+          visits = visits;
+          each = all_served visits (subst (λ (l : List Course). All (Fits answers begun pass) l) over_all s.each);
+          apart = apart_over visits (subst (λ (l : List Course). OfAnyTwo CoursesApart l) over_all s.apart);
+          sees = starts_through told (seen_by pass) (seen_by begun.pass) begins s.sees;
+          own = items_same (number_of begun.pass) (seen_by begun.pass) (seen_by pass) told s.sees begins
+              (subst (λ (n : ℕ). NoneOf caller_of n (drop (length (seen_by pass)) told)) s.number_is not_own) ∙ s.own;
+          accepted = subst (λ (n : ℕ). HasAccepted limit end n) (s.accepted_is ∙ count) all.counts;
+          shown_is = s.shown_is ∙ ap (λ (h : Shown → Shown). option_map h begun.shown)
+              (ap (λ (n : ℕ). showing (asked end n) (map shown_course s.courses)) count
+              ∙ ap (λ (l : List Connection). showing (asked end (length visits)) l)
+              (ap (λ (l : List Course). map shown_course l) over_all ∙ shown_over visits));
+        }
 
 -- ---- the same, of who accepts
 
@@ -393,6 +459,7 @@ pub record HasSplit {E K W : Type 0} (desk : Desk E K W) (pass pass' own : Pass 
   pub own_seen : seen_by own ≡ seen_by pass
   pub next : count_of pass ≤ number_of own
   pub counted : count_of pass' ≡ number_of own + 1
+  pub met : met_by pass' ≡ met_by pass
   pub other : number_of own ≢ number_of pass
   pub unused : NoneOf caller_of (number_of own) (drop (length (list_at desk)) (seen_by own))
 
@@ -464,14 +531,14 @@ module _ {E K W : Type 0} (answers : AnswersAt E K W) where
     -- so it is for a pass that has seen the same
     pub asked_again : (result : Accepting E K W) → result.begun ≡ acceptor.begun → result.accepted ≡ acceptor.accepted
         → result.end ≡ acceptor.end → result.threads ≡ acceptor.threads → IsPass acceptor.begun.desk result.pass
-        → seen_by result.pass ≡ seen_by acceptor.pass → number_of result.pass ≡ number_of acceptor.pass
-        → count_of acceptor.pass ≤ count_of result.pass → HasAsked answers result link shown
-    asked_again result begun accepted end threads is seen number le = record {
+        → number_of result.pass ≡ number_of acceptor.pass → HasRecounted acceptor.pass result.pass
+        → HasAsked answers result link shown
+    asked_again result begun accepted end threads is number recounted = record {
       before = has.before;
       stands = stands_as result acceptor.begun result.pass acceptor.threads acceptor.accepted acceptor.end has.before
           begun refl threads accepted end
           (recounts answers acceptor.begun acceptor.threads acceptor.accepted acceptor.end has.before acceptor.pass
-          result.pass is seen number le has.stands);
+          result.pass is number recounted has.stands);
       end_is = end ∙ has.end_is;
       fresh = has.fresh;
       shown_is = has.shown_is;
@@ -480,13 +547,14 @@ module _ {E K W : Type 0} (answers : AnswersAt E K W) where
     -- it was served with the first pass
     pub served_own : (pass' : Pass Noted) (shown' : Option Shown) (ending : Ending)
         → IsTalked answers acceptor.begun.desk acceptor.begun.users (arrival_of acceptor.pass link) ending pass'
-        → count_of pass' ≡ count_of acceptor.pass → shown' ≡ option_map (after_back acceptor.accepted ending) shown
+        → count_of pass' ≡ count_of acceptor.pass → met_by pass' ≡ met_by acceptor.pass
+        → shown' ≡ option_map (after_back acceptor.accepted ending) shown
         → StandsAt answers acceptor.begun pass' acceptor.threads (acceptor.accepted + 1) acceptor.end shown'
-    served_own pass' shown' ending talked count shows =
+    served_own pass' shown' ending talked count met shows =
         subst (λ (e : Served). StandsAt answers acceptor.begun pass' acceptor.threads (acceptor.accepted + 1) e shown')
         (sym has.end_is)
         (served_here answers acceptor.begun acceptor.threads acceptor.accepted shown has.before acceptor.pass link
-        has.fresh stands_before has.shown_is pass' shown' ending talked count shows)
+        has.fresh stands_before has.shown_is pass' shown' ending talked count met shows)
 
     module _ (pass' own : Pass Noted) (split : HasSplit acceptor.begun.desk acceptor.pass pass' own) where
       -- a thread serves it
@@ -498,8 +566,9 @@ module _ {E K W : Type 0} (answers : AnswersAt E K W) where
           (sym has.end_is)
           (starts answers acceptor.begun acceptor.threads acceptor.accepted shown has.before acceptor.pass link
           has.fresh
-          stands_before has.shown_is pass' own threads' split.pass_is split.seen split.number
-          (omega (arith, split.next, split.counted)) split.own_seen split.next split.counted
+          stands_before has.shown_is pass' own threads' split.pass_is split.number
+          (record { seen = split.seen; count = omega (arith, split.next, split.counted); met = split.met })
+          split.own_seen split.next split.counted
           (record { other = split.other; unused = split.unused })
           (are ∙ ap (λ (v : Waiting E K W). acceptor.threads ++ v ∷ []) is))
 
@@ -534,23 +603,26 @@ module _ {E K W : Type 0} (answers : AnswersAt E K W) where
       s))
 
   -- where no thread is left
-  pub ended : (acceptor : Accepting E K W) (begun : Begun E K W) (limit : ℕ) (shown : Option Shown)
-      → acceptor.begun ≡ begun → length acceptor.threads ≡ 0 → HasAccepted limit acceptor.end acceptor.accepted
-      → Stands answers acceptor shown
-      → HaveTalked answers begun.desk begun.users (number_of begun.pass) (seen_by begun.pass) (seen_by acceptor.pass)
-      limit acceptor.end begun.shown shown
-  ended acceptor begun limit shown same none accepted s =
-      ends answers begun acceptor.pass acceptor.threads acceptor.accepted limit acceptor.end shown none accepted
-      (subst (λ (b : Begun E K W). StandsAt answers b acceptor.pass acceptor.threads acceptor.accepted acceptor.end
-      shown)
-      same s)
-
-  pub ended_pass : (acceptor : Accepting E K W) (begun : Begun E K W) (shown : Option Shown) → acceptor.begun ≡ begun
-      → Stands answers acceptor shown
-      → IsPass begun.desk acceptor.pass × (number_of acceptor.pass ≡ number_of begun.pass)
-  ended_pass acceptor begun shown same s =
-      subst (λ (b : Begun E K W). IsPass b.desk acceptor.pass × (number_of acceptor.pass ≡ number_of b.pass)) same
-      (s.pass_is, s.number_is)
+  pub ended : (acceptor : Accepting E K W) (begun : Begun E K W) (pass : Pass Noted) (limit : ℕ) (end end' : Served)
+      (accepted : ℕ) (shown : Option Shown) → acceptor.begun ≡ begun → pass ≡ acceptor.pass → end ≡ acceptor.end
+      → acceptor.end ≡ end' → acceptor.accepted ≡ accepted → length acceptor.threads ≡ 0
+      → HasAccepted limit end' accepted → Stands answers acceptor shown
+      → HaveAllTalked answers begun pass limit end shown
+  ended acceptor begun pass limit end end' accepted shown same pass_is end_is end'_is accepted_is none counts s =
+      record {
+        accepted = accepted;
+        counts = subst (λ (e : Served). HasAccepted limit e accepted) (sym (end_is ∙ end'_is)) counts;
+        stands = subst (λ (b : Begun E K W). StandsAt answers b pass [] accepted end shown) same
+            (subst (λ (p : Pass Noted). StandsAt answers acceptor.begun p [] accepted end shown) (sym pass_is)
+            (subst (λ (e : Served). StandsAt answers acceptor.begun acceptor.pass [] accepted e shown) (sym end_is)
+            (subst (λ (n : ℕ). StandsAt answers acceptor.begun acceptor.pass [] n acceptor.end shown) accepted_is
+            (subst (λ (l : List (Waiting E K W)). StandsAt answers acceptor.begun acceptor.pass l acceptor.accepted
+            acceptor.end shown) (no_threads acceptor.threads none) s))));
+      }
+    where
+      no_threads : (l : List (Waiting E K W)) → length l ≡ 0 → l ≡ []
+      no_threads [] is = refl
+      no_threads (w ∷ ws) is = absurd (omega arith)
 
 -- steady doors never fail
 pub never_fails : (end : Served) (steady steady' : Bool) (failures failures' : ℕ)

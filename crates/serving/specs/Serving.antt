@@ -1,11 +1,12 @@
 -- Many connections that are served at one desk: what each of them was answered, and what is left of them all.
-use Rattle.std.specs.Prelude.{◌≡◌, ◌≢◌, ◌⊎◌, ℕ, zero, suc, ◌+◌, ◌<◌, ◌≤◌, List, [], ◌∷◌, All, map, length, drop, Option, None, Some, IfSome}
+use Rattle.std.specs.Prelude.{◌≡◌, ◌≢◌, ◌⊎◌, ℕ, zero, suc, ◌+◌, ◌==◌, ◌<◌, ◌≤◌, List, [], ◌∷◌, ◌++◌, All, map, length, drop, Option, None, Some, IfSome, if◌then◌else◌}
+use Rattle.std.specs.List.{Contains, filter, flat_map}
 use Rattle.std.specs.Option.{option_map}
 use Rattle.cell_value.specs.Calls.{one_more}
 use Rattle.cell_value.specs.FaultCount.{Rose}
 use Rattle.sheets_http.specs.declared.request.Wire.{Wire}
 use Rattle.history_lock.specs.History.{StartsWith, NoneOf}
-use Rattle.history_lock.specs.Passes.{seen_by, number_of, count_of}
+use Rattle.history_lock.specs.Passes.{seen_by, number_of, count_of, met_by}
 use Rattle.history_lock.specs.declared.pass.Pass.{Pass}
 use Rattle.desk.specs.declared.desk.Desk.{Desk}
 use Rattle.desk.specs.declared.entry.Entry.{Entry}
@@ -33,7 +34,7 @@ pub record Arrival : Type 0 where
   pub link : LinkSeen
 
 -- a connection that was served: how it was accepted, the list that its caller had seen at the end, and how it ended
-pub record Talk : Type 0 where
+pub record Visit : Type 0 where
   pub arrival : Arrival
   pub after : List Noted
   pub ending : Ending
@@ -45,7 +46,7 @@ AnswersAt E K W = Desk E K W → UserTable → ℕ → List Noted → Wire → L
 
 -- The requests of a link were answered by calls of the desk, from the list that the caller had seen before to the one
 -- that it had seen after; it ended as their talk does, or was cut off.
-pub record IsTalk {E K W : Type 0} (answers : AnswersAt E K W) (desk : Desk E K W) (users : UserTable)
+pub record IsVisit {E K W : Type 0} (answers : AnswersAt E K W) (desk : Desk E K W) (users : UserTable)
     (arrival : Arrival) (after : List Noted) (ending : Ending) : Type 0 where
   pub served : IsConversation (answers desk users arrival.caller) longest_talk arrival.link.left
       (at_moment arrival.before arrival.link.written arrival.link.shortages)
@@ -67,23 +68,39 @@ pub record HasArrived (first : List Noted) (arrival : Arrival) : Type 0 where
   pub fresh : IsFresh arrival.link
   pub begins : StartsWith arrival.before first
 
--- A connection was served at the desk, where the first caller has this number and had seen the first items, and the
--- last items were seen by all: by the first caller, or by another that made no call before.
+-- another's only visit: since the opening none of its items is among those that it had seen before the visit, and none
+-- of the list's behind those that it had seen at the end
+pub record IsOnlyVisit {E K W : Type 0} (desk : Desk E K W) (number : ℕ) (told : List Noted) (visit : Visit) : Type 0
+  where
+    pub another : IsAnother desk number visit.arrival
+    pub done : NoneOf caller_of visit.arrival.caller (drop (length visit.after) told)
+
+-- A connection was served at the desk, whose list is told, where the first caller has this number and had seen the
+-- first items: by the first caller, or by another, all of whose items since the opening were added in this visit.
 pub record WasServed {E K W : Type 0} (answers : AnswersAt E K W) (desk : Desk E K W)
-    (users : UserTable) (number : ℕ) (first last : List Noted) (talk : Talk) : Type 0 where
-  pub arrived : HasArrived first talk.arrival
-  pub talked : IsTalk answers desk users talk.arrival talk.after talk.ending
-  pub within : StartsWith last talk.after
-  pub by : (talk.arrival.caller ≡ number) ⊎ IsAnother desk number talk.arrival
+    (users : UserTable) (number : ℕ) (first told : List Noted) (visit : Visit) : Type 0 where
+  pub arrived : HasArrived first visit.arrival
+  pub talked : IsVisit answers desk users visit.arrival visit.after visit.ending
+  pub within : StartsWith told visit.after
+  pub by : (visit.arrival.caller ≡ number) ⊎ IsOnlyVisit desk number told visit
 
 -- no item is of both: their callers differ, or the later one's had seen before it all that the other's had after it
-abbrev pub AreApart : Talk → Talk → Type 0
-AreApart talk later = (talk.arrival.caller ≢ later.arrival.caller) ⊎ StartsWith later.arrival.before talk.after
+abbrev pub AreApart : Visit → Visit → Type 0
+AreApart visit later = (visit.arrival.caller ≢ later.arrival.caller) ⊎ StartsWith later.arrival.before visit.after
 
 -- so it is of any two of the list, of which the one stands before the other
 abbrev pub OfAnyTwo : {A : Type 0} → (A → A → Type 0) → List A → Type 0
 OfAnyTwo R [] = Unit {0}
 OfAnyTwo R (x ∷ xs) = All (R x) xs × OfAnyTwo R xs
+
+-- the items of this caller, in order
+abbrev pub items_of : ℕ → List Noted → List Noted
+items_of number items = filter (λ item. caller_of item == number) items
+
+-- what the caller of this number added in a visit; nothing, where it is another's
+abbrev pub added_by : ℕ → Visit → List Noted
+added_by number visit =
+    if visit.arrival.caller == number then items_of number (drop (length visit.arrival.before) visit.after) else []
 
 -- ---- all connections
 
@@ -103,8 +120,8 @@ counted_up zero count = count
 counted_up (suc more) count = one_more (counted_up more count)
 
 -- a connection that is back, as doors show it
-abbrev pub connection_of : Talk → Connection
-connection_of talk = record { held = talk.arrival.link.left; back = Some talk.ending }
+abbrev pub connection_of : Visit → Connection
+connection_of visit = record { held = visit.arrival.link.left; back = Some visit.ending }
 
 -- what doors show that were asked for connections so often, and accepted these
 abbrev pub showing : ℕ → List Connection → Shown → Shown
@@ -114,25 +131,28 @@ showing calls connections shown = record {
   connections = connections;
 }
 
--- What was served before the desk was closed, of a caller with this number that had seen the first items, and has seen
--- the last ones at the end: the connections, in the order of accepting, and what the doors showed before and show.
+-- What was served at a desk, whose list is told, by a caller with this number that had seen the first items, and by
+-- others: the connections, in the order of accepting, and what the doors showed before and show. Behind the first items
+-- the caller's own are those that it added in its visits, one visit after another.
 pub record HaveTalked {E K W : Type 0} (answers : AnswersAt E K W) (desk : Desk E K W) (users : UserTable) (number : ℕ)
-    (first last : List Noted) (limit : ℕ) (end : Served) (shown shown' : Option Shown) : Type 0 where
-  pub talks : List Talk
-  pub each : All (WasServed answers desk users number first last) talks
-  pub apart : OfAnyTwo AreApart talks
-  pub sees : StartsWith last first
-  pub accepted : HasAccepted limit end (length talks)
-  pub shown_is : shown' ≡ option_map (showing (asked end (length talks)) (map connection_of talks)) shown
+    (first told : List Noted) (limit : ℕ) (end : Served) (shown shown' : Option Shown) : Type 0 where
+  pub visits : List Visit
+  pub each : All (WasServed answers desk users number first told) visits
+  pub apart : OfAnyTwo AreApart visits
+  pub sees : StartsWith told first
+  pub own : items_of number (drop (length first) told) ≡ flat_map (added_by number) visits
+  pub accepted : HasAccepted limit end (length visits)
+  pub shown_is : shown' ≡ option_map (showing (asked end (length visits)) (map connection_of visits)) shown
 
--- What serving many connections came to, by the pass that was given: the history is that of a list that begins with
--- all that the connections' callers have seen, and goes on without the given pass.
+-- What serving many connections came to, by the pass that was given: the history is that of the list that the desk told
+-- when it was closed by this pass, as it was at the end. Items of callers that have no visit aren't spoken of.
 pub record AreServed {E K W : Type 0} (answers : AnswersAt E K W) (desk : Desk E K W)
     (users : UserTable) (pass : Pass Noted) (limit : ℕ) (end : Served) (shown shown' : Option Shown)
-    (entries : List Entry) (failures : ℕ) : Type 0 where
-  pub last : List Noted
-  pub talked : HaveTalked answers desk users (number_of pass) (seen_by pass) last limit end shown shown'
-  pub closed : IsClosed (pair_at desk).1 (callers_at desk) (number_of pass) last entries failures
+    (entries : List Entry) (failures : ℕ) (kept : Option (List ℕ)) : Type 0 where
+  pub last : Pass Noted
+  pub number_is : number_of last ≡ number_of pass
+  pub closed : IsClosed (pair_at desk).1 (callers_at desk) last entries failures kept
+  pub talked : HaveTalked answers desk users (number_of pass) (seen_by pass) closed.told limit end shown shown'
 
 -- ---- while connections are accepted
 
@@ -168,29 +188,37 @@ pub record IsTalked {E K W : Type 0} (answers : AnswersAt E K W) (desk : Desk E 
     (users : UserTable) (arrival : Arrival) (ending : Ending) (pass : Pass Noted) : Type 0 where
   pub pass_is : IsPass desk pass
   pub number_is : number_of pass ≡ arrival.caller
-  pub talk : IsTalk answers desk users arrival (seen_by pass) ending
+  pub visit : IsVisit answers desk users arrival (seen_by pass) ending
 
--- the pass took in another: it has seen what both have seen
+-- the pass took in another: it has seen what both have seen, and what is new to it isn't its own
 pub record HasMet {E K W : Type 0} (desk : Desk E K W) (pass other met : Pass Noted) : Type 0 where
   pub pass_is : IsPass desk met
   pub number_is : number_of met ≡ number_of pass
   pub count : count_of pass ≤ count_of met
   pub mine : StartsWith (seen_by met) (seen_by pass)
   pub theirs : StartsWith (seen_by met) (seen_by other)
+  pub own : NoneOf caller_of (number_of pass) (drop (length (seen_by pass)) (seen_by met))
+  pub met_is : met_by met ≡ met_by pass ++ (number_of other, length (seen_by other)) ∷ met_by other
 
 -- a connection is under way, or over
 pub data Course : Type 0 where
   under_way : Arrival → Course
-  over : Talk → Course
+  over : Visit → Course
 
 abbrev pub start_of : Course → Arrival
 start_of (under_way arrival) = arrival
-start_of (over talk) = talk.arrival
+start_of (over visit) = visit.arrival
 
 -- as doors show it
 abbrev pub shown_course : Course → Connection
 shown_course (under_way arrival) = record { held = arrival.link.left; back = None }
-shown_course (over talk) = connection_of talk
+shown_course (over visit) = connection_of visit
+
+-- those that are over
+abbrev pub visits_of : List Course → List Visit
+visits_of [] = []
+visits_of (under_way arrival ∷ courses) = visits_of courses
+visits_of (over visit ∷ courses) = visit ∷ visits_of courses
 
 -- the thread of a connection with this number
 abbrev pub thread_of : {E K W : Type 0} → Begun E K W → ℕ → Arrival → Waiting E K W
@@ -202,27 +230,32 @@ abbrev pub threads_of : {E K W : Type 0} → Begun E K W → ℕ → List Course
 threads_of begun number [] = []
 threads_of begun number (under_way arrival ∷ courses) =
     thread_of begun number arrival ∷ threads_of begun (suc number) courses
-threads_of begun number (over talk ∷ courses) = threads_of begun (suc number) courses
+threads_of begun number (over visit ∷ courses) = threads_of begun (suc number) courses
 
 -- the caller has a number that was given before the count came to this
 pub record IsGiven {E K W : Type 0} (begun : Begun E K W) (count : ℕ) (arrival : Arrival) : Type 0 where
   pub another : IsAnother begun.desk (number_of begun.pass) arrival
   pub below : arrival.caller < count
 
--- what is known of a connection while the list was seen, and so many numbers were drawn
-abbrev pub Fits : {E K W : Type 0} → AnswersAt E K W → Begun E K W → List Noted → ℕ → Course
-    → Type 0
-Fits answers begun seen count (under_way arrival) =
-    HasArrived (seen_by begun.pass) arrival × IsGiven begun count arrival
-Fits answers begun seen count (over talk) =
-    HasArrived (seen_by begun.pass) talk.arrival
-    × IsTalk answers begun.desk begun.users talk.arrival talk.after talk.ending × StartsWith seen talk.after
-    × ((talk.arrival.caller ≡ number_of begun.pass) ⊎ IsGiven begun count talk.arrival)
+-- another than the first caller served the connection, and the pass took in that one's
+pub record IsTakenIn {E K W : Type 0} (begun : Begun E K W) (pass : Pass Noted) (visit : Visit) : Type 0 where
+  pub given : IsGiven begun (count_of pass) visit.arrival
+  pub met : Contains (met_by pass) (visit.arrival.caller, length visit.after)
+
+-- what is known of a connection by the pass of who accepts
+abbrev pub Fits : {E K W : Type 0} → AnswersAt E K W → Begun E K W → Pass Noted → Course → Type 0
+Fits answers begun pass (under_way arrival) =
+    HasArrived (seen_by begun.pass) arrival × IsGiven begun (count_of pass) arrival
+Fits answers begun pass (over visit) =
+    HasArrived (seen_by begun.pass) visit.arrival
+    × IsVisit answers begun.desk begun.users visit.arrival visit.after visit.ending
+    × StartsWith (seen_by pass) visit.after
+    × ((visit.arrival.caller ≡ number_of begun.pass) ⊎ IsTakenIn begun pass visit)
 
 -- no item is of both, where the later one was accepted so
 abbrev pub LeavesApart : Course → Arrival → Type 0
 LeavesApart (under_way arrival) later = arrival.caller ≢ later.caller
-LeavesApart (over talk) later = (talk.arrival.caller ≢ later.caller) ⊎ StartsWith later.before talk.after
+LeavesApart (over visit) later = (visit.arrival.caller ≢ later.caller) ⊎ StartsWith later.before visit.after
 
 abbrev pub CoursesApart : Course → Course → Type 0
 CoursesApart course later = LeavesApart course (start_of later)
@@ -235,7 +268,9 @@ pub record StandsAt {E K W : Type 0} (answers : AnswersAt E K W) (begun : Begun 
   pub pass_is : IsPass begun.desk pass
   pub number_is : number_of pass ≡ number_of begun.pass
   pub sees : StartsWith (seen_by pass) (seen_by begun.pass)
-  pub each : All (Fits answers begun (seen_by pass) (count_of pass)) courses
+  pub own : items_of (number_of begun.pass) (drop (length (seen_by begun.pass)) (seen_by pass))
+      ≡ flat_map (added_by (number_of begun.pass)) (visits_of courses)
+  pub each : All (Fits answers begun pass) courses
   pub apart : OfAnyTwo CoursesApart courses
   pub threads_are : threads ≡ threads_of begun 0 courses
   pub accepted_is : accepted ≡ length courses
@@ -244,6 +279,13 @@ pub record StandsAt {E K W : Type 0} (answers : AnswersAt E K W) (begun : Begun 
 abbrev pub Stands : {E K W : Type 0} → AnswersAt E K W → Accepting E K W → Option Shown → Type 0
 Stands answers acceptor shown =
     StandsAt answers acceptor.begun acceptor.pass acceptor.threads acceptor.accepted acceptor.end shown
+
+-- no thread is left, and so many connections were accepted as were to be
+pub record HaveAllTalked {E K W : Type 0} (answers : AnswersAt E K W) (begun : Begun E K W) (pass : Pass Noted)
+    (limit : ℕ) (end : Served) (shown : Option Shown) : Type 0 where
+  pub accepted : ℕ
+  pub counts : HasAccepted limit end accepted
+  pub stands : StandsAt answers begun pass [] accepted end shown
 
 -- a further connection was accepted, with a link that tells this, and isn't served yet
 pub record HasAsked {E K W : Type 0} (answers : AnswersAt E K W) (acceptor : Accepting E K W)

@@ -2,13 +2,12 @@ ghost use Rattle.std.specs.Prelude.{◌≡◌, ◌+◌, ◌<◌, ◌≤◌, [], 
 ghost use Rattle.std.specs.Option.{option_map};
 ghost use Rattle.cell_value.specs.FaultCount.{last_count, Rose};
 ghost use Rattle.sheets_http.specs.Outside.{StaysSteady};
-ghost use Rattle.history_lock.specs.Passes.{seen_by, number_of, count_of};
+ghost use Rattle.history_lock.specs.Passes.{count_of, met_by};
 ghost use Rattle.desk.specs.Desks.{IsPass};
-ghost use Rattle.desk.specs.Points.{Keeps};
 ghost use Rattle.connections.specs.Calls.{IsAnswer};
 ghost use Rattle.connections.specs.Doors.{link_seen, IsAway, after_accept, after_back};
 ghost use Rattle.serving.specs.Serving.{IsTalked, HasMet, Stands, HasAsked, IsSame, HasOneMore};
-ghost use Rattle.serving.specs.Serving.{HasAccepted, HaveTalked, AreServed, arrival_of};
+ghost use Rattle.serving.specs.Serving.{HasAccepted, HaveAllTalked, AreServed, arrival_of};
 
 use cell_value::Failed;
 use connections::{Doors, converse};
@@ -128,6 +127,7 @@ fn talk<R: Wait, D: Doors, E: Engine, K: Keeper>(
         (arrival_of pass (link_seen D.Link.left D.Link.written D.Link.faults D.Link.sink_faults D.Link.sink_shortages
         link)) (record { ended = result.ended; link = D.rest_seen result.rest }) result.pass }
     ensures count { count_of result.pass ≡ count_of pass }
+    ensures met { met_by result.pass ≡ met_by pass }
 {
     let mut link = link;
     let (ended, pass) = converse(rt, alloc, &mut link, desk, users, pass, LONGEST_TALK);
@@ -554,10 +554,12 @@ where
     requires pass { IsPass desk.now pass }
     requires new_doors { IfSome (D.shown doors.old) (λ shown. shown.connections ≡ []) }
     ensures name { result.2.ghost_name ≡ doors.entry.ghost_name }
-    ensures pass { IsPass desk.now result.1 }
-    ensures number { number_of result.1 ≡ number_of pass }
-    ensures talked { HaveTalked (IsAnswer E.plain K.failures K.steady) desk.now users.now (number_of pass)
-        (seen_by pass) (seen_by result.1) limit result.0 (D.shown doors.entry.now) (D.shown result.2.now) }
+    ensures talked { HaveAllTalked (IsAnswer E.plain K.failures K.steady) (record {
+      desk = desk.now;
+      users = users.now;
+      pass = pass;
+      shown = D.shown doors.entry.now;
+    }) result.1 limit result.0 (D.shown result.2.now) }
     ensures cause { result.0 ≡ Served.DoorFault
         → Rose (D.failures doors.entry.now) (D.failures result.2.now) }
     ensures later { D.failures doors.entry.now ≤ D.failures result.2.now }
@@ -593,10 +595,12 @@ where
     requires pass { IsPass desk.now pass }
     requires new_doors { IfSome (D.shown doors.old) (λ shown. shown.connections ≡ []) }
     ensures name { result.2.ghost_name ≡ doors.entry.ghost_name }
-    ensures pass { IsPass desk.now result.1 }
-    ensures number { number_of result.1 ≡ number_of pass }
-    ensures talked { HaveTalked (IsAnswer E.plain K.failures K.steady) desk.now users.now (number_of pass)
-        (seen_by pass) (seen_by result.1) limit result.0 (D.shown doors.entry.now) (D.shown result.2.now) }
+    ensures talked { HaveAllTalked (IsAnswer E.plain K.failures K.steady) (record {
+      desk = desk.now;
+      users = users.now;
+      pass = pass;
+      shown = D.shown doors.entry.now;
+    }) result.1 limit result.0 (D.shown result.2.now) }
     ensures cause { result.0 ≡ Served.DoorFault
         → Rose (D.failures doors.entry.now) (D.failures result.2.now) }
     ensures later { D.failures doors.entry.now ≤ D.failures result.2.now }
@@ -610,11 +614,12 @@ where
             requires pass { IsPass desk.now pass }
             requires new_doors { IfSome (D.shown doors.now) (λ shown. shown.connections ≡ []) }
             ensures name { result.2.ghost_name ≡ doors.entry.ghost_name }
-            ensures pass { IsPass desk.entry.now result.1 }
-            ensures number { number_of result.1 ≡ number_of pass }
-            ensures talked { HaveTalked (IsAnswer E.plain K.failures K.steady) desk.entry.now users.entry.now
-                (number_of pass) (seen_by pass) (seen_by result.1) limit result.0 (D.shown doors.entry.now)
-                (D.shown result.2.now) }
+            ensures talked { HaveAllTalked (IsAnswer E.plain K.failures K.steady) (record {
+              desk = desk.entry.now;
+              users = users.entry.now;
+              pass = pass;
+              shown = D.shown doors.entry.now;
+            }) result.1 limit result.0 (D.shown result.2.now) }
             ensures cause { result.0 ≡ Served.DoorFault
                 → Rose (D.failures doors.entry.now) (D.failures result.2.now) }
             ensures later { D.failures doors.entry.now ≤ D.failures result.2.now }
@@ -645,10 +650,12 @@ where
     E::World: Send,
     requires pass { IsPass desk.now pass }
     requires new_doors { IfSome (D.shown doors.old) (λ shown. shown.connections ≡ []) }
-    ensures pass { IsPass desk.now result.1 }
-    ensures number { number_of result.1 ≡ number_of pass }
-    ensures talked { HaveTalked (IsAnswer E.plain K.failures K.steady) desk.now users.now (number_of pass)
-        (seen_by pass) (seen_by result.1) limit result.0 (D.shown doors.old) (D.shown doors.new) }
+    ensures talked { HaveAllTalked (IsAnswer E.plain K.failures K.steady) (record {
+      desk = desk.now;
+      users = users.now;
+      pass = pass;
+      shown = D.shown doors.old;
+    }) result.1 limit result.0 (D.shown doors.new) }
     ensures cause { result.0 ≡ Served.DoorFault → Rose (D.failures doors.old) (D.failures doors.new) }
     ensures later { D.failures doors.old ≤ D.failures doors.new }
     ensures stays { StaysSteady (D.steady doors.old) (D.steady doors.new) (D.failures doors.old)
@@ -682,13 +689,11 @@ where
     requires pass { IsPass desk pass }
     requires new_doors { IfSome (D.shown doors.old) (λ shown. shown.connections ≡ []) }
 
-    // What each connection was answered, what the doors show of it, and a history that has the calls of each. No clause
-    // says that it has no others.
+    // What each connection was answered, what the doors show of it, and a history that has the calls of each: those of
+    // the given pass and of each that served a connection, and no others of theirs. No clause says that no further pass
+    // made any. What the keeper has is the journal of the history, as at the desk's closing.
     ensures served { AreServed (IsAnswer E.plain K.failures K.steady) desk users.now pass limit result.0
-        (D.shown doors.old) (D.shown doors.new) result.1 (K.failures result.2) }
-
-    // What the keeper has begins with the journal of the history, where there is an entry.
-    ensures kept { Keeps (K.kept result.2) result.1 }
+        (D.shown doors.old) (D.shown doors.new) result.1 (K.failures result.2) (K.kept result.2) }
 
     // The doors are told to have failed only where they did in this call.
     ensures cause { result.0 ≡ Served.DoorFault → Rose (D.failures doors.old) (D.failures doors.new) }

@@ -1,7 +1,7 @@
-//! The program: the words, the input and the outputs of the system, handed to `sheets_main`.
+//! The program: the words, the input, the outputs and the sockets of the system, handed to `sheets_main`.
 #![tactic(auto)]
 
-use sheets_cli::{Input, Output, sheets_main};
+use sheets_cli::{Input, Output, TcpDoors, sheets_main};
 use std::process::ExitCode;
 use std::{env, io};
 
@@ -20,7 +20,16 @@ fn main(rt: HostRuntime) -> ExitCode {
     let mut input = Input::new(rt.reader());
     let mut output = Output::output(io::writer(&stdout));
     let mut faults = Output::faults(io::writer(&stderr));
-    ExitCode::from(sheets_main(&rt, words.as_slice(), &mut input, &mut output, &mut faults))
+    let mut doors = TcpDoors::new(&rt);
+    let status = sheets_main(
+        &rt,
+        words.as_slice(),
+        &mut input,
+        &mut output,
+        &mut faults,
+        &mut doors,
+    );
+    ExitCode::from(status)
 }
 
 /// The words behind the program's name.

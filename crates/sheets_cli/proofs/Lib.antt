@@ -1,3 +1,8 @@
 pub mod Statuses
 pub mod SendLemmas
-pub mod Words
+pub mod Given
+pub mod Numbers
+pub mod Options
+pub mod Settings
+pub mod Commands
+pub mod ServeLemmas

@@ -1,9 +1,10 @@
 -- Sending one list of bytes after another, and lines that may be cut.
 use Rattle.std.proofs.Common.{◌≡◌, ℕ, ◌+◌, ◌≤◌, List, [], ◌++◌, length, min, take, drop, Option, None, Some}
-use Rattle.std.proofs.Common.{Result, Ok, Err, IfSome, inl, inr, refl, sym, ◌∙◌, ap, arith}
+use Rattle.std.proofs.Common.{Result, Ok, Err, true, false, IfSome, inl, inr, refl, sym, ◌∙◌, ap, arith}
 use Rattle.std.proofs.lemmas.List.{append-nil, take-append-drop, take-append-le, take_min}
 use Rattle.std.proofs.Math.Seq.{take-append-add}
 use Rattle.std.specs.Option.{option_map}
+use Rattle.std.specs.Result.{IsErr}
 use Rattle.sheets_http.specs.declared.outside.SinkFault.{SinkFault}
 use Rattle.conversation.specs.Exchanges.{Sends}
 use Rattle.sheets_http.specs.declared.outside.SinkFault.TheVariants as fault
@@ -68,3 +69,13 @@ Sends-cut before after a b fault cut =
     let same : take (min cut.0 (length a)) (a ++ b) ≡ take cut.0 a = take-append-le (min cut.0 (length a)) a b within
     ∙ take_min cut.0 a in
     (min cut.0 (length a), rw same cut.1)
+
+-- whatever fault is told
+pub Sends-cut-so : (before after : Option (List ℕ)) (a b : List ℕ) (fault : SinkFault)
+    (sent : Result (Unit {0}) SinkFault) → IsErr sent → Sends before after a (Err fault)
+    → Sends before after (a ++ b) sent
+Sends-cut-so before after a b fault (Ok done) is cut = absurd (not_err is)
+  where
+    not_err : false ≡ true → ⊥
+    not_err e = cc
+Sends-cut-so before after a b fault (Err other) is cut = Sends-cut before after a b fault cut

@@ -1,5 +1,5 @@
 -- The status of the program, and the end of its talk.
-use Rattle.std.proofs.Common.{◌≡◌, ℕ, List, Option, None, Some, IfSome, ◌⊎◌, inl, inr, ◌∙◌, ap}
+use Rattle.std.proofs.Common.{◌≡◌, ◌≢◌, ℕ, List, Option, None, Some, IfSome, ◌⊎◌, inl, inr, ◌∙◌, ap, arith}
 use Rattle.sheets_http.specs.declared.request.Wire.{Wire}
 use Rattle.sheets_http.specs.Framing.{End, ended, asked, closed, truncated, long_talk, Talk}
 use Rattle.sheets_http.specs.Laws.{HasOneTalk}
@@ -44,3 +44,49 @@ pub exactly_as : HasOneTalk → (left : Option (List ℕ)) (room : ℕ) (result 
 exactly_as one None room result status Read Write is ends read write = tt
 exactly_as one (Some bytes) room result status Read Write is ends read write = exactly_at one room bytes result status
     Read Write is ends read write
+
+-- no end has the status of words that are no command
+pub never_usage : (end : Ended) → status_of end ≢ 2
+never_usage how.End is = omega (arith, is)
+never_usage how.Asked is = omega (arith, is)
+never_usage (how.Closed fault) is = omega (arith, is)
+never_usage how.ReadFault is = omega (arith, is)
+never_usage how.NoMemory is = omega (arith, is)
+never_usage how.WriteFault is = omega (arith, is)
+never_usage (how.Truncated count) is = omega (arith, is)
+never_usage how.LongTalk is = omega (arith, is)
+
+-- the status of a cut request comes at one
+cut_at : (end : Ended) (room : ℕ) (bytes : List ℕ) → status_of end ≡ 5 → EndsAs room bytes end
+    → (count : ℕ) × HasEnd room bytes (truncated count)
+cut_at how.End room bytes is ends = absurd (omega (arith, is))
+cut_at how.Asked room bytes is ends = absurd (omega (arith, is))
+cut_at (how.Closed fault) room bytes is ends = absurd (omega (arith, is))
+cut_at how.ReadFault room bytes is ends = absurd (omega (arith, is))
+cut_at how.NoMemory room bytes is ends = absurd (omega (arith, is))
+cut_at how.WriteFault room bytes is ends = absurd (omega (arith, is))
+cut_at (how.Truncated count) room bytes is ends = (count, ends)
+cut_at how.LongTalk room bytes is ends = absurd (omega (arith, is))
+
+pub cut_where : (left : Option (List ℕ)) (end : Ended) (room : ℕ) → status_of end ≡ 5
+    → IfSome left (λ bytes. EndsAs room bytes end)
+    → IfSome left (λ bytes. (count : ℕ) × HasEnd room bytes (truncated count))
+cut_where None end room is ends = tt
+cut_where (Some bytes) end room is ends = cut_at end room bytes is ends
+
+-- the status of the bound comes there
+long_at : (end : Ended) (room : ℕ) (bytes : List ℕ) → status_of end ≡ 8 → EndsAs room bytes end
+    → HasEnd room bytes long_talk
+long_at how.End room bytes is ends = absurd (omega (arith, is))
+long_at how.Asked room bytes is ends = absurd (omega (arith, is))
+long_at (how.Closed fault) room bytes is ends = absurd (omega (arith, is))
+long_at how.ReadFault room bytes is ends = absurd (omega (arith, is))
+long_at how.NoMemory room bytes is ends = absurd (omega (arith, is))
+long_at how.WriteFault room bytes is ends = absurd (omega (arith, is))
+long_at (how.Truncated count) room bytes is ends = absurd (omega (arith, is))
+long_at how.LongTalk room bytes is ends = ends
+
+pub long_where : (left : Option (List ℕ)) (end : Ended) (room : ℕ) → status_of end ≡ 8
+    → IfSome left (λ bytes. EndsAs room bytes end) → IfSome left (λ bytes. HasEnd room bytes long_talk)
+long_where None end room is ends = tt
+long_where (Some bytes) end room is ends = long_at end room bytes is ends

@@ -1,8 +1,7 @@
--- The program's commands: which words are one, and with which status and line it ends.
-use Rattle.std.specs.Prelude.{◌≡◌, ℕ, List, [], ◌∷◌, ◌++◌, ◌⊎◌, map, codes, String, string_bytes, Option, Some, None, IfSome}
+-- The program's commands: with which status and line each ends, and what `run` does.
+use Rattle.std.specs.Prelude.{◌≡◌, ℕ, List, [], ◌++◌, ◌⊎◌, codes, Option, Some, None, IfSome}
 use Rattle.std.specs.Option.{option_map}
 use Rattle.std.specs.Fmt.{decimal}
-use Rattle.std.specs.declared.alloc.Global.{Global}
 use Rattle.conversation.specs.declared.ended.Ended.{Ended}
 use Rattle.conversation.specs.declared.ended.Ended.TheVariants.{End, Asked, Closed, Truncated, LongTalk, ReadFault}
 use Rattle.conversation.specs.declared.ended.Ended.TheVariants.{WriteFault, NoMemory}
@@ -15,11 +14,7 @@ use Rattle.connections.specs.Calls.{UserTable}
 use Rattle.connections.specs.Alone.{IsReply, IsResponse}
 use Rattle.sheet_engine.specs.Replay.{Plain}
 
--- the words are the command `run`
-abbrev pub IsRun : List (String Global) → Type 0
-IsRun words = map string_bytes words ≡ codes "run" ∷ []
-
--- the status with which a conversation that ended so ends the program
+-- the status with which a command that ended so ends the program
 abbrev pub status_of : Ended → ℕ
 status_of End = 0
 status_of Asked = 0
@@ -30,11 +25,15 @@ status_of WriteFault = 4
 status_of (Truncated count) = 5
 status_of LongTalk = 8
 
+-- a line of this text and a count
+abbrev pub count_line : List ℕ → ℕ → List ℕ
+count_line text count = text ++ (decimal count ++ codes "\n")
+
 -- the line for a stream that ended inside a request, of which it has so many bytes
 abbrev pub truncated_line : ℕ → List ℕ
-truncated_line count = codes "truncated " ++ (decimal count ++ codes "\n")
+truncated_line count = count_line (codes "truncated ") count
 
--- the line on the faults of a conversation that ended so, and the line feed behind it
+-- the line on the faults of a command that ended so, and the line feed behind it
 abbrev pub line_of : Ended → List ℕ
 line_of End = []
 line_of Asked = []

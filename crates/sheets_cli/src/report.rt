@@ -1,27 +1,41 @@
-ghost use Rattle.std.specs.Prelude.{◌≡◌, ◌≤◌, ◌++◌, codes};
+ghost use Rattle.std.specs.Prelude.{◌≡◌, ◌≢◌, ◌≤◌, ◌++◌, codes, IsTrue};
 ghost use Rattle.std.specs.Fmt.{decimal};
 ghost use Rattle.cell_value.specs.FaultCount.{Rose};
 ghost use Rattle.conversation.specs.Conversation.{Counts};
 ghost use Rattle.conversation.specs.Exchanges.{Sends};
-ghost use Rattle.sheets_cli.specs.Program.{truncated_line, line_of, Says};
+ghost use Rattle.sheets_cli.specs.Program.{count_line, truncated_line, line_of, status_of, Says};
 
 use conversation::Ended;
 use sheets_http::{Sink, SinkFault, send_all};
 
+/// The status of a command that ended so.
+pub(crate) fn status(ended: Ended) -> u8
+    ensures { result ≡ status_of ended }
+{
+    match ended {
+        Ended::End | Ended::Asked | Ended::Closed(_) => 0,
+        Ended::ReadFault => 1,
+        Ended::NoMemory => 3,
+        Ended::WriteFault => 4,
+        Ended::Truncated(_) => 5,
+        Ended::LongTalk => 8,
+    }
+}
+
 /// Writes a line; where that fails, it is cut.
 pub(crate) fn say<S: Sink>(faults: &mut S, line: &[u8])
-    ensures says { Says (S.written faults.old) (S.written faults.new) (S.sink_faults faults.old) (S.sink_faults faults.new)
-        (S.sink_shortages faults.old) (S.sink_shortages faults.new) line.now }
+    ensures says { Says (S.written faults.old) (S.written faults.new) (S.sink_faults faults.old)
+        (S.sink_faults faults.new) (S.sink_shortages faults.old) (S.sink_shortages faults.new) line.now }
     ensures counts { Counts (S.sink_faults faults.old) (S.sink_faults faults.new) (S.sink_steady faults.old)
         (S.sink_steady faults.new) }
 {
     let _ = send_all(faults, line);
 }
 
-/// Writes the line on the faults of a conversation that ended so; where that fails, it is cut.
+/// Writes the line on the faults of a command that ended so; where that fails, it is cut.
 pub(crate) fn report<S: Sink>(faults: &mut S, ended: Ended)
-    ensures says { Says (S.written faults.old) (S.written faults.new) (S.sink_faults faults.old) (S.sink_faults faults.new)
-        (S.sink_shortages faults.old) (S.sink_shortages faults.new) (line_of ended) }
+    ensures says { Says (S.written faults.old) (S.written faults.new) (S.sink_faults faults.old)
+        (S.sink_faults faults.new) (S.sink_shortages faults.old) (S.sink_shortages faults.new) (line_of ended) }
     ensures counts { Counts (S.sink_faults faults.old) (S.sink_faults faults.new) (S.sink_steady faults.old)
         (S.sink_steady faults.new) }
 {
@@ -37,38 +51,43 @@ pub(crate) fn report<S: Sink>(faults: &mut S, ended: Ended)
 
 /// Writes the line for a stream that ended inside a request; where that fails, it is cut.
 fn say_truncated<S: Sink>(faults: &mut S, count: u64)
-    ensures says { Says (S.written faults.old) (S.written faults.new) (S.sink_faults faults.old) (S.sink_faults faults.new)
-        (S.sink_shortages faults.old) (S.sink_shortages faults.new) (truncated_line count) }
+    ensures says { Says (S.written faults.old) (S.written faults.new) (S.sink_faults faults.old)
+        (S.sink_faults faults.new) (S.sink_shortages faults.old) (S.sink_shortages faults.new) (truncated_line count) }
     ensures counts { Counts (S.sink_faults faults.old) (S.sink_faults faults.new) (S.sink_steady faults.old)
         (S.sink_steady faults.new) }
 {
-    let _ = send_truncated(faults, count);
+    let _ = send_line(faults, b"truncated ", count);
 }
 
-fn send_truncated<S: Sink>(faults: &mut S, count: u64) -> Result<(), SinkFault>
-    ensures sends { Sends (S.written faults.old) (S.written faults.new) (truncated_line count) result }
-    ensures counts { Counts (S.sink_faults faults.old) (S.sink_faults faults.new) (S.sink_steady faults.old)
-        (S.sink_steady faults.new) }
-    ensures cause { result ≡ Err SinkFault.Failed → Rose (S.sink_faults faults.old) (S.sink_faults faults.new) }
-    ensures short { result ≡ Err SinkFault.NoMemory → Rose (S.sink_shortages faults.old) (S.sink_shortages faults.new) }
+/// Sends a line of a text and a count.
+pub(crate) fn send_line<S: Sink>(sink: &mut S, text: &[u8], count: u64) -> Result<(), SinkFault>
+    ensures sends { Sends (S.written sink.old) (S.written sink.new) (count_line text.now count) result }
+    ensures counts { Counts (S.sink_faults sink.old) (S.sink_faults sink.new) (S.sink_steady sink.old)
+        (S.sink_steady sink.new) }
+    ensures cause { result ≡ Err SinkFault.Failed → Rose (S.sink_faults sink.old) (S.sink_faults sink.new) }
+    ensures short { result ≡ Err SinkFault.NoMemory → Rose (S.sink_shortages sink.old) (S.sink_shortages sink.new) }
+    ensures short_later { S.sink_shortages sink.old ≤ S.sink_shortages sink.new }
+    ensures unfailing { IsTrue (S.sink_steady sink.old) → result ≢ Err SinkFault.Failed }
 {
-    match send_all(faults, b"truncated ") {
-        Ok(()) => send_count(faults, count),
+    match send_all(sink, text) {
+        Ok(()) => send_count(sink, count),
         Err(fault) => Err(fault),
     }
 }
 
 /// Sends a number in decimal, and a line feed.
-fn send_count<S: Sink>(faults: &mut S, count: u64) -> Result<(), SinkFault>
-    ensures sends { Sends (S.written faults.old) (S.written faults.new) (decimal count ++ codes "\n") result }
-    ensures counts { Counts (S.sink_faults faults.old) (S.sink_faults faults.new) (S.sink_steady faults.old)
-        (S.sink_steady faults.new) }
-    ensures cause { result ≡ Err SinkFault.Failed → Rose (S.sink_faults faults.old) (S.sink_faults faults.new) }
-    ensures short { result ≡ Err SinkFault.NoMemory → Rose (S.sink_shortages faults.old) (S.sink_shortages faults.new) }
+fn send_count<S: Sink>(sink: &mut S, count: u64) -> Result<(), SinkFault>
+    ensures sends { Sends (S.written sink.old) (S.written sink.new) (decimal count ++ codes "\n") result }
+    ensures counts { Counts (S.sink_faults sink.old) (S.sink_faults sink.new) (S.sink_steady sink.old)
+        (S.sink_steady sink.new) }
+    ensures cause { result ≡ Err SinkFault.Failed → Rose (S.sink_faults sink.old) (S.sink_faults sink.new) }
+    ensures short { result ≡ Err SinkFault.NoMemory → Rose (S.sink_shortages sink.old) (S.sink_shortages sink.new) }
+    ensures short_later { S.sink_shortages sink.old ≤ S.sink_shortages sink.new }
+    ensures unfailing { IsTrue (S.sink_steady sink.old) → result ≢ Err SinkFault.Failed }
 {
     let mut digits = itoa::Buffer::new();
-    match send_all(faults, digits.format(count).as_bytes()) {
-        Ok(()) => send_all(faults, b"\n"),
+    match send_all(sink, digits.format(count).as_bytes()) {
+        Ok(()) => send_all(sink, b"\n"),
         Err(fault) => Err(fault),
     }
 }

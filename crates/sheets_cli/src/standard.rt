@@ -52,7 +52,7 @@ impl<R: Read> Source for Input<R> {
 }
 
 /// Reads, and again where that was interrupted.
-fn read_again<R: Read>(reader: &mut R, into: &mut [u8]) -> io::Result<usize>
+pub(crate) fn read_again<R: Read>(reader: &mut R, into: &mut [u8]) -> io::Result<usize>
     ensures { ReadsAtMost result into.new }
 {
     for _ in 0..u64::MAX {
@@ -131,7 +131,7 @@ impl<A: Write, B: Write> Sink for Output<A, B> {
 }
 
 /// Writes, and again where that was interrupted.
-fn write_again<W: Write>(writer: &mut W, bytes: &[u8]) -> io::Result<usize>
+pub(crate) fn write_again<W: Write>(writer: &mut W, bytes: &[u8]) -> io::Result<usize>
     ensures { WritesAtMost result bytes.now }
 {
     for _ in 0..u64::MAX {

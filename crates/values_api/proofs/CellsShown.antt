@@ -17,6 +17,7 @@ use Rattle.cell_calc.specs.Book.{Place, Cell, stored}
 use Rattle.cell_calc.specs.Calculated.{AreValues, IsValueIn, IsStoredFormula, StoredValues}
 use Rattle.cell_calc.specs.Contents.{IsCell}
 use Rattle.cell_calc.specs.Known.{value_known}
+use Rattle.world_model.specs.Book.{PlaceBook}
 use Rattle.world_model.specs.Sheet.{PlaceSheet}
 use Rattle.world_model.specs.Sound.{place_sheet_with}
 use Rattle.values_api.specs.Reading.{value_told}
@@ -48,24 +49,24 @@ module _ (sheets : Sheets) where
   truth_shows Formula truth = refl
 
 -- what is stored, and a formula's value, are the values of an area's cells
-module _ (laws : StoredValues) (sheets : List PlaceSheet) (area : Area) (sheet : PlaceSheet)
-    (there : place_sheet_with area.sheet sheets ≡ Some sheet) (told : Place → Option Value) where
+module _ (laws : StoredValues) (book : PlaceBook) (area : Area) (sheet : PlaceSheet)
+    (there : place_sheet_with area.sheet book.sheets ≡ Some sheet) (told : Place → Option Value) where
   abbrev place_at : ℕ → ℕ → Place
   place_at row col = record { sheet = area.sheet; row = row; column = col }
 
-  stored_there : (row col : ℕ) → (stored_in sheets).content (place_at row col) ≡ item_at sheet.table row col
+  stored_there : (row col : ℕ) → (stored_in book).content (place_at row col) ≡ item_at sheet.table row col
   stored_there row col = ap (option_and_then (λ (one : PlaceSheet). item_at one.table row col)) there
 
   -- without a formula
   plain_value : (row col : ℕ) (found : Option Content) (value : Value) → item_at sheet.table row col ≡ found
-      → ((cell : Cell) → IsCell found cell → cell ≡ stored value) → IsValueIn (stored_in sheets) (place_at row col) value
+      → ((cell : Cell) → IsCell found cell → cell ≡ stored value) → IsValueIn (stored_in book) (place_at row col) value
   plain_value row col found value is only =
-      laws (stored_in sheets) (place_at row col) value
+      laws (stored_in book) (place_at row col) value
       (λ one is_one. only one (subst (λ o. IsCell o one) (stored_there row col ∙ is) is_one))
 
-  value_of : AreValues (stored_in sheets) (area ∷ []) told → (row col : ℕ) → Holds area row col
+  value_of : AreValues (stored_in book) (area ∷ []) told → (row col : ℕ) → Holds area row col
       → (found : Option Content) → item_at sheet.table row col ≡ found
-      → IsValueIn (stored_in sheets) (place_at row col) (value_by found (value_known told (place_at row col)))
+      → IsValueIn (stored_in book) (place_at row col) (value_by found (value_known told (place_at row col)))
   value_of values row col holds None is = plain_value row col None value.Blank is (λ one is_one. is_one)
   value_of values row col holds (Some (content.Number n)) is =
       plain_value row col (Some (content.Number n)) (value.Number n) is (λ one is_one. is_one)
@@ -77,8 +78,8 @@ module _ (laws : StoredValues) (sheets : List PlaceSheet) (area : Area) (sheet :
       values.formulas (place_at row col) (subst IsStoredFormula (sym (stored_there row col ∙ is)) tt)
       (area, Contains-head area [], (refl, holds))
 
-  pub values_shown : (render : Render) → TellsShown render sheets area told
-      → AreShownValues render sheets area (value_told area sheet told)
+  pub values_shown : (render : Render) → TellsShown render book area told
+      → AreShownValues render book area (value_told area sheet told)
   values_shown Formatted values = λ row col holds. value_of values row col holds (item_at sheet.table row col) refl
   values_shown Unformatted values = λ row col holds. value_of values row col holds (item_at sheet.table row col) refl
   values_shown Formula values = tt

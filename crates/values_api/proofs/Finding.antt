@@ -4,6 +4,8 @@ use Rattle.std.specs.Prelude.{Option, Some, None, IsSomeAnd, Result, Ok, Err, If
 use Rattle.std.specs.List.{All, find}
 use Rattle.grid_range.specs.Area.{AreaWithin}
 use Rattle.grid_range.specs.declared.area.Area.{Area}
+use Rattle.named_ranges.specs.Listed.{is_same_name, with_name}
+use Rattle.named_ranges.specs.declared.range.NamedRange.{NamedRange}
 use Rattle.world_model.specs.Book.{PlaceBook}
 use Rattle.world_model.specs.Sheet.{PlaceSheet}
 use Rattle.world_model.specs.Sound.{IsSheetSound, IsSound, place_sheet_with}
@@ -38,6 +40,13 @@ pub sound_sheet : (book : PlaceBook) → IsSound book → (id : ℕ) (sheet : Pl
     → place_sheet_with id book.sheets ≡ Some sheet → IsSheetSound book.sheets sheet
 sound_sheet book sound id sheet is =
     holds_of_found (IsSheetSound book.sheets) (λ (one : PlaceSheet). one.id == id) book.sheets sheet sound.sheets is
+
+-- a named range of a sound spreadsheet is on a sheet that is there
+pub range_there : (book : PlaceBook) → IsSound book → (name : List ℕ) (range : NamedRange)
+    → with_name name book.ranges ≡ Some range → IsThere book.sheets range.area
+range_there book sound name range is =
+    holds_of_found (λ (one : NamedRange). IsThere book.sheets one.area)
+    (λ (one : NamedRange). is_same_name name one.name) book.ranges range sound.ranges is
 
 -- an area of a sheet that was looked for is of one that is found by its id
 pub of_found : (test : PlaceSheet → Bool) (sheets : List PlaceSheet) (area : Area)

@@ -23,9 +23,11 @@ use Rattle.ref_rewrite.specs.declared.cell_content.Content.{Content}
 use Rattle.ref_rewrite.specs.declared.cell_content.Content.TheVariants as content
 use Rattle.ref_rewrite.specs.declared.pieces.Piece.{Piece}
 use Rattle.ref_rewrite.specs.declared.pieces.Piece.TheVariants as piece
+use Rattle.named_ranges.specs.Listed.{with_name}
+use Rattle.named_ranges.specs.declared.range.NamedRange.{NamedRange}
 use Rattle.cell_calc.specs.Book.{Place}
 use Rattle.cell_calc.specs.Calculated.{IsValueIn, ValuesOnce}
-use Rattle.cell_calc.specs.Contents.{AreSound, AreStoredPlaces, IsContentSound, IsPieceWithin as IsPieceThere}
+use Rattle.cell_calc.specs.Contents.{AreSound, AreStoredPlaces, HasArea, IsContentSound, IsPieceWithin as IsPieceThere}
 use Rattle.dimension_ops.specs.Found.{ArePlacesOf}
 use Rattle.world_model.specs.Book.{PlaceBook}
 use Rattle.world_model.specs.Sheet.{PlaceSheet}
@@ -34,7 +36,7 @@ use Rattle.values_api.specs.Laws.{ReadsOnce}
 use Rattle.values_api.specs.Sheets.{formula_sheets, size_of, stored_in}
 use Rattle.values_api.specs.Shown.{AreShownValues, area_shown, cell_along, cell_of, cell_shown, has_no_cells, height, line_length, line_shown, lines_of, lines_shown, shows_nothing, width, without_empty_end}
 use Rattle.values_api.proofs.Ends.{has_line_behind}
-use Rattle.values_api.proofs.Finding.{sound_sheet}
+use Rattle.values_api.proofs.Finding.{range_there, sound_sheet}
 
 -- ---- a spreadsheet as its formulas read it
 
@@ -104,48 +106,54 @@ module _ (book : PlaceBook) (sound : IsSound book) where
   area_there area None within = absurd within
   area_there area (Some sheet) within = within
 
-  piece_there : (one : Piece) → IsPieceWithin sheets one → IsPieceThere (stored_in sheets) one
+  piece_there : (one : Piece) → IsPieceWithin sheets one → IsPieceThere (stored_in book) one
   piece_there (piece.Text text) within = tt
   piece_there (piece.Word word) within = tt
   piece_there (piece.Ref reference) within =
       area_there reference.area (place_sheet_with reference.area.sheet sheets) within.0
   piece_there piece.Lost within = tt
 
-  content_sound : (one : Content) → IsContentWithin sheets one → IsContentSound (stored_in sheets) one
+  content_sound : (one : Content) → IsContentWithin sheets one → IsContentSound (stored_in book) one
   content_sound (content.Number number) within = tt
   content_sound (content.Text text) within = tt
   content_sound (content.Truth truth) within = tt
   content_sound (content.Formula formula) within = λ k d there. piece_there (get_or formula.pieces k d) (within k d there)
 
-  held_sound : (held : Option Content) → IfSome held (IsContentWithin sheets) → IfSome held (IsContentSound (stored_in sheets))
+  held_sound : (held : Option Content) → IfSome held (IsContentWithin sheets) → IfSome held (IsContentSound (stored_in book))
   held_sound None within = tt
   held_sound (Some one) within = content_sound one within
 
   formulas_sound : (place : Place) (found : Option PlaceSheet) → place_sheet_with place.sheet sheets ≡ found
-      → IfSome (option_and_then (λ sheet. item_at sheet.table place.row place.column) found) (IsContentSound (stored_in sheets))
+      → IfSome (option_and_then (λ sheet. item_at sheet.table place.row place.column) found) (IsContentSound (stored_in book))
   formulas_sound place None is = tt
   formulas_sound place (Some sheet) is =
       held_sound (item_at sheet.table place.row place.column)
       ((sound_sheet book sound place.sheet sheet is).within place.row place.column)
 
-  pub cells_sound : AreSound (stored_in book.sheets)
+  name_there : (word : List ℕ) (found : Option NamedRange) → with_name word book.ranges ≡ found
+      → IfSome (option_map (λ (range : NamedRange). range.area) found) (HasArea (stored_in book))
+  name_there word None is = tt
+  name_there word (Some range) is =
+      area_there range.area (place_sheet_with range.area.sheet sheets) (range_there book sound word range is)
+
+  pub cells_sound : AreSound (stored_in book)
   cells_sound = record {
     once = ids_apart book.sheets sound.distinct;
     sized = λ id. (sized_there id book.sheets, there_sized id book.sheets);
     inside = λ place some. place_there place (place_sheet_with place.sheet book.sheets) refl some;
     formulas = λ place. formulas_sound place (place_sheet_with place.sheet book.sheets) refl;
-    names = λ word. tt;
+    names = λ word. name_there word (with_name word book.ranges) refl;
   }
 
 -- the places where something is stored
-module _ (sheets : List PlaceSheet) (area : Area) (places : List (ℕ × ℕ)) where
+module _ (book : PlaceBook) (area : Area) (places : List (ℕ × ℕ)) where
   no_places : places ≡ [] → IsStrictlySortedBy by_rows places
   unfolding IsStrictlySortedBy
   no_places none = subst (IsStrictlySortedBy by_rows) (sym none) tt
 
-  stored_by : (found : Option PlaceSheet) → place_sheet_with area.sheet sheets ≡ found
+  stored_by : (found : Option PlaceSheet) → place_sheet_with area.sheet book.sheets ≡ found
       → MatchOption found (places ≡ []) (λ sheet. AreFilledPlaces area sheet.table places)
-      → AreStoredPlaces (stored_in sheets) area places
+      → AreStoredPlaces (stored_in book) area places
   stored_by None is none = record {
     in_order = no_places none;
     exactly = λ row col. (
@@ -162,8 +170,8 @@ module _ (sheets : List PlaceSheet) (area : Area) (places : List (ℕ × ℕ)) w
         (sym is) (filled.exactly row col);
   }
 
-  pub places_stored : ArePlacesOf area sheets places → AreStoredPlaces (stored_in sheets) area places
-  places_stored are = stored_by (place_sheet_with area.sheet sheets) refl are
+  pub places_stored : ArePlacesOf area book.sheets places → AreStoredPlaces (stored_in book) area places
+  places_stored are = stored_by (place_sheet_with area.sheet book.sheets) refl are
 
 -- ---- what a read shows
 
@@ -189,18 +197,18 @@ module _ (once : ValuesOnce) (book : PlaceBook) (sound : IsSound book) (area : A
 
   same_value : (row col : ℕ) → row < height area sheet → col < width area sheet
       → ((row col : ℕ) → Holds area row col
-      → IsValueIn (stored_in book.sheets) (record { sheet = area.sheet; row = row; column = col }) (values row col))
+      → IsValueIn (stored_in book) (record { sheet = area.sheet; row = row; column = col }) (values row col))
       → ((row col : ℕ) → Holds area row col
-      → IsValueIn (stored_in book.sheets) (record { sheet = area.sheet; row = row; column = col }) (values' row col))
+      → IsValueIn (stored_in book) (record { sheet = area.sheet; row = row; column = col }) (values' row col))
       → values (first_line area.rows + row) (first_line area.cols + col)
       ≡ values' (first_line area.rows + row) (first_line area.cols + col)
   same_value row col few short are are' =
       let holds : Holds area (first_line area.rows + row) (first_line area.cols + col) =
       (has_line_behind area.rows sheet.table.rows row few, has_line_behind area.cols sheet.table.cols col short) in
-      once (stored_in book.sheets) (cells_sound book sound) _ _ _ (are _ _ holds) (are' _ _ holds)
+      once (stored_in book) (cells_sound book sound) _ _ _ (are _ _ holds) (are' _ _ holds)
 
-  same_cell : (render : Render) → AreShownValues render book.sheets area values
-      → AreShownValues render book.sheets area values' → (row col : ℕ) → row < height area sheet → col < width area sheet
+  same_cell : (render : Render) → AreShownValues render book area values
+      → AreShownValues render book area values' → (row col : ℕ) → row < height area sheet → col < width area sheet
       → shown_by render values row col ≡ shown_by render values' row col
   same_cell Formatted are are' row col few short =
       ap (cell_shown (formula_sheets book.sheets) Formatted
@@ -212,8 +220,8 @@ module _ (once : ValuesOnce) (book : PlaceBook) (sound : IsSound book) (area : A
       (same_value row col few short are are')
   same_cell Formula are are' row col few short = refl
 
-  same_area : (columns_first : Bool) (render : Render) → AreShownValues render book.sheets area values
-      → AreShownValues render book.sheets area values'
+  same_area : (columns_first : Bool) (render : Render) → AreShownValues render book area values
+      → AreShownValues render book area values'
       → area_shown (formula_sheets book.sheets) area columns_first render sheet values
       ≡ area_shown (formula_sheets book.sheets) area columns_first render sheet values'
   same_area true render are are' =

@@ -18,8 +18,8 @@ use Rattle.values_api.specs.declared.writing.Written.{Written}
 -- a read shows one thing of an area of a sound spreadsheet
 pub record ReadsOnce : Type 0 where
   pub once : (book : PlaceBook) (area : Area) (columns_first : Bool) (render : Render) (sheet : PlaceSheet)
-      (lines lines' : List (List Cell)) → IsSound book → IsAreaShown book.sheets area columns_first render sheet lines
-      → IsAreaShown book.sheets area columns_first render sheet lines' → lines ≡ lines'
+      (lines lines' : List (List Cell)) → IsSound book → IsAreaShown book area columns_first render sheet lines
+      → IsAreaShown book area columns_first render sheet lines' → lines ≡ lines'
 
 -- a write makes one thing of the cells of a sound spreadsheet, and has one answer
 pub record WritesOnce : Type 0 where

@@ -1,6 +1,7 @@
--- What a range text names in a spreadsheet (Google Sheets API v4 guide, A1 notation).
+-- What a range text names in a spreadsheet (Google Sheets API v4 guide, A1 notation; reference, NamedRange).
 use Rattle.std.specs.Prelude.{◌≡◌, ℕ, Bool, List, Option, None, Some, Result, Ok, Err, ◌&&◌, nat_lt, if◌then◌else◌}
 use Rattle.std.specs.Prelude.{IsSomeAnd, ⊤}
+use Rattle.std.specs.Option.{option_map_or}
 use Rattle.grid_range.specs.Area.{AreaWithin, cut_area}
 use Rattle.grid_range.specs.Band.{IsNonEmpty, end_line, first_line}
 use Rattle.grid_range.specs.declared.area.Area.{Area}
@@ -14,6 +15,9 @@ use Rattle.a1_notation.specs.declared.a1.A1Fault.TheVariants as fault
 use Rattle.a1_notation.specs.declared.a1.Part.{Part}
 use Rattle.a1_notation.specs.declared.a1.Part.TheVariants.{Cells, WholeSheet, Word}
 use Rattle.formula_reader.specs.ReferenceText.{is_one_cell}
+use Rattle.named_ranges.specs.Listed.{with_name}
+use Rattle.named_ranges.specs.declared.range.NamedRange.{NamedRange}
+use Rattle.world_model.specs.Book.{PlaceBook}
 use Rattle.world_model.specs.Sheet.{PlaceSheet}
 use Rattle.world_model.specs.Sound.{place_sheet_with}
 use Rattle.dimension_ops.specs.Titles.{sheet_titled, first_visible}
@@ -47,18 +51,27 @@ part_of_sheet (Cells rows cols) sheet = on_found NoSheet rows cols sheet
 part_of_sheet WholeSheet sheet = on_found NoSheet Whole Whole sheet
 part_of_sheet (Word word) sheet = Err BadRange
 
--- or of the first visible one; a word is a sheet's title
-abbrev pub part_of : List PlaceSheet → Option (List ℕ) → Part → Result FoundArea Rule
-part_of sheets (Some title) part = part_of_sheet part (sheet_titled title sheets)
-part_of sheets None (Cells rows cols) = on_found NoSheet rows cols (first_visible sheets)
-part_of sheets None (Word word) = on_found BadRange Whole Whole (sheet_titled word sheets)
-part_of sheets None WholeSheet = Err BadRange
+-- the cells of a named range, which are on its sheet
+abbrev pub of_range : NamedRange → FoundArea
+of_range range = (range.area, is_one_cell range.area.rows range.area.cols)
+
+-- a word is the name of a named range, or else the title of a sheet
+abbrev pub part_called : List ℕ → PlaceBook → Result FoundArea Rule
+part_called word book = option_map_or (λ range. Ok (of_range range))
+    (with_name word book.ranges) (on_found BadRange Whole Whole (sheet_titled word book.sheets))
+
+-- a part without a title is of the first visible sheet, unless it is a word
+abbrev pub part_of : PlaceBook → Option (List ℕ) → Part → Result FoundArea Rule
+part_of book (Some title) part = part_of_sheet part (sheet_titled title book.sheets)
+part_of book None (Cells rows cols) = on_found NoSheet rows cols (first_visible book.sheets)
+part_of book None (Word word) = part_called word book
+part_of book None WholeSheet = Err BadRange
 
 -- what a text names; one that isn't in A1 notation names nothing
-pub data Resolves (text : List ℕ) (sheets : List PlaceSheet) (answer : Result FoundArea Rule) : Type 0 where
-  named : (range : A1) → Names 3 text range → answer ≡ part_of sheets range.sheet range.part
-      → Resolves text sheets answer
-  unnamed : ((range : A1) → ¬ (Names 3 text range)) → answer ≡ Err BadRange → Resolves text sheets answer
+pub data Resolves (text : List ℕ) (book : PlaceBook) (answer : Result FoundArea Rule) : Type 0 where
+  named : (range : A1) → Names 3 text range → answer ≡ part_of book range.sheet range.part
+      → Resolves text book answer
+  unnamed : ((range : A1) → ¬ (Names 3 text range)) → answer ≡ Err BadRange → Resolves text book answer
 
 -- what a text that isn't read is refused for
 abbrev pub unread : A1Fault → RuleOr

@@ -1,12 +1,14 @@
 -- The sheets of a spreadsheet as its formulas see them (Google Sheets API v4 reference, SheetProperties), and what its
 -- formulas read (CellData, `userEnteredValue`, and NamedRange).
-use Rattle.std.specs.Prelude.{ℕ, List, Option, None, map}
+use Rattle.std.specs.Prelude.{ℕ, List, Option, map}
 use Rattle.std.specs.List.{find}
 use Rattle.std.specs.Option.{option_map}
 use Rattle.std.specs.Str.{bytes_eq, str_to_ascii_lowercase}
 use Rattle.formula_reader.specs.Sheets.{Sheets}
 use Rattle.cell_calc.specs.Contents.{Contents}
 use Rattle.dimension_ops.specs.Found.{content_at}
+use Rattle.named_ranges.specs.Listed.{with_name}
+use Rattle.world_model.specs.Book.{PlaceBook}
 use Rattle.world_model.specs.Sheet.{PlaceSheet}
 use Rattle.world_model.specs.Sound.{place_sheet_with}
 
@@ -23,11 +25,11 @@ formula_sheets sheets = record {
   title = λ id. option_map (λ sheet. sheet.title) (place_sheet_with id sheets);
 }
 
--- a spreadsheet as its formulas read it; no range of it has a name
-abbrev pub stored_in : List PlaceSheet → Contents
-stored_in sheets = record {
-  sheets = map (λ sheet. sheet.id) sheets;
-  size = size_of sheets;
-  content = λ place. content_at place.sheet place.row place.column sheets;
-  named = λ word. None;
+-- a spreadsheet as its formulas read it: a word names the range that has it as its name
+abbrev pub stored_in : PlaceBook → Contents
+stored_in book = record {
+  sheets = map (λ sheet. sheet.id) book.sheets;
+  size = size_of book.sheets;
+  content = λ place. content_at place.sheet place.row place.column book.sheets;
+  named = λ word. option_map (λ range. range.area) (with_name word book.ranges);
 }

@@ -20,6 +20,7 @@ use Rattle.ref_rewrite.specs.declared.cell_content.Content.{Content}
 use Rattle.ref_rewrite.specs.declared.cell_content.Content.TheVariants as content
 use Rattle.formula_reader.specs.Printed.{printed}
 use Rattle.formula_reader.specs.Sheets.{Sheets}
+use Rattle.world_model.specs.Book.{PlaceBook}
 use Rattle.world_model.specs.Sheet.{PlaceSheet}
 use Rattle.values_api.specs.Sheets.{formula_sheets, stored_in}
 
@@ -101,22 +102,22 @@ area_shown sheets area columns_first render sheet values =
     (line_length columns_first area sheet)
 
 -- these are the values of the area's cells, where values are shown
-abbrev pub AreShownValues : Render → List PlaceSheet → Area → (ℕ → ℕ → Value) → Type 0
-AreShownValues Formula sheets area values = ⊤
-AreShownValues _ sheets area values = (row col : ℕ) → Holds area row col
-    → IsValueIn (stored_in sheets) (record { sheet = area.sheet; row = row; column = col }) (values row col)
+abbrev pub AreShownValues : Render → PlaceBook → Area → (ℕ → ℕ → Value) → Type 0
+AreShownValues Formula book area values = ⊤
+AreShownValues _ book area values = (row col : ℕ) → Holds area row col
+    → IsValueIn (stored_in book) (record { sheet = area.sheet; row = row; column = col }) (values row col)
 
 -- the area of a sheet of the spreadsheet is shown by the values of its cells
-pub record IsAreaShown (sheets : List PlaceSheet) (area : Area) (columns_first : Bool) (render : Render)
+pub record IsAreaShown (book : PlaceBook) (area : Area) (columns_first : Bool) (render : Render)
     (sheet : PlaceSheet) (lines : List (List Cell)) : Type 0 where
   pub values : ℕ → ℕ → Value
-  pub values_are : AreShownValues render sheets area values
-  pub lines_are : lines ≡ area_shown (formula_sheets sheets) area columns_first render sheet values
+  pub values_are : AreShownValues render book area values
+  pub lines_are : lines ≡ area_shown (formula_sheets book.sheets) area columns_first render sheet values
 
 -- the values of the area's formulas are told, where values are shown
-abbrev pub TellsShown : Render → List PlaceSheet → Area → (Place → Option Value) → Type 0
-TellsShown Formula sheets area told = ⊤
-TellsShown _ sheets area told = AreValues (stored_in sheets) (area ∷ []) told
+abbrev pub TellsShown : Render → PlaceBook → Area → (Place → Option Value) → Type 0
+TellsShown Formula book area told = ⊤
+TellsShown _ book area told = AreValues (stored_in book) (area ∷ []) told
 
 -- ---- what the private functions hand to one another
 

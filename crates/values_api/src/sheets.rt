@@ -8,8 +8,8 @@ use formula_reader::SheetNames;
 use grid_range::Area;
 use ref_rewrite::Content;
 
-/// A spreadsheet as its formulas see it: its sheets by title, their sizes and titles, and what is stored in their
-/// cells.
+/// A spreadsheet as its formulas see it: its sheets by title, their sizes and titles, what is stored in their cells, and
+/// its named ranges by name.
 #[derive(Drop)]
 pub struct BookCells<'a> {
     book: &'a Book,
@@ -50,7 +50,7 @@ impl<'a> SheetNames for BookCells<'a> {
 }
 
 impl<'a> CellsOf for BookCells<'a> {
-    ghost contents = { λ cells. stored_in cells.book.now.sheets };
+    ghost contents = { λ cells. stored_in cells.book.now };
 
     fn sheets(&self) -> &Items<u32> {
         self.book.sheets()
@@ -71,9 +71,11 @@ impl<'a> CellsOf for BookCells<'a> {
         self.book.places(area)
     }
 
-    /// None: no request gives a range a name.
-    fn name(&self, _word: &str) -> Option<Area> {
-        None
+    fn name(&self, word: &str) -> Option<Area> {
+        match self.book.names().find(word) {
+            Some(range) => Some(range.area),
+            None => None,
+        }
     }
 
     fn stay_sound(&self) {

@@ -44,9 +44,9 @@ pub fn calculate_shown(
     area: &Area,
     render: Render,
 ) -> Result<(), NoMemory>
-    requires { IsTableOf (stored_in book.now.sheets) table.old }
-    ensures table { OnOk result (IsTableOf (stored_in book.now.sheets) table.new) }
-    ensures told { OnOk result (TellsShown render book.now.sheets area.now (values_of table.new)) }
+    requires { IsTableOf (stored_in book.now) table.old }
+    ensures table { OnOk result (IsTableOf (stored_in book.now) table.new) }
+    ensures told { OnOk result (TellsShown render book.now area.now (values_of table.new)) }
 {
     match render {
         Render::Formula => Ok(()),
@@ -71,11 +71,11 @@ pub fn read_values(
     render: Render,
 ) -> Result<Shown, NoMemory>
     requires there { IsThere book.now.sheets area.now }
-    requires told { TellsShown render book.now.sheets area.now (values_of table.now) }
+    requires told { TellsShown render book.now area.now (values_of table.now) }
     ensures area { IfOk result (λ shown. shown.area ≡ area.now) }
     ensures order { IfOk result (λ shown. shown.columns_first ≡ columns_first) }
     ensures values { IfOk result (λ shown. IfSome (place_sheet_with area.now.sheet book.now.sheets)
-        (λ sheet. IsAreaShown book.now.sheets area.now columns_first render sheet shown.values)) }
+        (λ sheet. IsAreaShown book.now area.now columns_first render sheet shown.values)) }
 {
     stored_values();
     book.stays_sound();

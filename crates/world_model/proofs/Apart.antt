@@ -11,6 +11,7 @@ use Rattle.world_model.specs.Sheet.{NameSheet, PlaceSheet}
 use Rattle.world_model.specs.Sound.{IsSheetSound}
 use Rattle.world_model.specs.StandsFor.{SheetStandsFor, BookStandsFor}
 use Rattle.world_model.proofs.ContentsApart.{same_held}
+use Rattle.world_model.proofs.RangesNamed.{ranges_apart}
 
 nothing_there : {T : Type 0} (P : Type 0) (held : Option T) → (is_some held ≡ true → P) → ¬ P → held ≡ None
 nothing_there P None there out = refl
@@ -75,7 +76,10 @@ pub stands_for_apart : TablesByItems Content → (one other : PlaceBook) (names 
 stands_for_apart tables one other names stands stands' =
     ap (λ text. record one { id = text }) (stands.id ∙ sym stands'.id)
     ∙ ap (λ text. record one { id = other.id; title = text }) (stands.title ∙ sym stands'.title)
-    ∙ ap (λ text. record other { owner = text; sheets = one.sheets }) (stands.owner ∙ sym stands'.owner)
-    ∙ ap (λ sheets. record other { sheets = sheets })
+    ∙ ap (λ text. record other { owner = text; sheets = one.sheets; ranges = one.ranges }) (stands.owner ∙ sym stands'.owner)
+    ∙ ap (λ sheets. record other { sheets = sheets; ranges = one.ranges })
     (same_sheets tables names.sheets one.sheets other.sheets stands.sheets stands'.sheets one.sheets other.sheets
     names.sheets stands.sheets stands'.sheets stands.sound.sheets stands'.sound.sheets)
+    ∙ ap (λ ranges. record other { ranges = ranges })
+    (ranges_apart names.sheets one.sheets other.sheets stands.sheets stands'.sheets one.ranges other.ranges
+    stands.sound.ranges stands'.sound.ranges (sym stands.ranges ∙ stands'.ranges))

@@ -1,7 +1,7 @@
 -- A change of lines by places stands for the change by names.
 use Rattle.std.proofs.Common.{◌≡◌, ℕ, ◌<◌, ◌≤◌, refl, sym, ap, subst, ◌∙◌, List, [], ◌∷◌, cond, Bool, true, false, length, ◌&&◌, arith, suc}
 use Rattle.std.specs.Prelude.{Option, None, Some, IfSome, map, slice_get, ◌==◌, Contains}
-use Rattle.std.specs.List.{All, AllZip}
+use Rattle.std.specs.List.{All, AllZip, filter_map}
 use Rattle.std.specs.Option.{option_map}
 use Rattle.std.proofs.lemmas.Bool.{eqb-true, eq-eqb, false≢true, and_parts}
 use Rattle.std.proofs.lemmas.Option.{slice_get_within}
@@ -18,13 +18,16 @@ use Rattle.grid_range.specs.declared.axis.Axis.TheVariants.{Rows, Columns}
 use Rattle.grid_range.specs.declared.change.Change.{Change}
 use Rattle.cell_store.specs.Moved.{lines_on, GoesWithLines}
 use Rattle.cell_store.specs.Table.{Table, item_at}
+use Rattle.named_ranges.specs.Following.{range_followed}
+use Rattle.named_ranges.specs.declared.range.NamedRange.{NamedRange}
 use Rattle.ref_rewrite.specs.declared.cell_content.Content.{Content}
 use Rattle.world_model.specs.Area.{Orders, band_named}
 use Rattle.world_model.specs.Book.{NameBook, PlaceBook, orders_of, sheet_with}
 use Rattle.world_model.specs.Counts.{grid_places}
 use Rattle.world_model.specs.Content.{content_named}
-use Rattle.world_model.specs.LineChange.{LineChange, line_change, sheet_followed, book_changed, name_content_followed}
+use Rattle.world_model.specs.LineChange.{LineChange, line_change, sheet_followed, book_changed, name_content_followed, name_range_followed}
 use Rattle.world_model.specs.PlaceChange.{SheetChanged, BookChanged}
+use Rattle.world_model.specs.Ranges.{range_named}
 use Rattle.world_model.specs.Sheet.{NameSheet, PlaceSheet, lines_of}
 use Rattle.world_model.specs.Sound.{IsSheetSound, IsLineCount, IsContentWithin, most_places, place_sheet_with}
 use Rattle.world_model.specs.StandsFor.{SheetStandsFor, BookStandsFor}
@@ -32,6 +35,7 @@ use Rattle.world_model.proofs.Areas.{FollowsOn, area_follows, other_axis}
 use Rattle.world_model.proofs.Bands.{band_follows}
 use Rattle.world_model.proofs.Contents.{AreasFollow, held_follows}
 use Rattle.world_model.proofs.Counts.{count_after_change}
+use Rattle.world_model.proofs.RangesNamed.{AreOnSheets, ranges_follow}
 use Rattle.world_model.proofs.SoundAfter.{changes_stay_sound}
 use Rattle.world_model.proofs.Found.{IsOwn, FoundByName, found_by_name, own_sheets, lines_if_found, as_long, distinct_on}
 use Rattle.world_model.proofs.Lines.{lines_there, listed}
@@ -101,11 +105,17 @@ module _ (tracks : TracksAll) (places : PlacesAll) (orders_stay : OrdersStay) (p
 
     areas : AreasFollow placed to count change before after
     areas = record {
-      follow = λ area within. area_follows to count change before after area
+      follow = λ area on. area_follows to count change before after area
           (area_here area (found_by_name sheets (λ sheet. AreaWithin area sheet.table.rows sheet.table.cols) area.sheet
-          placed sheets all within.0))
+          placed sheets all on))
           (orders_elsewhere to sheets area.sheet);
     }
+
+    -- the ranges
+    pub named_follow : (ranges : List NamedRange) → AreOnSheets placed ranges
+        → filter_map (name_range_followed to) (map (range_named before) ranges)
+        ≡ map (range_named after) (filter_map (range_followed id axis count change) ranges)
+    named_follow = ranges_follow to count change before after placed areas.follow
 
     -- a sheet
     module _ (sheet sheet' : PlaceSheet) (names : NameSheet) (stands : SheetStandsFor sheets sheet names)
@@ -244,23 +254,29 @@ module _ (tracks : TracksAll) (places : PlacesAll) (orders_stay : OrdersStay) (w
       → Changes change count (orders_of names.sheets id axis) fresh order
       → BookChanged id axis count change before after → grid_places after.sheets ≤ most_places
       → BookStandsFor after (book_changed id axis (order_change change fresh) names)
-  changes_follow before after names id axis count change fresh order stands fits room changes changed few = record {
-    sound = changes_stay_sound within below before after id axis count change stands.sound fits room
-        (subst (λ n. IfSome (place_sheet_with id before.sheets)
-        (λ sheet. lines_on axis sheet.table.rows sheet.table.cols ≡ n)) changes.long
-        (lines_if_found before.sheets names.sheets id axis stands.sheets))
-        changed few;
-    id = changed.id ∙ stands.id;
-    title = changed.title ∙ stands.title;
-    owner = changed.owner ∙ stands.owner;
-    sheets = sheets_follow tracks places orders_stay before.sheets names.sheets stands.sheets id axis count change fresh fits
-        (record {
-          distinct = changes.distinct;
-          long = changes.long;
-          inserts = changes.inserts;
-          made = changes.made;
-          result = refl;
-        })
-        before.sheets after.sheets names.sheets stands.sheets
-        (own_sheets before.sheets names.sheets stands.sheets stands.sound.distinct) stands.sound.sheets changed.sheets;
-  }
+  changes_follow before after names id axis count change fresh order stands fits room changes changed few =
+      let to = line_change names.sheets id axis (order_change change fresh) in
+      let made : Changes change count (orders_of names.sheets id axis) fresh to.order = record {
+        distinct = changes.distinct;
+        long = changes.long;
+        inserts = changes.inserts;
+        made = changes.made;
+        result = refl;
+      } in
+      record {
+        sound = changes_stay_sound within below before after id axis count change stands.sound fits room
+            (subst (λ n. IfSome (place_sheet_with id before.sheets)
+            (λ sheet. lines_on axis sheet.table.rows sheet.table.cols ≡ n)) changes.long
+            (lines_if_found before.sheets names.sheets id axis stands.sheets))
+            changed few;
+        id = changed.id ∙ stands.id;
+        title = changed.title ∙ stands.title;
+        owner = changed.owner ∙ stands.owner;
+        sheets = sheets_follow tracks places orders_stay before.sheets names.sheets stands.sheets id axis count change fresh fits
+            made before.sheets after.sheets names.sheets stands.sheets
+            (own_sheets before.sheets names.sheets stands.sheets stands.sound.distinct) stands.sound.sheets changed.sheets;
+        ranges = ap (filter_map (name_range_followed to)) stands.ranges
+            ∙ named_follow tracks places orders_stay before.sheets names.sheets stands.sheets id axis count change fresh fits
+            made before.ranges stands.sound.ranges
+            ∙ ap (map (range_named (orders_of (map (sheet_followed to) names.sheets)))) (sym changed.ranges);
+      }

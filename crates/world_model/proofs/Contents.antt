@@ -17,12 +17,12 @@ use Rattle.world_model.specs.Content.{NamePiece, NameContent, piece_named, conte
 use Rattle.world_model.specs.LineChange.{LineChange, name_area_followed, name_piece_followed, name_content_followed}
 use Rattle.world_model.specs.PlaceChange.{content_followed}
 use Rattle.world_model.specs.Sheet.{PlaceSheet}
-use Rattle.world_model.specs.Sound.{IsAreaWithin, IsPieceWithin, IsContentWithin}
+use Rattle.world_model.specs.Sound.{IsOnSheet, IsPieceWithin, IsContentWithin}
 
--- what areas within some sheets follow to by lines is what they follow to by places
+-- what areas on some sheets follow to by lines is what they follow to by places
 pub record AreasFollow (sheets : List PlaceSheet) (to : LineChange) (count : ℕ) (change : Change)
     (before after : Orders) : Type 0 where
-  pub follow : (area : Area) → IsAreaWithin sheets area → name_area_followed to (area_named before area)
+  pub follow : (area : Area) → IsOnSheet sheets area → name_area_followed to (area_named before area)
       ≡ option_map (area_named after) (area_followed to.sheet to.axis count change area)
 
 module _ (sheets : List PlaceSheet) (to : LineChange) (count : ℕ) (change : Change) (before after : Orders)
@@ -44,7 +44,7 @@ module _ (sheets : List PlaceSheet) (to : LineChange) (count : ℕ) (change : Ch
   piece_follows (piece.Word word) within = refl
   piece_follows (piece.Ref reference) within =
       ap (λ area. option_map_or (λ found. NamePiece.Ref (record (reference_named before reference) { area = found }))
-      area NamePiece.Lost) (areas.follow reference.area within)
+      area NamePiece.Lost) (areas.follow reference.area within.0)
       ∙ reference_to reference (area_followed to.sheet to.axis count change reference.area)
   piece_follows piece.Lost within = refl
 

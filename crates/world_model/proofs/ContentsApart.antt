@@ -18,24 +18,24 @@ use Rattle.world_model.specs.Area.{NameArea, Orders, band_named, area_named}
 use Rattle.world_model.specs.Book.{orders_of}
 use Rattle.world_model.specs.Content.{NameRef, NamePiece, NameContent, reference_named, piece_named, content_named}
 use Rattle.world_model.specs.Sheet.{NameSheet, PlaceSheet}
-use Rattle.world_model.specs.Sound.{IsAreaWithin, IsPieceWithin, IsContentWithin}
+use Rattle.world_model.specs.Sound.{IsAreaWithin, IsOnSheet, IsPieceWithin, IsContentWithin}
 use Rattle.world_model.specs.StandsFor.{SheetStandsFor}
 use Rattle.world_model.proofs.BandsApart.{same_band}
 use Rattle.world_model.proofs.Found.{found_by_name}
 use Rattle.world_model.proofs.Lines.{lines_there}
 
 -- the bands of the area are within orders of lines that are distinct
-record IsInOrders (orders : Orders) (area : Area) : Type 0 where
-  distinct_rows : IsOrder (orders area.sheet Rows)
-  distinct_cols : IsOrder (orders area.sheet Columns)
-  rows : Within area.rows (length (orders area.sheet Rows))
-  cols : Within area.cols (length (orders area.sheet Columns))
+pub record IsInOrders (orders : Orders) (area : Area) : Type 0 where
+  pub distinct_rows : IsOrder (orders area.sheet Rows)
+  pub distinct_cols : IsOrder (orders area.sheet Columns)
+  pub rows : Within area.rows (length (orders area.sheet Rows))
+  pub cols : Within area.cols (length (orders area.sheet Columns))
 
-in_orders : (sheets : List NameSheet) (placed : List PlaceSheet) (area : Area)
-    → AllZip (SheetStandsFor sheets) placed sheets → IsAreaWithin placed area → IsInOrders (orders_of sheets) area
-in_orders sheets placed area all within =
+pub in_orders : (sheets : List NameSheet) (placed : List PlaceSheet) (area : Area)
+    → AllZip (SheetStandsFor sheets) placed sheets → IsOnSheet placed area → IsInOrders (orders_of sheets) area
+in_orders sheets placed area all on =
     let found = found_by_name sheets (λ sheet. AreaWithin area sheet.table.rows sheet.table.cols) area.sheet placed sheets
-    all within.0 in
+    all on in
     let rows = lines_there sheets area.sheet Rows found.names found.is in
     let cols = lines_there sheets area.sheet Columns found.names found.is in
     record {
@@ -51,7 +51,7 @@ area_of_same one other sheet rows cols =
     ∙ ap (λ band. record one { sheet = other.sheet; rows = band }) rows
     ∙ ap (λ band. record other { cols = band }) cols
 
-same_area : (orders : Orders) (one other : Area) → IsInOrders orders one → IsInOrders orders other
+pub same_area : (orders : Orders) (one other : Area) → IsInOrders orders one → IsInOrders orders other
     → area_named orders one ≡ area_named orders other → one ≡ other
 same_area orders one other within within' same =
     let sheet : other.sheet ≡ one.sheet = sym (ap (λ (area : NameArea). area.sheet) same) in
@@ -134,8 +134,8 @@ module _ (sheets : List NameSheet) (ones others : List PlaceSheet) (stand : AllZ
       → reference_named orders one ≡ reference_named orders other → one ≡ other
   same_reference one other within within' same =
       reference_of_same one other (ap (λ (found : NameRef). found.named) same)
-      (same_area orders one.area other.area (in_orders sheets ones one.area stand within)
-      (in_orders sheets others other.area stand' within') (ap (λ (found : NameRef). found.area) same))
+      (same_area orders one.area other.area (in_orders sheets ones one.area stand within.0)
+      (in_orders sheets others other.area stand' within'.0) (ap (λ (found : NameRef). found.area) same))
       (ap (λ (found : NameRef). found.marks) same)
 
   same_piece : (one other : Piece) → IsPieceWithin ones one → IsPieceWithin others other → named one ≡ named other

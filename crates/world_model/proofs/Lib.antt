@@ -18,6 +18,8 @@ pub mod SoundAfter
 pub mod Called
 pub mod BandsApart
 pub mod ContentsApart
+pub mod StillStands
+pub mod RangesNamed
 pub mod Apart
 pub mod Filled
 pub mod Replaced
@@ -26,8 +28,10 @@ pub mod Changes
 pub mod Untouched
 pub mod NewLines
 pub mod Inserted
-pub mod StillStands
 pub mod SheetAdded
 pub mod Made
+pub mod Becoming
 pub mod SheetDeleted
+pub mod Renamed
+pub mod RangesChanged
 pub mod SheetMarked

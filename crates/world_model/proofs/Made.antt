@@ -19,6 +19,7 @@ bare_sound id title owner = record {
   sheets = λ k d there. absurd (let no : ⊥ = omega (arith, there) in no);
   few_sheets = omega arith;
   few_places = omega arith;
+  ranges = λ k d there. absurd (let no : ⊥ = omega (arith, there) in no);
 }
 
 bare_stands : (id title owner : List ℕ) → NearlyStands (bare_book id title owner) (bare_names id title owner)
@@ -28,6 +29,7 @@ bare_stands id title owner = record {
   title = refl;
   owner = refl;
   sheets = tt;
+  ranges = refl;
 }
 
 bare_called : (id title owner : List ℕ) (next : ℕ) → HasNamesBelow next (bare_names id title owner)

@@ -1,6 +1,6 @@
 -- A sheet that is added, by places and by names.
 use Rattle.std.proofs.Common.{◌≡◌, ◌≢◌, ℕ, zero, suc, ◌+◌, ◌*◌, ◌<◌, ◌≤◌, refl, sym, ap, subst, ◌∙◌, List, [], ◌∷◌, get_or, length, Bool, true, false, cond, arith}
-use Rattle.std.specs.Prelude.{IfSome, IsSomeAnd, None, Option, Some, ◌==◌}
+use Rattle.std.specs.Prelude.{IfSome, IsSomeAnd, None, Option, Some, map, ◌==◌}
 use Rattle.std.specs.List.{All, AllPairs, AllZip, insert, list_all, range_with_len}
 use Rattle.std.specs.Option.{IsSome, option_map, option_map_or}
 use Rattle.std.specs.Str.{bytes_eq, str_eq_ignore_ascii_case, str_to_ascii_lowercase}
@@ -19,13 +19,15 @@ use Rattle.world_model.specs.Book.{NameBook, PlaceBook, orders_of}
 use Rattle.world_model.specs.BookChange.{AreChanges, BookChange, Named, NewSheet, new_sheet, sheet_added}
 use Rattle.world_model.specs.Content.{content_named}
 use Rattle.world_model.specs.Counts.{grid_places}
+use Rattle.world_model.specs.Ranges.{range_named}
 use Rattle.world_model.specs.Sheet.{NameSheet, PlaceSheet, lines_of}
 use Rattle.world_model.specs.SheetChange.{new_place_sheet, place_sheet_added}
 use Rattle.world_model.specs.SheetLaws.{IsRoomFor}
-use Rattle.world_model.specs.Sound.{IsAreaWithin, IsContentWithin, IsSheetSound, IsSound, most_places, most_sheets, place_sheet_with}
+use Rattle.world_model.specs.Sound.{IsContentWithin, IsOnSheet, IsSheetSound, IsSound, most_places, most_sheets, place_sheet_with}
 use Rattle.world_model.specs.StandsFor.{BookStandsFor, SheetStandsFor}
 use Rattle.world_model.specs.World.{HasNamesBelow}
 use Rattle.world_model.proofs.Inserted.{All-inserted, AllPairs-inserted, AllZip-inserted, find-inserted, length-inserted, still_not_all}
+use Rattle.world_model.proofs.RangesNamed.{AreOnSheets, ranges_same}
 use Rattle.world_model.proofs.StillStands.{held_same, still_stands}
 use Rattle.world_model.proofs.WrittenSound.{held_within}
 
@@ -83,6 +85,7 @@ pub record IsNearlySound (book : PlaceBook) : Type 0 where
   pub sheets : All (IsSheetSound book.sheets) book.sheets
   pub few_sheets : length book.sheets ≤ most_sheets
   pub few_places : grid_places book.sheets ≤ most_places
+  pub ranges : AreOnSheets book.sheets book.ranges
 
 pub record NearlyStands (book : PlaceBook) (names : NameBook) : Type 0 where
   pub sound : IsNearlySound book
@@ -90,6 +93,7 @@ pub record NearlyStands (book : PlaceBook) (names : NameBook) : Type 0 where
   pub title : book.title ≡ names.title
   pub owner : book.owner ≡ names.owner
   pub sheets : AllZip (SheetStandsFor names.sheets) book.sheets names.sheets
+  pub ranges : names.ranges ≡ map (range_named (orders_of names.sheets)) book.ranges
 
 nearly_sound : (book : PlaceBook) → IsSound book → IsNearlySound book
 nearly_sound book sound = record {
@@ -98,6 +102,7 @@ nearly_sound book sound = record {
   sheets = sound.sheets;
   few_sheets = sound.few_sheets;
   few_places = sound.few_places;
+  ranges = sound.ranges;
 }
 
 pub sound_visible : (book : PlaceBook) → IsNearlySound book → list_all (λ sheet. sheet.hidden) book.sheets ≡ false
@@ -109,6 +114,7 @@ sound_visible book sound visible = record {
   sheets = sound.sheets;
   few_sheets = sound.few_sheets;
   few_places = sound.few_places;
+  ranges = sound.ranges;
 }
 
 nearly_stands : (book : PlaceBook) (names : NameBook) → BookStandsFor book names → NearlyStands book names
@@ -118,6 +124,7 @@ nearly_stands book names stands = record {
   title = stands.title;
   owner = stands.owner;
   sheets = stands.sheets;
+  ranges = stands.ranges;
 }
 
 pub stands_visible : (book : PlaceBook) (names : NameBook) → NearlyStands book names
@@ -128,6 +135,7 @@ stands_visible book names stands visible = record {
   title = stands.title;
   owner = stands.owner;
   sheets = stands.sheets;
+  ranges = stands.ranges;
 }
 
 module _ (empty : (rows cols row col : ℕ) → item_at (empty_table {T = Content} rows cols) row col ≡ None)
@@ -146,15 +154,12 @@ module _ (empty : (rows cols row col : ℕ) → item_at (empty_table {T = Conten
 
   -- ---- the spreadsheet is sound
 
-  area_within : (area : Area) → IsAreaWithin book.sheets area → IsAreaWithin after area
-  area_within area within = (
-    subst (λ found. IsSomeAnd found (λ one. AreaWithin area one.table.rows one.table.cols))
-        (sym (find-inserted (λ (one : PlaceSheet). one.id == area.sheet) at new book.sheets
-        (apart_if_found (λ one. AreaWithin area one.table.rows one.table.cols) book.sheets area.sheet sheet.id room.id
-        within.0)))
-        within.0,
-    within.1,
-  )
+  area_stays : (area : Area) → IsOnSheet book.sheets area → IsOnSheet after area
+  area_stays area on =
+      subst (λ found. IsSomeAnd found (λ one. AreaWithin area one.table.rows one.table.cols))
+      (sym (find-inserted (λ (one : PlaceSheet). one.id == area.sheet) at new book.sheets
+      (apart_if_found (λ one. AreaWithin area one.table.rows one.table.cols) book.sheets area.sheet sheet.id room.id on)))
+      on
 
   old_sound : (one : PlaceSheet) → IsSheetSound book.sheets one → IsSheetSound after one
   old_sound one sound = record {
@@ -162,7 +167,7 @@ module _ (empty : (rows cols row col : ℕ) → item_at (empty_table {T = Conten
     rows = sound.rows;
     cols = sound.cols;
     inside = sound.inside;
-    within = λ row col. held_within book.sheets after area_within (item_at one.table row col) (sound.within row col);
+    within = λ row col. held_within book.sheets after area_stays (item_at one.table row col) (sound.within row col);
   }
 
   no_some : (held : Option Content) → held ≡ None → IsSome held → ⊥
@@ -202,6 +207,7 @@ module _ (empty : (rows cols row col : ℕ) → item_at (empty_table {T = Conten
     few_places = let places = sum_by-insert (λ (one : PlaceSheet). one.table.rows * one.table.cols) book.sheets at new in
         let few = room.few_places in
         omega (arith, places, few);
+    ranges = λ k d there. area_stays (get_or book.ranges k d).area (sound.ranges k d there);
   }
 
   still_visible : IsSound book → list_all (λ (one : PlaceSheet). one.hidden) after ≡ false
@@ -224,12 +230,11 @@ module _ (empty : (rows cols row col : ℕ) → item_at (empty_table {T = Conten
         ap (λ (found : Option NameSheet). option_map_or (λ one. lines_of one axis) found [])
         (sym (find-inserted (λ (one : NameSheet). one.id == id) at meant named.book.sheets other)))
 
-    same_area : (area : Area) → IsAreaWithin book.sheets area
+    same_area : (area : Area) → IsOnSheet book.sheets area
         → orders_of named.book.sheets area.sheet ≡ orders_of names area.sheet
-    same_area area within =
+    same_area area on =
         same_lines area.sheet
-        (apart_if_found (λ one. AreaWithin area one.table.rows one.table.cols) book.sheets area.sheet sheet.id room.id
-        within.0)
+        (apart_if_found (λ one. AreaWithin area one.table.rows one.table.cols) book.sheets area.sheet sheet.id room.id on)
 
     old_stands : (one : PlaceSheet) (other : NameSheet) → IsSheetSound book.sheets one
         → SheetStandsFor named.book.sheets one other → SheetStandsFor names one other
@@ -270,6 +275,9 @@ module _ (empty : (rows cols row col : ℕ) → item_at (empty_table {T = Conten
       owner = stands.owner;
       sheets = AllZip-inserted (SheetStandsFor names) at new meant book.sheets named.book.sheets new_stands
           (all_old book.sheets named.book.sheets stands.sound.sheets stands.sheets);
+      ranges = stands.ranges
+          ∙ ranges_same book.sheets (orders_of named.book.sheets) (orders_of names) same_area book.ranges
+          stands.sound.ranges;
     }
 
     abbrev next : ℕ

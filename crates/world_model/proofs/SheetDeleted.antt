@@ -1,20 +1,20 @@
 -- A sheet that is deleted with all references to it, by places and by names.
 use Rattle.std.proofs.Common.{◌≡◌, ◌≢◌, ℕ, suc, ◌+◌, ◌*◌, ◌<◌, ◌≤◌, refl, sym, ap, subst, ◌∙◌, List, [], ◌∷◌, length, get_or, Bool, true, false, cond, not, arith, inl, inr}
-use Rattle.std.specs.Prelude.{IfSome, IsSomeAnd, None, Option, Some, filter, is_some, map, ◌⊎◌, ◌==◌}
+use Rattle.std.specs.Prelude.{IsSomeAnd, Option, Some, filter, map, ◌⊎◌, ◌==◌}
 use Rattle.std.specs.List.{All, AllZip, find, list_all}
-use Rattle.std.specs.Option.{option_map, option_map_or}
+use Rattle.std.specs.Option.{option_map_or}
 use Rattle.std.specs.Str.{str_eq_ignore_ascii_case}
 use Rattle.std.proofs.Math.Path.{fun_ext}
 use Rattle.std.proofs.lemmas.Bool.{cond-false, eq-eqb, eqb-true, false_from_ne_true, false≢true}
-use Rattle.std.proofs.lemmas.List.Elements.{All-filter, All-map, AllZip-get_or, length_all_zip}
+use Rattle.std.proofs.lemmas.List.Elements.{All-filter, All-map, length_all_zip}
 use Rattle.std.proofs.lemmas.List.Kept.{AllPairs-filter}
 use Rattle.std.proofs.lemmas.List.Sums.{sum_by-cons}
 use Rattle.grid_range.specs.Area.{AreaWithin}
-use Rattle.grid_range.specs.Band.{Within}
 use Rattle.grid_range.specs.declared.area.Area.{Area}
 use Rattle.grid_range.specs.declared.axis.Axis.{Axis}
 use Rattle.grid_range.specs.declared.axis.Axis.TheVariants.{Rows, Columns}
-use Rattle.cell_store.specs.Table.{item_at}
+use Rattle.named_ranges.specs.Following.{ranges_elsewhere}
+use Rattle.named_ranges.specs.declared.range.NamedRange.{NamedRange}
 use Rattle.ref_rewrite.specs.Following.{piece_without_sheet}
 use Rattle.ref_rewrite.specs.declared.cell_content.Content.{Content}
 use Rattle.ref_rewrite.specs.declared.cell_content.Content.TheVariants as content
@@ -26,13 +26,15 @@ use Rattle.world_model.specs.Book.{PlaceBook, orders_of}
 use Rattle.world_model.specs.BookChange.{AreChanges, BookChange, name_content_without, name_piece_without, without_references}
 use Rattle.world_model.specs.Content.{NameContent, NamePiece, content_named, piece_named}
 use Rattle.world_model.specs.Counts.{grid_places}
+use Rattle.world_model.specs.Ranges.{name_ranges_elsewhere, range_named}
 use Rattle.world_model.specs.Sheet.{NameSheet, PlaceSheet, lines_of}
 use Rattle.world_model.specs.SheetChange.{LosesReferences, PlaceSheetDeleted, SomeLoseReferences, content_without, other_sheets}
-use Rattle.world_model.specs.Sound.{IsAreaWithin, IsContentWithin, IsLineCount, IsPieceWithin, IsSheetSound, IsSound}
+use Rattle.world_model.specs.Sound.{IsAreaWithin, IsContentWithin, IsOnSheet, IsPieceWithin, IsSheetSound, IsSound}
 use Rattle.world_model.specs.StandsFor.{SheetStandsFor}
-use Rattle.world_model.proofs.Kept.{KeepsTitle, distinct_stay, still_found, titles_stay, visible_stays}
+use Rattle.world_model.proofs.Becoming.{EachBecomes, all_sound, becomes_keeps, becomes_stands, same_places, sheet_becomes, size_within, some_sound}
+use Rattle.world_model.proofs.Kept.{KeepsTitle, distinct_stay, still_found, titles_stay}
 use Rattle.world_model.proofs.Lines.{KeepsLines, orders_stay_same}
-use Rattle.world_model.proofs.WrittenSound.{held_within}
+use Rattle.world_model.proofs.RangesNamed.{All-left, AreOnSheets, filter-named, range_same}
 
 -- ---- another sheet is found as before
 
@@ -59,21 +61,31 @@ module _ {X : Type 0} (id_of : X → ℕ) (deleted other : ℕ) (apart : (other 
 
 -- ---- the spreadsheet is sound
 
-loses_keeps : (sheet : ℕ) (one other : PlaceSheet) → LosesReferences sheet one other → KeepsTitle one other
-loses_keeps sheet one other loses = record { id = loses.id; title = loses.title; hidden = loses.hidden }
+not_true : (b : Bool) → not b ≡ true → b ≡ false
+not_true true is = absurd (false≢true is)
+not_true false is = refl
 
-some_without : (sheet : ℕ) (held : Option Content) → is_some (option_map (content_without sheet) held) ≡ true
-    → is_some held ≡ true
-some_without sheet None some = some
-some_without sheet (Some one) some = refl
+loses_is : (sheet : ℕ) (one other : PlaceSheet) → LosesReferences sheet one other
+    → EachBecomes (content_without sheet) one other
+loses_is sheet one other loses = record {
+  id = loses.id;
+  title = loses.title;
+  hidden = loses.hidden;
+  rows = loses.rows;
+  cols = loses.cols;
+  items = loses.items;
+}
+
+loses_keeps : (sheet : ℕ) (one other : PlaceSheet) → LosesReferences sheet one other → KeepsTitle one other
+loses_keeps sheet one other loses = becomes_keeps (content_without sheet) one other (loses_is sheet one other loses)
 
 module _ (deleted : ℕ) (befores afters : List PlaceSheet)
-    (areas : (area : Area) → (area.sheet == deleted) ≡ false → IsAreaWithin befores area → IsAreaWithin afters area) where
+    (areas : (area : Area) → (area.sheet == deleted) ≡ false → IsOnSheet befores area → IsOnSheet afters area) where
   reference_within : (b : Bool) (reference : Reference) → (reference.area.sheet == deleted) ≡ b
       → IsAreaWithin befores reference.area
       → IsPieceWithin afters (cond b piece.Lost (piece.Ref reference))
   reference_within true reference is within = tt
-  reference_within false reference is within = areas reference.area is within
+  reference_within false reference is within = (areas reference.area is within.0, within.1)
 
   piece_left : (one : Piece) → IsPieceWithin befores one → IsPieceWithin afters (piece_without_sheet deleted one)
   piece_left (piece.Text text) within = tt
@@ -88,56 +100,11 @@ module _ (deleted : ℕ) (befores afters : List PlaceSheet)
       All-map (IsPieceWithin afters) (piece_without_sheet deleted) pieces
       (λ k d there. piece_left (get_or pieces k d) (within k d there))
 
-  content_left : (one : Content) → IsContentWithin befores one → IsContentWithin afters (content_without deleted one)
+  pub content_left : (one : Content) → IsContentWithin befores one → IsContentWithin afters (content_without deleted one)
   content_left (content.Number number) within = tt
   content_left (content.Text text) within = tt
   content_left (content.Truth truth) within = tt
   content_left (content.Formula formula) within = pieces_left formula.pieces within
-
-  held_left : (held : Option Content) → IfSome held (IsContentWithin befores)
-      → IfSome (option_map (content_without deleted) held) (IsContentWithin afters)
-  held_left None within = tt
-  held_left (Some one) within = content_left one within
-
-  sheet_left : (one other : PlaceSheet) → LosesReferences deleted one other → IsSheetSound befores one
-      → IsSheetSound afters other
-  sheet_left one other loses sound = record {
-    titled = subst (λ title. 0 < length title) (sym loses.title) sound.titled;
-    rows = subst (IsLineCount Rows) (sym loses.rows) sound.rows;
-    cols = subst (IsLineCount Columns) (sym loses.cols) sound.cols;
-    inside = λ row col some.
-        let place = sound.inside row col
-        (some_without deleted (item_at one.table row col) (ap is_some (sym (loses.items row col)) ∙ some)) in (
-          subst (λ n. row < n) (sym loses.rows) place.0,
-          subst (λ n. col < n) (sym loses.cols) place.1,
-        );
-    within = λ row col.
-        subst (λ held. IfSome held (IsContentWithin afters)) (sym (loses.items row col))
-        (held_left (item_at one.table row col) (sound.within row col));
-  }
-
-size_within : (area : Area) (one other : PlaceSheet) → other.table.rows ≡ one.table.rows
-    → other.table.cols ≡ one.table.cols → AreaWithin area one.table.rows one.table.cols
-    → AreaWithin area other.table.rows other.table.cols
-size_within area one other rows cols within = (
-  subst (Within area.rows) (sym rows) within.0,
-  subst (Within area.cols) (sym cols) within.1,
-)
-
--- sheets that keep their sizes have as many places
-same_places : (Goes : PlaceSheet → PlaceSheet → Type 0)
-    → ((one other : PlaceSheet) → Goes one other
-    → (other.table.rows ≡ one.table.rows) × (other.table.cols ≡ one.table.cols))
-    → (ones others : List PlaceSheet) → AllZip Goes ones others → grid_places others ≡ grid_places ones
-same_places Goes sizes [] [] all = refl
-same_places Goes sizes [] (o ∷ os) all = absurd all
-same_places Goes sizes (s ∷ ss) [] all = absurd all
-same_places Goes sizes (s ∷ ss) (o ∷ os) all =
-    sum_by-cons (λ (sheet : PlaceSheet). sheet.table.rows * sheet.table.cols) o os
-    ∙ ap (λ n. n * o.table.cols + grid_places os) (sizes s o all.0).0
-    ∙ ap (λ n. s.table.rows * n + grid_places os) (sizes s o all.0).1
-    ∙ ap (λ n. s.table.rows * s.table.cols + n) (same_places Goes sizes ss os all.1)
-    ∙ sym (sum_by-cons (λ (sheet : PlaceSheet). sheet.table.rows * sheet.table.cols) s ss)
 
 -- fewer sheets are left
 module _ (test : PlaceSheet → Bool) where
@@ -159,13 +126,6 @@ module _ (test : PlaceSheet → Bool) where
       let sum = sum_by-cons (λ (sheet : PlaceSheet). sheet.table.rows * sheet.table.cols) s ss in
       (one.0, let most = one.1 in omega (arith, most, sum))
 
-all_sound : (P Q : PlaceSheet → Type 0) (Goes : PlaceSheet → PlaceSheet → Type 0)
-    → ((one other : PlaceSheet) → Goes one other → P one → Q other)
-    → (ones others : List PlaceSheet) → AllZip Goes ones others → All P ones → All Q others
-all_sound P Q Goes also ones others all holds k d there =
-    let inside : k < length ones = subst (λ n. k < n) (sym (length_all_zip Goes ones others all)) there in
-    also (get_or ones k d) (get_or others k d) (AllZip-get_or Goes ones others k d d all inside) (holds k d inside)
-
 pub deleted_sound : (before after : PlaceBook) (sheet : ℕ) → IsSound before
     → list_all (λ other. other.hidden) after.sheets ≡ false → PlaceSheetDeleted sheet before after → IsSound after
 deleted_sound before after sheet sound visible gone =
@@ -176,6 +136,13 @@ deleted_sound before after sheet sound visible gone =
     let places = same_places Goes (λ one other loses. (loses.rows, loses.cols)) left after.sheets gone.sheets in
     let few_sheets = sound.few_sheets in
     let few_places = sound.few_places in
+    let areas : (area : Area) → (area.sheet == sheet) ≡ false → IsOnSheet before.sheets area → IsOnSheet after.sheets area =
+    λ area apart on.
+    still_found Goes (loses_keeps sheet) area.sheet (λ one. AreaWithin area one.table.rows one.table.cols)
+    (λ one. AreaWithin area one.table.rows one.table.cols)
+    (λ one other loses is held. size_within area one other loses.rows loses.cols held) left after.sheets gone.sheets
+    (subst (λ found. IsSomeAnd found (λ one. AreaWithin area one.table.rows one.table.cols))
+    (sym (find-others (λ (one : PlaceSheet). one.id) sheet area.sheet apart before.sheets)) on) in
     record {
       distinct = distinct_stay Goes (loses_keeps sheet) left after.sheets gone.sheets
           (AllPairs-filter (λ (one other : PlaceSheet). one.id ≢ other.id) (λ one. not (one.id == sheet)) before.sheets
@@ -185,82 +152,39 @@ deleted_sound before after sheet sound visible gone =
           (λ one. not (one.id == sheet)) before.sheets sound.titles);
       visible = visible;
       sheets = all_sound (IsSheetSound before.sheets) (IsSheetSound after.sheets) Goes
-          (sheet_left sheet before.sheets after.sheets (λ area apart within. (
-            still_found Goes (loses_keeps sheet) area.sheet
-                (λ one. AreaWithin area one.table.rows one.table.cols)
-                (λ one. AreaWithin area one.table.rows one.table.cols)
-                (λ one other loses is held. size_within area one other loses.rows loses.cols held)
-                left after.sheets gone.sheets
-                (subst (λ found. IsSomeAnd found (λ one. AreaWithin area one.table.rows one.table.cols))
-                (sym (find-others (λ (one : PlaceSheet). one.id) sheet area.sheet apart before.sheets)) within.0),
-            within.1,
-          )))
+          (λ one other loses.
+          sheet_becomes (content_without sheet) before.sheets after.sheets
+          (content_left sheet before.sheets after.sheets areas) one other (loses_is sheet one other loses))
           left after.sheets gone.sheets
           (All-filter (λ one. not (one.id == sheet)) (IsSheetSound before.sheets) before.sheets sound.sheets);
       few_sheets = let most = few.0 in omega (arith, most, long, few_sheets);
       few_places = let most = few.1 in omega (arith, most, places, few_places);
+      ranges = subst (AreOnSheets after.sheets) (sym gone.ranges)
+          (All-left (λ (range : NamedRange). not (range.area.sheet == sheet))
+          (λ range. IsOnSheet before.sheets range.area) (λ range. IsOnSheet after.sheets range.area)
+          (λ range elsewhere on. areas range.area (not_true (range.area.sheet == sheet) elsewhere) on) before.ranges
+          sound.ranges);
     }
 
--- ---- some are without their references already
-
-abbrev MayLose : ℕ → PlaceSheet → PlaceSheet → Type 0
-MayLose sheet one other = (other ≡ one) ⊎ LosesReferences sheet one other
-
-may_keep : (sheet : ℕ) (one other : PlaceSheet) → MayLose sheet one other → KeepsTitle one other
-may_keep sheet one other (inl same) = subst (KeepsTitle one) (sym same) (record { id = refl; title = refl; hidden = refl })
-may_keep sheet one other (inr loses) = loses_keeps sheet one other loses
-
-may_size : (sheet : ℕ) (one other : PlaceSheet) → MayLose sheet one other
-    → (other.table.rows ≡ one.table.rows) × (other.table.cols ≡ one.table.cols)
-may_size sheet one other (inl same) =
-    (ap (λ (s : PlaceSheet). s.table.rows) same, ap (λ (s : PlaceSheet). s.table.cols) same)
-may_size sheet one other (inr loses) = (loses.rows, loses.cols)
-
-module _ (befores afters : List PlaceSheet)
-    (areas : (area : Area) → IsAreaWithin befores area → IsAreaWithin afters area) where
-  same_sound : (one : PlaceSheet) → IsSheetSound befores one → IsSheetSound afters one
-  same_sound one sound = record {
-    titled = sound.titled;
-    rows = sound.rows;
-    cols = sound.cols;
-    inside = sound.inside;
-    within = λ row col.
-        held_within befores afters areas (item_at one.table row col)
-        (sound.within row col);
-  }
-
-  may_sound : (sheet : ℕ) (one other : PlaceSheet) → MayLose sheet one other → IsSheetSound befores one
-      → IsSheetSound afters other
-  may_sound sheet one other (inl same) sound = subst (IsSheetSound afters) (sym same) (same_sound one sound)
-  may_sound sheet one other (inr loses) sound =
-      sheet_left sheet befores afters (λ area apart. areas area) one other loses sound
-
+-- some are without their references already
 pub lost_sound : (before after : PlaceBook) (sheet : ℕ) → IsSound before → SomeLoseReferences sheet before after
     → IsSound after
 lost_sound before after sheet sound lost =
-    let Goes : PlaceSheet → PlaceSheet → Type 0 = MayLose sheet in
-    let long = length_all_zip Goes before.sheets after.sheets lost.sheets in
-    let places = same_places Goes (may_size sheet) before.sheets after.sheets lost.sheets in
-    let few_sheets = sound.few_sheets in
-    let few_places = sound.few_places in
-    record {
-      distinct = distinct_stay Goes (may_keep sheet) before.sheets after.sheets lost.sheets sound.distinct;
-      titles = titles_stay Goes (may_keep sheet) before.sheets after.sheets lost.sheets sound.titles;
-      visible = visible_stays Goes (may_keep sheet) before.sheets after.sheets lost.sheets ∙ sound.visible;
-      sheets = all_sound (IsSheetSound before.sheets) (IsSheetSound after.sheets) Goes
-          (may_sound before.sheets after.sheets (λ area within. (
-            still_found Goes (may_keep sheet) area.sheet
-                (λ one. AreaWithin area one.table.rows one.table.cols)
-                (λ one. AreaWithin area one.table.rows one.table.cols)
-                (λ one other goes is held.
-                size_within area one other (may_size sheet one other goes).0 (may_size sheet one other goes).1 held)
-                before.sheets after.sheets lost.sheets within.0,
-            within.1,
-          )) sheet)
-          before.sheets after.sheets lost.sheets sound.sheets;
-      few_sheets = omega (arith, long, few_sheets);
-      few_places = omega (arith, places, few_places);
-    }
+    some_sound (content_without sheet) before after (each_may before.sheets after.sheets lost.sheets) lost.ranges
+    (λ areas. content_left sheet before.sheets after.sheets (λ area apart. areas area)) sound
+  where
+    may : (one other : PlaceSheet) → (other ≡ one) ⊎ LosesReferences sheet one other
+        → (other ≡ one) ⊎ EachBecomes (content_without sheet) one other
+    may one other (inl same) = inl same
+    may one other (inr loses) = inr (loses_is sheet one other loses)
+
+    each_may : (ones others : List PlaceSheet)
+        → AllZip (λ one other. (other ≡ one) ⊎ LosesReferences sheet one other) ones others
+        → AllZip (λ one other. (other ≡ one) ⊎ EachBecomes (content_without sheet) one other) ones others
+    each_may [] [] all = tt
+    each_may [] (o ∷ os) all = absurd all
+    each_may (s ∷ ss) [] all = absurd all
+    each_may (s ∷ ss) (o ∷ os) all = (may s o all.0, each_may ss os all.1)
 
 -- ---- and stands for the one without the sheet
 
@@ -273,7 +197,7 @@ without_keeps sheet = record { id = λ one. refl; lines = lines_kept }
 
 module _ (deleted : ℕ) (orders orders' : Orders)
     (same : (other : ℕ) → (other == deleted) ≡ false → orders' other ≡ orders other) where
-  area_same : (area : Area) → (area.sheet == deleted) ≡ false → area_named orders area ≡ area_named orders' area
+  pub area_same : (area : Area) → (area.sheet == deleted) ≡ false → area_named orders area ≡ area_named orders' area
   area_same area apart =
       ap (λ lines. record {
         sheet = area.sheet;
@@ -304,24 +228,18 @@ module _ (deleted : ℕ) (orders orders' : Orders)
       ap (λ q. q ∷ map (name_piece_without deleted) (map (piece_named orders) ps)) (piece_without p)
       ∙ ap (λ qs. piece_named orders' (piece_without_sheet deleted p) ∷ qs) (pieces_without ps)
 
-  content_named_without : (one : Content)
+  pub content_named_without : (one : Content)
       → name_content_without deleted (content_named orders one) ≡ content_named orders' (content_without deleted one)
   content_named_without (content.Number number) = refl
   content_named_without (content.Text text) = refl
   content_named_without (content.Truth truth) = refl
   content_named_without (content.Formula formula) = ap NameContent.Formula (pieces_without formula.pieces)
 
-  held_without : (held : Option Content)
-      → option_map (name_content_without deleted) (option_map (content_named orders) held)
-      ≡ option_map (content_named orders') (option_map (content_without deleted) held)
-  held_without None = refl
-  held_without (Some one) = ap Some (content_named_without one)
-
 module _ (deleted : ℕ) (sheets : List NameSheet) where
   abbrev left : List NameSheet
   left = map (without_references deleted) (filter (λ one. not (one.id == deleted)) sheets)
 
-  same_lines : (other : ℕ) → (other == deleted) ≡ false → orders_of left other ≡ orders_of sheets other
+  pub same_lines : (other : ℕ) → (other == deleted) ≡ false → orders_of left other ≡ orders_of sheets other
   same_lines other apart =
       ap (λ (orders : Orders). orders other)
       (orders_stay_same (without_references deleted) (without_keeps deleted)
@@ -331,20 +249,21 @@ module _ (deleted : ℕ) (sheets : List NameSheet) where
 
   left_stands : (one after : PlaceSheet) (names : NameSheet) → SheetStandsFor sheets one names
       → LosesReferences deleted one after → SheetStandsFor left after (without_references deleted names)
-  left_stands one after names stands loses = record {
-    id = loses.id ∙ stands.id;
-    title = loses.title ∙ stands.title;
-    hidden = loses.hidden ∙ stands.hidden;
-    distinct_rows = stands.distinct_rows;
-    distinct_cols = stands.distinct_cols;
-    rows = loses.rows ∙ stands.rows;
-    cols = loses.cols ∙ stands.cols;
-    cells = λ row col r c at_row at_col.
-        ap (option_map (name_content_without deleted)) (stands.cells row col r c at_row at_col)
-        ∙ held_without deleted (orders_of sheets) (orders_of left) same_lines (item_at one.table row col)
-        ∙ ap (option_map (content_named (orders_of left))) (sym (loses.items row col));
-    nowhere_else = λ r c out. ap (option_map (name_content_without deleted)) (stands.nowhere_else r c out);
-  }
+  left_stands one after names stands loses =
+      becomes_stands (content_without deleted) (name_content_without deleted) sheets left
+      (content_named_without deleted (orders_of sheets) (orders_of left) same_lines) one after names stands
+      (loses_is deleted one after loses)
+
+  -- the ranges that are left name the lines that they named
+  pub ranges_left : (ranges : List NamedRange)
+      → name_ranges_elsewhere deleted (map (range_named (orders_of sheets)) ranges)
+      ≡ map (range_named (orders_of left)) (ranges_elsewhere deleted ranges)
+  ranges_left ranges =
+      filter-named (range_named (orders_of sheets)) (range_named (orders_of left))
+      (λ range. not (range.area.sheet == deleted)) (λ range. not (range.area.sheet == deleted)) (λ range. refl) ranges
+      (λ k d there elsewhere. range_same (orders_of sheets) (orders_of left) (get_or ranges k d)
+      (area_same deleted (orders_of sheets) (orders_of left) same_lines (get_or ranges k d).area
+      (not_true ((get_or ranges k d).area.sheet == deleted) elsewhere)))
 
   both_left : (b b' : Bool) (one : PlaceSheet) (names : NameSheet) (ones : List PlaceSheet) (others : List NameSheet)
       → b ≡ b' → SheetStandsFor sheets one names → AllZip (SheetStandsFor sheets) ones others
@@ -387,6 +306,8 @@ deleted_changes before after sheet sound gone = record {
       sheets = all_left sheet named.book.sheets (other_sheets sheet before.sheets) after.sheets
           (filter (λ one. not (one.id == sheet)) named.book.sheets)
           (filtered sheet named.book.sheets before.sheets named.book.sheets is.stands.sheets) gone.sheets;
+      ranges = ap (name_ranges_elsewhere sheet) is.stands.ranges ∙ ranges_left sheet named.book.sheets before.ranges
+          ∙ ap (map (range_named (orders_of (left sheet named.book.sheets)))) (sym gone.ranges);
     };
     called = All-map
         (λ (one : NameSheet). All (λ name. name < named.next) one.rows × All (λ name. name < named.next) one.cols)

@@ -13,14 +13,16 @@ use Rattle.grid_range.specs.declared.area.Area.{Area}
 use Rattle.grid_range.specs.declared.axis.Axis.{Axis}
 use Rattle.grid_range.specs.declared.axis.Axis.TheVariants.{Rows, Columns}
 use Rattle.cell_store.specs.Table.{HasItemsInside, Table, item_at}
+use Rattle.named_ranges.specs.declared.range.NamedRange.{NamedRange}
 use Rattle.ref_rewrite.specs.declared.cell_content.Content.{Content}
 use Rattle.world_model.specs.Book.{PlaceBook}
 use Rattle.world_model.specs.BookChange.{AreChanges, BookChange, Named, NamedStandsFor, marked_hidden, on_sheet, titled}
 use Rattle.world_model.specs.Content.{content_named}
 use Rattle.world_model.specs.Counts.{grid_places}
+use Rattle.world_model.specs.Ranges.{range_named}
 use Rattle.world_model.specs.Sheet.{NameSheet, PlaceSheet, lines_of}
 use Rattle.world_model.specs.SheetChange.{on_place_sheet, place_marked_hidden, place_titled}
-use Rattle.world_model.specs.Sound.{IsAreaWithin, IsContentWithin, IsLineCount, IsSheetSound, IsSound, most_places, most_sheets, place_sheet_with}
+use Rattle.world_model.specs.Sound.{IsContentWithin, IsLineCount, IsOnSheet, IsSheetSound, IsSound, most_places, most_sheets, place_sheet_with}
 use Rattle.world_model.specs.StandsFor.{SheetStandsFor}
 use Rattle.world_model.proofs.Lines.{KeepsLines, orders_stay_same}
 use Rattle.world_model.proofs.SheetAdded.{titles_apart}
@@ -68,9 +70,8 @@ module _ (change : PlaceSheet → PlaceSheet) (keeps : KeepsTable change) where
       (ap (λ n. n == id) (sym (keeps.id s))) (found_changed P id ss) found
 
   module _ (sheets : List PlaceSheet) where
-    area_within : (area : Area) → IsAreaWithin sheets area → IsAreaWithin (map change sheets) area
-    area_within area within =
-        (found_changed (λ table. AreaWithin area table.rows table.cols) area.sheet sheets within.0, within.1)
+    area_stays : (area : Area) → IsOnSheet sheets area → IsOnSheet (map change sheets) area
+    area_stays area on = found_changed (λ table. AreaWithin area table.rows table.cols) area.sheet sheets on
 
     table_sound : (one other : PlaceSheet) → other.table ≡ one.table → 0 < length other.title → IsSheetSound sheets one
         → IsSheetSound (map change sheets) other
@@ -81,7 +82,7 @@ module _ (change : PlaceSheet → PlaceSheet) (keeps : KeepsTable change) where
       inside = subst (λ (table : Table Content). HasItemsInside table) (sym same) sound.inside;
       within = subst (λ (table : Table Content). (row col : ℕ) → IfSome (item_at table row col) (IsContentWithin (map change sheets)))
           (sym same)
-          (λ row col. held_within sheets (map change sheets) area_within (item_at one.table row col) (sound.within row col));
+          (λ row col. held_within sheets (map change sheets) area_stays (item_at one.table row col) (sound.within row col));
     }
 
   places_kept : (sheets : List PlaceSheet) → grid_places (map change sheets) ≡ grid_places sheets
@@ -93,11 +94,12 @@ module _ (change : PlaceSheet → PlaceSheet) (keeps : KeepsTable change) where
       ∙ sym (sum_by-cons (λ (sheet : PlaceSheet). sheet.table.rows * sheet.table.cols) s ss)
 
   -- the sheets are sound if no two titles are one, each has one, and one is shown
-  pub changed_sound : (book after : PlaceBook) → after.sheets ≡ map change book.sheets → IsSound book
+  pub changed_sound : (book after : PlaceBook) → after.sheets ≡ map change book.sheets → after.ranges ≡ book.ranges
+      → IsSound book
       → All (λ sheet. 0 < length (change sheet).title) book.sheets
       → AllPairs (λ one other. str_eq_ignore_ascii_case (change one).title (change other).title ≡ false) book.sheets
       → list_all (λ sheet. sheet.hidden) (map change book.sheets) ≡ false → IsSound after
-  changed_sound book after made sound titled apart visible = record {
+  changed_sound book after made same sound titled apart visible = record {
     distinct = subst (λ sheets. AllPairs (λ (one other : PlaceSheet). one.id ≢ other.id) sheets) (sym made)
         (λ i j d below there.
         let inside : j < length book.sheets = subst (λ n. j < n) (length-map book.sheets change) there in
@@ -125,6 +127,9 @@ module _ (change : PlaceSheet → PlaceSheet) (keeps : KeepsTable change) where
         (subst (λ n. n ≤ most_sheets) (sym (length-map book.sheets change)) sound.few_sheets);
     few_places = subst (λ sheets. grid_places sheets ≤ most_places) (sym made)
         (subst (λ n. n ≤ most_places) (sym (places_kept book.sheets)) sound.few_places);
+    ranges = subst (λ sheets. All (λ (range : NamedRange). IsOnSheet sheets range.area) after.ranges) (sym made)
+        (subst (λ ranges. All (λ (range : NamedRange). IsOnSheet (map change book.sheets) range.area) ranges) (sym same)
+        (λ k d there. area_stays book.sheets (get_or book.ranges k d).area (sound.ranges k d there)));
   }
 
 -- ---- another title
@@ -172,7 +177,7 @@ module _ (id : ℕ) (title : List ℕ) where
       → IsSound (on_place_sheet id (place_titled title) book)
   titled_sound book sound some free =
       changed_sound with_title (chosen_keeps id (place_titled title) (titled_keeps title)) book
-      (on_place_sheet id (place_titled title) book) refl sound
+      (on_place_sheet id (place_titled title) book) refl refl sound
       (λ k d there. has_title ((get_or book.sheets k d).id == id) (get_or book.sheets k d) some
       (sound.sheets k d there).titled)
       (λ i j d below there.
@@ -200,7 +205,7 @@ module _ (id : ℕ) (hidden : Bool) where
       → IsSound (on_place_sheet id (place_marked_hidden hidden) book)
   hidden_sound book sound visible =
       changed_sound with_mark (chosen_keeps id (place_marked_hidden hidden) (hidden_keeps hidden)) book
-      (on_place_sheet id (place_marked_hidden hidden) book) refl sound
+      (on_place_sheet id (place_marked_hidden hidden) book) refl refl sound
       (λ k d there. subst (λ title. 0 < length title)
       (sym (title_kept ((get_or book.sheets k d).id == id) (get_or book.sheets k d)))
       (sound.sheets k d there).titled)
@@ -275,6 +280,8 @@ module _ (id : ℕ) (by_names : NameSheet → NameSheet) (by_places : PlaceSheet
       title = is.stands.title;
       owner = is.stands.owner;
       sheets = each_stands named.book.sheets book.sheets named.book.sheets is.stands.sheets;
+      ranges = is.stands.ranges
+          ∙ ap (λ orders. map (range_named orders) book.ranges) (sym (orders_stay_same on_names on_keeps named.book.sheets));
     };
     called = All-map
         (λ (one : NameSheet). All (λ name. name < named.next) one.rows × All (λ name. name < named.next) one.cols)

@@ -1,7 +1,7 @@
 -- What always holds of a spreadsheet holds after a change of lines.
 use Rattle.std.proofs.Common.{◌≡◌, ◌≢◌, ℕ, ◌<◌, ◌≤◌, zero, suc, refl, sym, ap, subst, ◌∙◌, List, [], ◌∷◌, cond, Bool, true, false, length, get_or, arith}
 use Rattle.std.specs.Prelude.{Option, None, Some, IfSome, IsSomeAnd, is_some, map, ◌==◌}
-use Rattle.std.specs.List.{All, AllPairs, AllZip}
+use Rattle.std.specs.List.{All, AllPairs, AllZip, filter_map}
 use Rattle.std.specs.Option.{option_map, option_map_or}
 use Rattle.std.proofs.lemmas.Bool.{eqb-true, eq-eqb, false≢true}
 use Rattle.std.proofs.lemmas.List.Elements.{AllZip-get_or}
@@ -17,6 +17,8 @@ use Rattle.grid_range.specs.declared.band.Band.{Band}
 use Rattle.grid_range.specs.declared.change.Change.{Change}
 use Rattle.cell_store.specs.Moved.{lines_on, GoesWithLines}
 use Rattle.cell_store.specs.Table.{Table, HasItemsInside, HasPlace, item_at}
+use Rattle.named_ranges.specs.Following.{range_followed}
+use Rattle.named_ranges.specs.declared.range.NamedRange.{NamedRange}
 use Rattle.ref_rewrite.specs.Following.{piece_followed}
 use Rattle.ref_rewrite.specs.declared.cell_content.Content.{Content}
 use Rattle.ref_rewrite.specs.declared.cell_content.Content.TheVariants as content
@@ -27,12 +29,13 @@ use Rattle.world_model.specs.Book.{PlaceBook}
 use Rattle.world_model.specs.Counts.{grid_places}
 use Rattle.world_model.specs.PlaceChange.{SheetChanged, BookChanged, content_followed}
 use Rattle.world_model.specs.Sheet.{PlaceSheet}
-use Rattle.world_model.specs.Sound.{IsSheetSound, IsSound, IsLineCount, HasNotation, IsContentWithin, IsPieceWithin, IsAreaWithin, most_places, most_sheets, place_sheet_with}
+use Rattle.world_model.specs.Sound.{IsSheetSound, IsSound, IsLineCount, HasNotation, IsContentWithin, IsOnSheet, IsPieceWithin, IsAreaWithin, most_places, most_sheets, place_sheet_with}
 use Rattle.world_model.proofs.Areas.{other_axis}
 use Rattle.world_model.proofs.Forms.{notation_kept}
 use Rattle.world_model.proofs.Kept.{KeepsTitle, only_one, found_both, found_too, still_found, visible_stays, distinct_stay, titles_stay, there_before, same_length}
 use Rattle.world_model.proofs.MovedTables.{row_came, col_came, same_size, size_moved, holds_where_moved}
 use Rattle.world_model.proofs.Orders.{on_both}
+use Rattle.world_model.proofs.RangesNamed.{All-filter_map, AreOnSheets}
 
 -- items stand in the sheet where their lines went
 module _ {T : Type 0} (below : PlacesStayBelow) (change : Change) (count : ℕ) (fits : Fits change count)
@@ -77,20 +80,15 @@ record BandsWithin (axis : Axis) (on across : Band) (table : Table Content) : Ty
 with_band_within : (axis : Axis) (area : Area) (band : Band) (sheets : List PlaceSheet)
     → IsSomeAnd (place_sheet_with area.sheet sheets)
     (λ sheet. BandsWithin axis band (band_on (other_axis axis) area) sheet.table)
-    → HasNotation (with_band axis area band).rows (with_band axis area band).cols
-    → IsAreaWithin sheets (with_band axis area band)
-with_band_within Rows area band sheets found has = (
-  found_too (λ sheet. BandsWithin Rows band area.cols sheet.table)
-      (λ sheet. Within band sheet.table.rows × Within area.cols sheet.table.cols)
-      (λ sheet both. (both.here, both.there)) (place_sheet_with area.sheet sheets) found,
-  has,
-)
-with_band_within Columns area band sheets found has = (
-  found_too (λ sheet. BandsWithin Columns band area.rows sheet.table)
-      (λ sheet. Within area.rows sheet.table.rows × Within band sheet.table.cols)
-      (λ sheet both. (both.there, both.here)) (place_sheet_with area.sheet sheets) found,
-  has,
-)
+    → IsOnSheet sheets (with_band axis area band)
+with_band_within Rows area band sheets found =
+    found_too (λ sheet. BandsWithin Rows band area.cols sheet.table)
+    (λ sheet. Within band sheet.table.rows × Within area.cols sheet.table.cols)
+    (λ sheet both. (both.here, both.there)) (place_sheet_with area.sheet sheets) found
+with_band_within Columns area band sheets found =
+    found_too (λ sheet. BandsWithin Columns band area.rows sheet.table)
+    (λ sheet. Within area.rows sheet.table.rows × Within band sheet.table.cols)
+    (λ sheet both. (both.there, both.here)) (place_sheet_with area.sheet sheets) found
 
 bands_within : (axis : Axis) (area : Area) (table : Table Content) → AreaWithin area table.rows table.cols
     → BandsWithin axis (band_on axis area) (band_on (other_axis axis) area) table
@@ -106,6 +104,16 @@ some_of_either : {A : Type 0} (P : A → Type 0) (b : Bool) (one other : Option 
     → (b ≡ false → IfSome other P) → IfSome (cond b one other) P
 some_of_either P true one other here elsewhere = here refl
 some_of_either P false one other here elsewhere = elsewhere refl
+
+mapped_holds : {A B : Type 0} (f : A → B) (P : B → Type 0) (found : Option A) → IfSome found (λ one. P (f one))
+    → IfSome (option_map f found) P
+mapped_holds f P None holds = tt
+mapped_holds f P (Some one) holds = holds
+
+if_both : {A : Type 0} (P Q : A → Type 0) (found : Option A) → IfSome found P → IfSome found Q
+    → IfSome found (λ one. P one × Q one)
+if_both P Q None p q = tt
+if_both P Q (Some one) p q = (p, q)
 
 goes_keeps : (id : ℕ) (axis : Axis) (count : ℕ) (change : Change) (one other : PlaceSheet)
     → SheetChanged id axis count change one other → KeepsTitle one other
@@ -134,19 +142,17 @@ module _ (within : TracksStayWithin) (below : PlacesStayBelow) (befores afters :
         same_size (other_axis axis) other.table goes.moved goes.followed.rows goes.followed.cols ∙ sizes.1,
       )
 
-  area_elsewhere : (area : Area) → IsAreaWithin befores area → (area.sheet == id) ≡ false → IsAreaWithin afters area
-  area_elsewhere area inside is = (
-    still_found Goes keeps area.sheet (λ sheet. AreaWithin area sheet.table.rows sheet.table.cols)
-        (λ sheet. AreaWithin area sheet.table.rows sheet.table.cols)
-        (λ one other goes same held.
-        let stays : goes.moved ≡ one.table =
-        goes.stays (λ own. false≢true (sym is ∙ eq-eqb area.sheet id (sym (eqb-true one.id area.sheet same) ∙ own))) in (
-          subst (Within area.rows) (sym (goes.followed.rows ∙ ap (λ (table : Table Content). table.rows) stays)) held.0,
-          subst (Within area.cols) (sym (goes.followed.cols ∙ ap (λ (table : Table Content). table.cols) stays)) held.1,
-        ))
-        befores afters all inside.0,
-    inside.1,
-  )
+  area_elsewhere : (area : Area) → IsOnSheet befores area → (area.sheet == id) ≡ false → IsOnSheet afters area
+  area_elsewhere area on is =
+      still_found Goes keeps area.sheet (λ sheet. AreaWithin area sheet.table.rows sheet.table.cols)
+      (λ sheet. AreaWithin area sheet.table.rows sheet.table.cols)
+      (λ one other goes same held.
+      let stays : goes.moved ≡ one.table =
+      goes.stays (λ own. false≢true (sym is ∙ eq-eqb area.sheet id (sym (eqb-true one.id area.sheet same) ∙ own))) in (
+        subst (Within area.rows) (sym (goes.followed.rows ∙ ap (λ (table : Table Content). table.rows) stays)) held.0,
+        subst (Within area.cols) (sym (goes.followed.cols ∙ ap (λ (table : Table Content). table.cols) stays)) held.1,
+      ))
+      befores afters all on
 
   long_too : (area : Area) → (area.sheet == id) ≡ true
       → IfSome (place_sheet_with area.sheet befores) (λ sheet. lines_on axis sheet.table.rows sheet.table.cols ≡ count)
@@ -155,19 +161,18 @@ module _ (within : TracksStayWithin) (below : PlacesStayBelow) (befores afters :
       (λ sheet. lines_on axis sheet.table.rows sheet.table.cols ≡ count)) (sym (eqb-true area.sheet id is)) long
 
   -- an area of the sheet that is changed, and the number of that sheet's lines
-  area_and_lines : (area : Area) → IsAreaWithin befores area → (area.sheet == id) ≡ true
+  area_and_lines : (area : Area) → IsOnSheet befores area → (area.sheet == id) ≡ true
       → IsSomeAnd (place_sheet_with area.sheet befores)
       (λ sheet. AreaWithin area sheet.table.rows sheet.table.cols
       × (lines_on axis sheet.table.rows sheet.table.cols ≡ count))
-  area_and_lines area inside is =
+  area_and_lines area on is =
       found_both (λ sheet. AreaWithin area sheet.table.rows sheet.table.cols)
-      (λ sheet. lines_on axis sheet.table.rows sheet.table.cols ≡ count) (place_sheet_with area.sheet befores) inside.0
+      (λ sheet. lines_on axis sheet.table.rows sheet.table.cols ≡ count) (place_sheet_with area.sheet befores) on
       (long_too area is)
 
-  band_here : (area : Area) → IsAreaWithin befores area → (area.sheet == id) ≡ true → (band : Band)
-      → Within band (count_after change count) × HasNotation (with_band axis area band).rows (with_band axis area band).cols
-      → IsAreaWithin afters (with_band axis area band)
-  band_here area inside is band held =
+  band_here : (area : Area) → IsOnSheet befores area → (area.sheet == id) ≡ true → (band : Band)
+      → Within band (count_after change count) → IsOnSheet afters (with_band axis area band)
+  band_here area on is band held =
       with_band_within axis area band afters
       (still_found Goes keeps area.sheet
       (λ sheet. AreaWithin area sheet.table.rows sheet.table.cols × (lines_on axis sheet.table.rows sheet.table.cols ≡ count))
@@ -175,26 +180,24 @@ module _ (within : TracksStayWithin) (below : PlacesStayBelow) (befores afters :
       (λ one other goes same both.
       let sizes = size_here one other goes (eqb-true one.id area.sheet same ∙ eqb-true area.sheet id is) in
       record {
-        here = subst (Within band) (sym (sizes.0 ∙ ap (count_after change) both.1)) held.0;
+        here = subst (Within band) (sym (sizes.0 ∙ ap (count_after change) both.1)) held;
         there = subst (Within (band_on (other_axis axis) area)) (sym sizes.1)
             (bands_within axis area one.table both.0).there;
       })
       befores afters all
-      (area_and_lines area inside is))
-      held.1
+      (area_and_lines area on is))
 
-  areas_here : (area : Area) → IsAreaWithin befores area → (area.sheet == id) ≡ true → (band : Option Band)
+  areas_here : (area : Area) → IsOnSheet befores area → (area.sheet == id) ≡ true → (band : Option Band)
       → IfSome band (λ found. Within found (count_after change count))
-      → IfSome band (λ found. HasNotation (with_band axis area found).rows (with_band axis area found).cols)
-      → IfSome (option_map (with_band axis area) band) (IsAreaWithin afters)
-  areas_here area inside is None held has = tt
-  areas_here area inside is (Some band) held has = band_here area inside is band (held, has)
+      → IfSome (option_map (with_band axis area) band) (IsOnSheet afters)
+  areas_here area on is None held = tt
+  areas_here area on is (Some band) held = band_here area on is band held
 
-  track_within : (area : Area) → IsAreaWithin befores area → (area.sheet == id) ≡ true
+  track_within : (area : Area) → IsOnSheet befores area → (area.sheet == id) ≡ true
       → IfSome (track_of (band_on axis area) count change) (λ found. Within found (count_after change count))
-  track_within area inside is = within (band_on axis area) count change fits
+  track_within area on is = within (band_on axis area) count change fits
       (one_within (place_sheet_with area.sheet befores)
-      (area_and_lines area inside is))
+      (area_and_lines area on is))
     where
       one_within : (found : Option PlaceSheet)
           → IsSomeAnd found (λ sheet. AreaWithin area sheet.table.rows sheet.table.cols
@@ -204,14 +207,41 @@ module _ (within : TracksStayWithin) (below : PlacesStayBelow) (befores afters :
       one_within (Some sheet) both =
           subst (Within (band_on axis area)) both.1 (bands_within axis area sheet.table both.0).here
 
+  area_stays_on : (area : Area) → IsOnSheet befores area
+      → IfSome (area_followed id axis count change area) (IsOnSheet afters)
+  area_stays_on area on =
+      some_of_either (IsOnSheet afters) (area.sheet == id)
+      (option_map (with_band axis area) (track_of (band_on axis area) count change)) (Some area)
+      (λ is. areas_here area on is (track_of (band_on axis area) count change) (track_within area on is))
+      (area_elsewhere area on)
+
+  notation_stays : (area : Area) → HasNotation area.rows area.cols
+      → IfSome (area_followed id axis count change area) (λ found. HasNotation found.rows found.cols)
+  notation_stays area has =
+      some_of_either (λ found. HasNotation found.rows found.cols) (area.sheet == id)
+      (option_map (with_band axis area) (track_of (band_on axis area) count change)) (Some area)
+      (λ is. mapped_holds (with_band axis area) (λ found. HasNotation found.rows found.cols)
+      (track_of (band_on axis area) count change) (notation_kept axis area count change has))
+      (λ is. has)
+
   area_stays : (area : Area) → IsAreaWithin befores area
       → IfSome (area_followed id axis count change area) (IsAreaWithin afters)
   area_stays area inside =
-      some_of_either (IsAreaWithin afters) (area.sheet == id)
-      (option_map (with_band axis area) (track_of (band_on axis area) count change)) (Some area)
-      (λ is. areas_here area inside is (track_of (band_on axis area) count change) (track_within area inside is)
-      (notation_kept axis area count change inside.1))
-      (area_elsewhere area inside)
+      if_both (IsOnSheet afters) (λ found. HasNotation found.rows found.cols) (area_followed id axis count change area)
+      (area_stays_on area inside.0) (notation_stays area inside.1)
+
+  -- the ranges
+  range_stays : (range : NamedRange) (found : Option Area) → IfSome found (IsOnSheet afters)
+      → IfSome (option_map (λ area. record range { area = area }) found) (λ one. IsOnSheet afters one.area)
+  range_stays range None held = tt
+  range_stays range (Some area) held = held
+
+  ranges_stay : (ranges : List NamedRange) → AreOnSheets befores ranges
+      → AreOnSheets afters (filter_map (range_followed id axis count change) ranges)
+  ranges_stay ranges on =
+      All-filter_map (range_followed id axis count change) (λ range. IsOnSheet afters range.area) ranges
+      (λ k d there. range_stays (get_or ranges k d) (area_followed id axis count change (get_or ranges k d).area)
+      (area_stays_on (get_or ranges k d).area (on k d there)))
 
   -- a reference that follows is within, and one that is lost is no reference
   reference_stays : (reference : Reference) (area : Option Area) → IfSome area (IsAreaWithin afters)
@@ -324,4 +354,7 @@ changes_stay_sound within below before after id axis count change sound fits roo
       (same_length (SheetChanged id axis count change) (goes_keeps id axis count change) before.sheets after.sheets
       changed.sheets) sound.few_sheets;
   few_places = few;
+  ranges = subst (AreOnSheets after.sheets) (sym changed.ranges)
+      (ranges_stay within below before.sheets after.sheets id axis count change fits changed.sheets sound.distinct long room
+      before.ranges sound.ranges);
 }

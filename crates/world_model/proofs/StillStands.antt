@@ -14,25 +14,25 @@ use Rattle.world_model.specs.Area.{NameArea, Orders, area_named, band_named}
 use Rattle.world_model.specs.Book.{orders_of}
 use Rattle.world_model.specs.Content.{NameContent, NamePiece, content_named, piece_named}
 use Rattle.world_model.specs.Sheet.{NameSheet, PlaceSheet}
-use Rattle.world_model.specs.Sound.{IsAreaWithin, IsContentWithin, IsPieceWithin}
+use Rattle.world_model.specs.Sound.{IsContentWithin, IsOnSheet, IsPieceWithin}
 use Rattle.world_model.specs.StandsFor.{SheetStandsFor}
 
 module _ (sheets : List PlaceSheet) (orders orders' : Orders)
-    (same : (area : Area) → IsAreaWithin sheets area → orders area.sheet ≡ orders' area.sheet) where
-  area_same : (area : Area) → IsAreaWithin sheets area → area_named orders area ≡ area_named orders' area
-  area_same area within =
+    (same : (area : Area) → IsOnSheet sheets area → orders area.sheet ≡ orders' area.sheet) where
+  pub area_same : (area : Area) → IsOnSheet sheets area → area_named orders area ≡ area_named orders' area
+  area_same area on =
       ap (λ lines. record {
         sheet = area.sheet;
         rows = band_named (lines Rows) area.rows;
         cols = band_named (lines Columns) area.cols;
-      }) (same area within)
+      }) (same area on)
 
   piece_same : (one : Piece) → IsPieceWithin sheets one → piece_named orders one ≡ piece_named orders' one
   piece_same (piece.Text text) within = refl
   piece_same (piece.Word word) within = refl
   piece_same (piece.Ref reference) within =
       ap (λ (area : NameArea). NamePiece.Ref (record { named = reference.named; area = area; marks = reference.marks }))
-      (area_same reference.area within)
+      (area_same reference.area within.0)
   piece_same piece.Lost within = refl
 
   pieces_same : (pieces : List Piece) → All (IsPieceWithin sheets) pieces

@@ -13,6 +13,7 @@ use Rattle.grid_range.specs.Area.{by_rows}
 use Rattle.cell_store.specs.Table.{HasPlace, item_at}
 use Rattle.ref_rewrite.specs.declared.cell_content.Content.{Content}
 use Rattle.world_model.specs.Content.{NameContent, content_named}
+use Rattle.world_model.specs.Ranges.{range_named}
 use Rattle.world_model.specs.Sheet.{NameSheet, PlaceSheet, lines_of}
 use Rattle.world_model.specs.Book.{NameBook, PlaceBook, orders_of, sheet_with}
 use Rattle.world_model.specs.StandsFor.{SheetStandsFor, BookStandsFor}
@@ -221,4 +222,6 @@ writes_follow book names id row col r c content stands within at_row at_col = re
   owner = stands.owner;
   sheets = sheets_follow names.sheets id row col r c content at_row at_col book.sheets names.sheets stands.sheets
       (own_sheets book.sheets names.sheets stands.sheets stands.sound.distinct);
+  ranges = stands.ranges
+      ∙ ap (λ orders. map (range_named orders) book.ranges) (sym (same_orders names.sheets id row col r c content));
 }

@@ -17,17 +17,17 @@ use Rattle.ref_rewrite.specs.declared.pieces.Piece.TheVariants as piece
 use Rattle.world_model.specs.Book.{PlaceBook}
 use Rattle.world_model.specs.Counts.{grid_places}
 use Rattle.world_model.specs.Sheet.{PlaceSheet}
-use Rattle.world_model.specs.Sound.{IsSheetSound, IsSound, IsLineCount, IsContentWithin, IsPieceWithin, IsAreaWithin, most_places, most_sheets, place_sheet_with}
+use Rattle.world_model.specs.Sound.{IsSheetSound, IsSound, IsLineCount, IsContentWithin, IsOnSheet, IsPieceWithin, most_places, most_sheets, place_sheet_with}
 use Rattle.world_model.specs.Writing.{table_written, sheet_put, book_put}
 use Rattle.world_model.proofs.Kept.{KeepsTitle, still_found, only_one, visible_stays, distinct_stay, titles_stay, there_before, same_length}
 use Rattle.world_model.proofs.Puts.{SameSheet, put_is_same, item_written, item_chosen, same_place}
 
 -- what is within some sheets is within others if each area is
-module _ (befores afters : List PlaceSheet) (areas : (area : Area) → IsAreaWithin befores area → IsAreaWithin afters area) where
-  piece_within : (one : Piece) → IsPieceWithin befores one → IsPieceWithin afters one
+module _ (befores afters : List PlaceSheet) (areas : (area : Area) → IsOnSheet befores area → IsOnSheet afters area) where
+  pub piece_within : (one : Piece) → IsPieceWithin befores one → IsPieceWithin afters one
   piece_within (piece.Text text) within = tt
   piece_within (piece.Word word) within = tt
-  piece_within (piece.Ref reference) within = areas reference.area within
+  piece_within (piece.Ref reference) within = (areas reference.area within.0, within.1)
   piece_within piece.Lost within = tt
 
   pub content_within : (one : Content) → IsContentWithin befores one → IsContentWithin afters one
@@ -96,18 +96,16 @@ module _ (id row col : ℕ) (item : Option Content) where
       ∙ sym (sum_by-cons (λ sheet. sheet.table.rows * sheet.table.cols) s ss)
 
   module _ (sheets : List PlaceSheet) where
-    area_within : (area : Area) → IsAreaWithin sheets area → IsAreaWithin (map put sheets) area
-    area_within area within = (
-      still_found IsPut put_keeps area.sheet (λ sheet. AreaWithin area sheet.table.rows sheet.table.cols)
-          (λ sheet. AreaWithin area sheet.table.rows sheet.table.cols)
-          (λ one other is same held.
-          subst (λ sheet. AreaWithin area sheet.table.rows sheet.table.cols) (sym is) (
-            subst (Within area.rows) (sym (put_same one).rows) held.0,
-            subst (Within area.cols) (sym (put_same one).cols) held.1,
-          ))
-          sheets (map put sheets) (all_put sheets) within.0,
-      within.1,
-    )
+    area_stays : (area : Area) → IsOnSheet sheets area → IsOnSheet (map put sheets) area
+    area_stays area on =
+        still_found IsPut put_keeps area.sheet (λ sheet. AreaWithin area sheet.table.rows sheet.table.cols)
+        (λ sheet. AreaWithin area sheet.table.rows sheet.table.cols)
+        (λ one other is same held.
+        subst (λ sheet. AreaWithin area sheet.table.rows sheet.table.cols) (sym is) (
+          subst (Within area.rows) (sym (put_same one).rows) held.0,
+          subst (Within area.cols) (sym (put_same one).cols) held.1,
+        ))
+        sheets (map put sheets) (all_put sheets) on
 
     module _ (within : IfSome item (IsContentWithin sheets)) (sheet : PlaceSheet) (sound : IsSheetSound sheets sheet)
         (there : sheet.id ≡ id → HasPlace sheet.table row col) where
@@ -134,7 +132,7 @@ module _ (id row col : ℕ) (item : Option Content) where
               subst (λ n. col' < n) (sym (put_same sheet).cols) place.1,
             );
         within = λ row' col'.
-            held_within sheets (map put sheets) area_within (item_at (put sheet).table row' col')
+            held_within sheets (map put sheets) area_stays (item_at (put sheet).table row' col')
             (subst (λ held. IfSome held (IsContentWithin sheets)) (sym (item_put sheet row' col'))
             (holds_of_either (IsContentWithin sheets) (sheet.id == id) (row' == row && col' == col) item
             (item_at sheet.table row' col') within (sound.within row' col')));
@@ -163,4 +161,5 @@ module _ (id row col : ℕ) (item : Option Content) where
       sheets = λ k d below. stays k d (there_before IsPut put_keeps book.sheets after all k below);
       few_sheets = subst (λ n. n ≤ most_sheets) (same_length IsPut put_keeps book.sheets after all) sound.few_sheets;
       few_places = subst (λ n. n ≤ most_places) (sym (places_stay book.sheets)) sound.few_places;
+      ranges = λ k d below. area_stays book.sheets (get_or book.ranges k d).area (sound.ranges k d below);
     }

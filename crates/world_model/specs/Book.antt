@@ -2,21 +2,25 @@
 use Rattle.std.specs.Prelude.{ℕ, List, [], Option, ◌==◌}
 use Rattle.std.specs.List.{find}
 use Rattle.std.specs.Option.{option_map_or}
+use Rattle.named_ranges.specs.declared.range.NamedRange.{NamedRange}
 use Rattle.world_model.specs.Area.{Orders}
+use Rattle.world_model.specs.Ranges.{NameRange}
 use Rattle.world_model.specs.Sheet.{NameSheet, PlaceSheet, lines_of}
 
--- the sheets are in their order
+-- the sheets are in their order, and the named ranges in order of creation
 pub record NameBook : Type 0 where
   pub id : List ℕ
   pub title : List ℕ
   pub owner : List ℕ
   pub sheets : List NameSheet
+  pub ranges : List NameRange
 
 pub record PlaceBook : Type 0 where
   pub id : List ℕ
   pub title : List ℕ
   pub owner : List ℕ
   pub sheets : List PlaceSheet
+  pub ranges : List NamedRange
 
 -- the sheet with the id
 abbrev pub sheet_with : ℕ → List NameSheet → Option NameSheet

@@ -1,16 +1,20 @@
 -- What requests make of a spreadsheet, by the names of its lines (Google Sheets API v4 reference, Request): cells are
--- updated, lines of a sheet are inserted, deleted or moved, a sheet is added, deleted, or gets another title or mark.
--- A line that is inserted, or that a new sheet has, gets the next name, which no line ever had. A change is told where
--- it can be made: its sheet is there, its places are, and a change of lines fits.
-use Rattle.std.specs.Prelude.{◌≡◌, ℕ, Bool, ◌+◌, ◌++◌, ◌==◌, List, ◌∷◌, map, filter, take, drop, not, None, if◌then◌else◌}
+-- updated, lines of a sheet are inserted, deleted or moved, a sheet is added, deleted, or gets another title or mark, a
+-- named range is added, changed or deleted, and words of formulas become another one. A line that is inserted, or that a
+-- new sheet has, gets the next name, which no line ever had. A change is told where it can be made: its sheet is there,
+-- its places are, and a change of lines fits.
+use Rattle.std.specs.Prelude.{◌≡◌, ℕ, Bool, ◌+◌, ◌++◌, ◌==◌, List, [], ◌∷◌, map, filter, take, drop, not, None, if◌then◌else◌}
 use Rattle.std.specs.List.{fold, range_with_len}
 use Rattle.std.specs.Option.{option_map}
+use Rattle.std.specs.Str.{bytes_eq, str_eq_ignore_ascii_case}
 use Rattle.grid_range.specs.Change.{inserted_lines, order_change}
 use Rattle.grid_range.specs.declared.axis.Axis.{Axis}
 use Rattle.grid_range.specs.declared.change.Change.{Change}
-use Rattle.world_model.specs.Book.{NameBook, PlaceBook}
+use Rattle.named_ranges.specs.declared.range.NamedRange.{NamedRange}
+use Rattle.world_model.specs.Book.{NameBook, PlaceBook, orders_of}
 use Rattle.world_model.specs.Content.{NameContent, NamePiece}
 use Rattle.world_model.specs.LineChange.{book_changed}
+use Rattle.world_model.specs.Ranges.{NameRange, name_ranges_elsewhere, range_named}
 use Rattle.world_model.specs.Sheet.{NameSheet}
 use Rattle.world_model.specs.StandsFor.{BookStandsFor}
 use Rattle.world_model.specs.Updating.{Updates, book_updated}
@@ -24,7 +28,8 @@ pub record NewSheet : Type 0 where
   pub rows : ℕ
   pub cols : ℕ
 
--- one change of a spreadsheet; sheets are known by their ids, and a sheet is added before the one at a place, or last
+-- one change of a spreadsheet; sheets and named ranges are known by their ids, and a sheet is added before the one at a
+-- place, or last; a range is told by the places of its lines
 pub data BookChange : Type 0 where
   CellsUpdated : (sheet : ℕ) (updates : Updates) → BookChange
   LinesChanged : (sheet : ℕ) (axis : Axis) (change : Change) → BookChange
@@ -32,6 +37,10 @@ pub data BookChange : Type 0 where
   SheetDeleted : (sheet : ℕ) → BookChange
   SheetTitled : (sheet : ℕ) (title : List ℕ) → BookChange
   SheetHidden : (sheet : ℕ) (hidden : Bool) → BookChange
+  RangeAdded : (range : NamedRange) → BookChange
+  RangeChanged : (range : NamedRange) → BookChange
+  RangeDeleted : (id : List ℕ) → BookChange
+  WordsRenamed : (old new : List ℕ) → BookChange
 
 -- a spreadsheet by the names of its lines, and the name that the next new line gets
 pub record Named : Type 0 where
@@ -78,9 +87,12 @@ abbrev pub without_references : ℕ → NameSheet → NameSheet
 without_references sheet other =
     record other { cells = λ row col. option_map (name_content_without sheet) (other.cells row col) }
 
+-- and its named ranges go with it
 abbrev pub sheet_deleted : ℕ → NameBook → NameBook
-sheet_deleted id book =
-    with_sheets (map (without_references id) (filter (λ sheet. not (sheet.id == id)) book.sheets)) book
+sheet_deleted id book = record book {
+  sheets = map (without_references id) (filter (λ sheet. not (sheet.id == id)) book.sheets);
+  ranges = name_ranges_elsewhere id book.ranges;
+}
 
 -- ---- a sheet gets another title or mark
 
@@ -92,6 +104,48 @@ titled title sheet = record sheet { title = title }
 
 abbrev pub marked_hidden : Bool → NameSheet → NameSheet
 marked_hidden hidden sheet = record sheet { hidden = hidden }
+
+-- ---- a named range is added, changed or deleted
+
+abbrev pub with_ranges : List NameRange → NameBook → NameBook
+with_ranges ranges book = record book { ranges = ranges }
+
+-- a new one stands last
+abbrev pub range_added : NameRange → NameBook → NameBook
+range_added range book = with_ranges (book.ranges ++ range ∷ []) book
+
+-- one stands in the place of the one with its id
+abbrev pub range_changed : NameRange → NameBook → NameBook
+range_changed range book =
+    with_ranges (map (λ other. if bytes_eq range.id other.id then range else other) book.ranges) book
+
+abbrev pub range_deleted : List ℕ → NameBook → NameBook
+range_deleted id book = with_ranges (filter (λ range. not (bytes_eq id range.id)) book.ranges) book
+
+-- ---- words of formulas become another one
+
+-- a word that is the old one, whatever the case of its ASCII letters, is the new one
+abbrev pub name_piece_renamed : List ℕ → List ℕ → NamePiece → NamePiece
+name_piece_renamed old new (NamePiece.Word word) =
+    NamePiece.Word (if str_eq_ignore_ascii_case word old then new else word)
+name_piece_renamed old new (NamePiece.Text text) = NamePiece.Text text
+name_piece_renamed old new (NamePiece.Ref reference) = NamePiece.Ref reference
+name_piece_renamed old new NamePiece.Lost = NamePiece.Lost
+
+-- all else of a formula stays
+abbrev pub name_content_renamed : List ℕ → List ℕ → NameContent → NameContent
+name_content_renamed old new (NameContent.Formula pieces) =
+    NameContent.Formula (map (name_piece_renamed old new) pieces)
+name_content_renamed old new (NameContent.Number number) = NameContent.Number number
+name_content_renamed old new (NameContent.Text text) = NameContent.Text text
+name_content_renamed old new (NameContent.Truth truth) = NameContent.Truth truth
+
+abbrev pub sheet_renamed : List ℕ → List ℕ → NameSheet → NameSheet
+sheet_renamed old new sheet =
+    record sheet { cells = λ row col. option_map (name_content_renamed old new) (sheet.cells row col) }
+
+abbrev pub words_renamed : List ℕ → List ℕ → NameBook → NameBook
+words_renamed old new book = with_sheets (map (sheet_renamed old new) book.sheets) book
 
 -- ---- changes
 
@@ -111,6 +165,12 @@ changed_by named (BookChange.SheetDeleted sheet) = record named { book = sheet_d
 changed_by named (BookChange.SheetTitled sheet title) = record named { book = on_sheet sheet (titled title) named.book }
 changed_by named (BookChange.SheetHidden sheet hidden) =
     record named { book = on_sheet sheet (marked_hidden hidden) named.book }
+changed_by named (BookChange.RangeAdded range) =
+    record named { book = range_added (range_named (orders_of named.book.sheets) range) named.book }
+changed_by named (BookChange.RangeChanged range) =
+    record named { book = range_changed (range_named (orders_of named.book.sheets) range) named.book }
+changed_by named (BookChange.RangeDeleted id) = record named { book = range_deleted id named.book }
+changed_by named (BookChange.WordsRenamed old new) = record named { book = words_renamed old new named.book }
 
 -- one change after another
 abbrev pub changed_by_all : Named → List BookChange → Named

@@ -1,5 +1,6 @@
 pub mod Area
 pub mod Content
+pub mod Ranges
 pub mod Sheet
 pub mod Counts
 pub mod Book
@@ -13,6 +14,8 @@ pub mod PlaceChange
 pub mod BookChange
 pub mod SheetChange
 pub mod SheetLaws
+pub mod RangeChange
+pub mod RangeLaws
 pub mod Making
 pub mod Laws
 pub mod ChangingLaws

@@ -1,7 +1,8 @@
 -- What a spreadsheet becomes when lines of a sheet are inserted, deleted or moved, by the names of lines:
 -- insertDimension, deleteDimension and moveDimension of the Google Sheets API v4. Cells keep their names, and the
--- cells of lines that went are gone; each reference to the sheet follows its lines.
+-- cells of lines that went are gone; each reference to the sheet, and each named range of it, follows its lines.
 use Rattle.std.specs.Prelude.{ℕ, List, map, Option, None, Some, ◌==◌, ◌&&◌, if◌then◌else◌}
+use Rattle.std.specs.List.{filter_map}
 use Rattle.std.specs.Option.{option_map, option_map_or}
 use Rattle.grid_range.specs.Following.{follow}
 use Rattle.grid_range.specs.Order.{is_among}
@@ -11,6 +12,7 @@ use Rattle.grid_range.specs.declared.axis.Axis.TheVariants.{Rows, Columns}
 use Rattle.world_model.specs.Area.{NameArea, name_band_on, with_name_band}
 use Rattle.world_model.specs.Book.{NameBook, orders_of}
 use Rattle.world_model.specs.Content.{NameRef, NamePiece, NameContent}
+use Rattle.world_model.specs.Ranges.{NameRange}
 use Rattle.world_model.specs.Sheet.{NameSheet}
 
 -- the lines of a sheet on an axis in their order after a change, and those that it inserted or moved
@@ -46,6 +48,10 @@ name_content_followed to (NameContent.Text text) = NameContent.Text text
 name_content_followed to (NameContent.Truth truth) = NameContent.Truth truth
 name_content_followed to (NameContent.Formula pieces) = NameContent.Formula (map (name_piece_followed to) pieces)
 
+-- a range follows with its area, and goes with it; its id and its name stay
+abbrev pub name_range_followed : LineChange → NameRange → Option NameRange
+name_range_followed to range = option_map (λ area. record range { area = area }) (name_area_followed to range.area)
+
 -- the sheet with other lines on the axis
 abbrev pub with_lines : Axis → List ℕ → NameSheet → NameSheet
 with_lines Rows order sheet = record sheet { rows = order }
@@ -72,7 +78,11 @@ line_change sheets id axis change =
     let order = orders_of sheets id axis in
     record { sheet = id; axis = axis; order = order_after change order; changed = changed_names change order }
 
--- the spreadsheet after the change
+-- the spreadsheet after the change: its sheets follow, and so do its ranges
 abbrev pub book_changed : ℕ → Axis → OrderChange → NameBook → NameBook
 book_changed id axis change book =
-    record book { sheets = map (sheet_followed (line_change book.sheets id axis change)) book.sheets }
+    let to = line_change book.sheets id axis change in
+    record book {
+      sheets = map (sheet_followed to) book.sheets;
+      ranges = filter_map (name_range_followed to) book.ranges;
+    }

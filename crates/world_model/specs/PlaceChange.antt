@@ -1,12 +1,13 @@
 -- A change of the lines of a sheet by places, which is what a program does: items go with their lines, and the
--- references of formulas follow by their numbers.
+-- references of formulas and the named ranges follow by their numbers.
 use Rattle.std.specs.Prelude.{◌≡◌, ◌≢◌, ℕ, map}
-use Rattle.std.specs.List.{AllZip}
+use Rattle.std.specs.List.{AllZip, filter_map}
 use Rattle.std.specs.Option.{option_map}
 use Rattle.grid_range.specs.declared.axis.Axis.{Axis}
 use Rattle.grid_range.specs.declared.change.Change.{Change}
 use Rattle.cell_store.specs.Moved.{GoesWithLines}
 use Rattle.cell_store.specs.Table.{Table, item_at}
+use Rattle.named_ranges.specs.Following.{range_followed}
 use Rattle.ref_rewrite.specs.Following.{piece_followed}
 use Rattle.ref_rewrite.specs.declared.cell_content.Content.{Content}
 use Rattle.ref_rewrite.specs.declared.cell_content.Content.TheVariants as content
@@ -39,9 +40,10 @@ pub record SheetChanged (changed : ℕ) (axis : Axis) (count : ℕ) (change : Ch
   pub stays : before.id ≢ changed → moved ≡ before.table
   pub followed : FollowsInPlace changed axis count change moved after.table
 
--- the sheet with the id, which has `count` lines on the axis, is changed, and each sheet follows
+-- the sheet with the id, which has `count` lines on the axis, is changed, and each sheet and each range follows
 pub record BookChanged (changed : ℕ) (axis : Axis) (count : ℕ) (change : Change) (before after : PlaceBook) : Type 0 where
   pub id : after.id ≡ before.id
   pub title : after.title ≡ before.title
   pub owner : after.owner ≡ before.owner
   pub sheets : AllZip (SheetChanged changed axis count change) before.sheets after.sheets
+  pub ranges : after.ranges ≡ filter_map (range_followed changed axis count change) before.ranges

@@ -1,6 +1,7 @@
 -- What always holds of a spreadsheet: it has a visible sheet, no two sheets have one id or one title, a sheet has a
 -- row and a column, its items stand in it, and each reference of a formula is to a sheet that is there, to lines
--- that this has, and of a form that A1 notation has. Its sheets and their places are within the limits.
+-- that this has, and of a form that A1 notation has. Each named range is on a sheet that is there, too, and of lines
+-- that this has. The sheets and their places are within the limits.
 use Rattle.std.specs.Prelude.{◌≡◌, ◌≢◌, ◌<◌, ◌≤◌, ℕ, false, List, length, Option, ◌==◌, IsSomeAnd, IfSome, ⊤}
 use Rattle.std.specs.List.{All, AllPairs, find, list_all}
 use Rattle.std.specs.Str.{str_eq_ignore_ascii_case}
@@ -29,10 +30,14 @@ HasNotation rows (Span start end) = ⊤
 HasNotation (Span start end) Whole = ⊤
 HasNotation _ _ = ⊥
 
--- the area is on a sheet that is there, both bands are within it, and A1 notation has it
+-- the area is on a sheet that is there, and both bands are within it
+abbrev pub IsOnSheet : List PlaceSheet → Area → Type 0
+IsOnSheet sheets area = IsSomeAnd (place_sheet_with area.sheet sheets)
+    (λ sheet. AreaWithin area sheet.table.rows sheet.table.cols)
+
+-- and A1 notation has it
 abbrev pub IsAreaWithin : List PlaceSheet → Area → Type 0
-IsAreaWithin sheets area = IsSomeAnd (place_sheet_with area.sheet sheets)
-    (λ sheet. AreaWithin area sheet.table.rows sheet.table.cols) × HasNotation area.rows area.cols
+IsAreaWithin sheets area = IsOnSheet sheets area × HasNotation area.rows area.cols
 
 abbrev pub IsPieceWithin : List PlaceSheet → Piece → Type 0
 IsPieceWithin sheets (piece.Ref reference) = IsAreaWithin sheets reference.area
@@ -81,3 +86,4 @@ pub record IsSound (book : PlaceBook) : Type 0 where
   pub sheets : All (IsSheetSound book.sheets) book.sheets
   pub few_sheets : length book.sheets ≤ most_sheets
   pub few_places : grid_places book.sheets ≤ most_places
+  pub ranges : All (λ range. IsOnSheet book.sheets range.area) book.ranges

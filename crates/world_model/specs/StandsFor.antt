@@ -1,11 +1,12 @@
 -- When what a program keeps, by places, stands for what is meant, by names.
-use Rattle.std.specs.Prelude.{◌≡◌, ℕ, List, length, Some, None, Contains, slice_get}
+use Rattle.std.specs.Prelude.{◌≡◌, ℕ, List, length, Some, None, Contains, map, slice_get}
 use Rattle.std.specs.List.{AllZip}
 use Rattle.std.specs.Option.{option_map}
 use Rattle.grid_range.specs.Order.{IsOrder}
 use Rattle.cell_store.specs.Table.{item_at}
 use Rattle.world_model.specs.Book.{NameBook, PlaceBook, orders_of}
 use Rattle.world_model.specs.Content.{content_named}
+use Rattle.world_model.specs.Ranges.{range_named}
 use Rattle.world_model.specs.Sheet.{NameSheet, PlaceSheet}
 use Rattle.world_model.specs.Sound.{IsSound}
 
@@ -23,10 +24,11 @@ pub record SheetStandsFor (sheets : List NameSheet) (sheet : PlaceSheet) (names 
       → names.cells r c ≡ option_map (content_named (orders_of sheets)) (item_at sheet.table row col)
   pub nowhere_else : (r c : ℕ) → ¬ (Contains names.rows r × Contains names.cols c) → names.cells r c ≡ None
 
--- what is kept by places is sound, and both are one spreadsheet, sheet by sheet
+-- what is kept by places is sound, and both are one spreadsheet, sheet by sheet and range by range
 pub record BookStandsFor (book : PlaceBook) (names : NameBook) : Type 0 where
   pub sound : IsSound book
   pub id : book.id ≡ names.id
   pub title : book.title ≡ names.title
   pub owner : book.owner ≡ names.owner
   pub sheets : AllZip (SheetStandsFor names.sheets) book.sheets names.sheets
+  pub ranges : names.ranges ≡ map (range_named (orders_of names.sheets)) book.ranges

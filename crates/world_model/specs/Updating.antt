@@ -64,3 +64,4 @@ pub record BookUpdated (sheet : ℕ) (updates : Updates) (before after : PlaceBo
   pub title : after.title ≡ before.title
   pub owner : after.owner ≡ before.owner
   pub sheets : AllZip (SheetUpdated sheet updates) before.sheets after.sheets
+  pub ranges : after.ranges ≡ before.ranges

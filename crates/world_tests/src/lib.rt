@@ -5,6 +5,8 @@
 #[cfg(test)]
 mod books;
 #[cfg(test)]
+mod calculations;
+#[cfg(test)]
 mod common;
 #[cfg(test)]
 mod creations;

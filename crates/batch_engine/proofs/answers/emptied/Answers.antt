@@ -8,7 +8,7 @@ pub returns-in_err-area : goal.returns-in_err-area
 returns-in_err-area c =
     let p = err_from_is_err_and c.from_residual.result c.from_residual.ensures.1 in
     rw (p.1, p.2)
-    (change_refused (Resolves c.args.range.now c.args.book.now.sheets) c.args.book.now.sheets IsClear c.args.book.now
+    (change_refused (Resolves c.args.range.now c.args.book.now) c.args.book.now.sheets IsClear c.args.book.now
     c.args.book.now c.in_err-area.field-0.0 c.in_err-area.ensures.resolved)
 
 pub returns : goal.returns

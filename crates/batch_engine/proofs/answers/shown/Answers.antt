@@ -8,7 +8,7 @@ pub returns-in_err-area-clause-shown : goal.returns-in_err-area-clause-shown
 returns-in_err-area-clause-shown c =
     let p = err_from_is_err_and c.from_residual.result c.from_residual.ensures.1 in
     rw (p.1, p.2)
-    (range_refused (Resolves c.args.range.now c.args.book.now.sheets) c.args.book.now.sheets
+    (range_refused (Resolves c.args.range.now c.args.book.now) c.args.book.now.sheets
     (IsRead c.args.book.now c.args.dimension c.args.render) c.in_err-area.field-0.0 c.in_err-area.ensures.resolved)
 
 pub returns-clause-shown : goal.returns-clause-shown

@@ -8,4 +8,4 @@ use Rattle.batch_engine.proofs.lists.all_shown.Given as goal
 abbrev pub invariant-loop-at : goal.invariant-loop-at
 invariant-loop-at l =
     SoFar (IsShown l.dimension l.render l.book) l.ranges l.at l.all.items
-    × IsTableOf (stored_in l.book.sheets) l.table
+    × IsTableOf (stored_in l.book) l.table

@@ -1,15 +1,10 @@
-use Rattle.std.proofs.Common.{◌≡◌, refl, sym, subst, ◌∙◌, List, [], ◌∷◌, length, true, arith}
-use Rattle.std.specs.Prelude.{◌==◌}
-use Rattle.std.proofs.lemmas.Bool.{eqb-true}
+use Rattle.std.proofs.Common.{◌≡◌, inl, inr, sym, subst, ◌∙◌, []}
 use Rattle.std.specs.Arc.{arc_value}
 use Rattle.world_model.specs.Sheet.{PlaceSheet}
 use Rattle.dimension_ops.specs.References.{AreReferring}
+use Rattle.dimension_ops.proofs.Becoming.{no_items}
 use Rattle.dimension_ops.proofs.LostReferences.{none_lost}
 use Rattle.dimension_ops.proofs.losing.sheet_left.Goals as goal
-
-no_items : {A : Type 0} (items : List A) → (length items == 0) ≡ true → items ≡ []
-no_items [] is = refl
-no_items (first ∷ items) is = absurd (omega (arith, eqb-true (length (first ∷ items)) 0 is))
 
 pub returns-then-is_empty : goal.returns-then-is_empty
 returns-then-is_empty c =
@@ -19,3 +14,12 @@ returns-then-is_empty c =
     (subst (AreReferring c.args.deleted (arc_value c.args.sheet).table) none
     (subst (λ (sheet : PlaceSheet). AreReferring c.args.deleted sheet.table c.in_ok-places.places.items)
     c.deref.ensures c.in_ok-places.ensures))
+
+pub lose-requires : goal.lose-requires
+lose-requires c = record {
+  places = subst (λ (sheet : PlaceSheet). AreReferring c.args.deleted sheet.table c.deref-2.result.now)
+      (sym (elim c.in_ok-own.ensures.ok [ inl same ↦ same | inr same ↦ same ]))
+      (subst (AreReferring c.args.deleted (arc_value c.args.sheet).table) (sym c.deref-2.ensures.value)
+      (subst (λ (sheet : PlaceSheet). AreReferring c.args.deleted sheet.table c.in_ok-places.places.items)
+      c.deref.ensures c.in_ok-places.ensures));
+}

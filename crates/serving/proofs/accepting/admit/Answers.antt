@@ -12,8 +12,8 @@ serve_here-requires-in_default-pass-clause-asked g c κs within =
     (link_seen g.D.Link.Source.left g.D.Link.Sink.written g.D.Link.Source.faults g.D.Link.Sink.sink_faults
     g.D.Link.Sink.sink_shortages c.args.link) (g.D.Doors.shown c.args.doors.now))
     (sym c.acceptor.view_is) c.requires.asked)
-    _ refl refl refl c.reserve.ensures.items c.pass.ensures.old c.pass.ensures.same.0 c.pass.ensures.same.1
-    c.pass.ensures.count
+    _ refl refl refl c.reserve.ensures.items c.pass.ensures.old c.pass.ensures.same.1
+    (record { seen = c.pass.ensures.same.0; count = c.pass.ensures.count; met = c.pass.ensures.met })
 
 pub take_back-requires-clause-away : goal.take_back-requires-clause-away
 take_back-requires-clause-away g c κs within =
@@ -38,6 +38,7 @@ returns-in-Ok-start-clause-stands g c =
       own_seen = c.in-Ok.ensures.new.1;
       next = c.in-Ok.ensures.next;
       counted = c.in-Ok.ensures.counted.1;
+      met = c.pass.ensures.met;
       other = c.in-Ok.ensures.number.1;
       unused = c.in-Ok.ensures.unused;
     })
@@ -60,6 +61,7 @@ returns-in-Err-clause-stands g c =
       own_seen = c.in-Ok.ensures.new.1;
       next = c.in-Ok.ensures.next;
       counted = c.in-Ok.ensures.counted.1;
+      met = c.pass.ensures.met;
       other = c.in-Ok.ensures.number.1;
       unused = c.in-Ok.ensures.unused;
     })

@@ -1,19 +1,23 @@
-use Rattle.std.proofs.Common.{ℕ, subst}
-use Rattle.history_lock.specs.Passes.{seen_by}
-use Rattle.desk.specs.Points.{IsClosed}
-use Rattle.desk.specs.Desks.{pair_at, callers_at}
-use Rattle.serving.proofs.Standing.{never_fails}
+use Rattle.connections.specs.Calls.{IsAnswer}
+use Rattle.serving.proofs.Standing.{ends, never_fails}
 use Rattle.serving.proofs.accepting.serve_all.Goals as goal
 
 pub returns-clause-served : goal.returns-clause-served
 returns-clause-served g c =
     let threads = c.serve_by_threads-served in
+    let closed = c.close-history.ensures in
     record {
-      last = seen_by threads.result.1;
-      talked = threads.ensures.talked;
-      closed = subst (λ (n : ℕ). IsClosed (pair_at c.args.desk).1 (callers_at c.args.desk) n (seen_by threads.result.1)
-          c.close-history.result.0 (g.K.Keeper.failures c.close-history.result.1)) threads.ensures.number
-          c.close-history.ensures.history;
+      last = threads.result.1;
+      number_is = threads.ensures.talked.stands.number_is;
+      closed = closed;
+      talked = ends (IsAnswer g.E.Engine.plain g.K.Keeper.failures g.K.Keeper.steady)
+          (record {
+            desk = c.args.desk;
+            users = c.args.users.now;
+            pass = c.args.pass;
+            shown = g.D.Doors.shown c.args.doors.now;
+          }) threads.result.1 closed.told closed.begins closed.done c.args.limit threads.result.0
+          (g.D.Doors.shown threads.new.doors) closed.others.not_own threads.ensures.talked;
     }
 
 pub returns-clause-steady : goal.returns-clause-steady

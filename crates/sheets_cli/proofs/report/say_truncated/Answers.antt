@@ -3,8 +3,8 @@ use Rattle.sheets_cli.proofs.SendLemmas.{says_what_is_sent}
 use Rattle.sheets_cli.proofs.report.say_truncated.Goals as goal
 
 pub returns-clause-says : goal.returns-clause-says
-returns-clause-says g c = says_what_is_sent (g.S.Sink.written c.args.faults.now) (g.S.Sink.written c.send_truncated.new.faults)
-    (g.S.Sink.sink_faults c.args.faults.now) (g.S.Sink.sink_faults c.send_truncated.new.faults)
-    (g.S.Sink.sink_shortages c.args.faults.now) (g.S.Sink.sink_shortages c.send_truncated.new.faults)
-    (truncated_line c.args.count) c.send_truncated.result c.send_truncated.ensures.sends
-    c.send_truncated.ensures.cause c.send_truncated.ensures.short
+returns-clause-says g c = says_what_is_sent (g.S.Sink.written c.args.faults.now) (g.S.Sink.written c.send_line.new.sink)
+    (g.S.Sink.sink_faults c.args.faults.now) (g.S.Sink.sink_faults c.send_line.new.sink)
+    (g.S.Sink.sink_shortages c.args.faults.now) (g.S.Sink.sink_shortages c.send_line.new.sink)
+    (truncated_line c.args.count) c.send_line.result c.send_line.ensures.sends
+    c.send_line.ensures.cause c.send_line.ensures.short

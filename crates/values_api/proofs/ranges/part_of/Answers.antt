@@ -15,9 +15,3 @@ returns-in-Cells-clause-there c =
     answer_there (λ (sheet : PlaceSheet). not sheet.hidden) c.args.book.now.sheets
     _ c.on_found.result (c.ids_find.ensures.finds c.args.book.now c.stays_sound.ensures) c.visible.ensures
     c.on_found.ensures.there
-
-pub returns-in-Word-clause-there : goal.returns-in-Word-clause-there
-returns-in-Word-clause-there c =
-    answer_there (λ (sheet : PlaceSheet). str_eq_ignore_ascii_case sheet.title c.as_str-in-Word.result.now) c.args.book.now.sheets
-    _ c.on_found-in-Word.result (c.ids_find.ensures.finds c.args.book.now c.stays_sound.ensures)
-    c.titled-in-Word.ensures c.on_found-in-Word.ensures.there

@@ -13,15 +13,15 @@ use Rattle.values_api.proofs.shown.read_values.Goals as goal
 pub returns-clause-values : goal.returns-clause-values
 returns-clause-values c = elim c.match-sheet.branch [
   | in-Some+in_ok-values w ↦
-      let sheets = c.args.book.now.sheets in
+      let book = c.args.book.now in
       let area = c.args.area.now in
       let told = values_of c.args.table.now in
       let sheet = w.in-Some.sheet.now in
-      let there : place_sheet_with area.sheet sheets ≡ Some sheet = sym c.sheet.ensures ∙ ap option_copied w.in-Some.is in
-      subst (λ found. IfSome found (λ one. IsAreaShown sheets area c.args.columns_first c.args.render one c.match-sheet.values))
+      let there : place_sheet_with area.sheet book.sheets ≡ Some sheet = sym c.sheet.ensures ∙ ap option_copied w.in-Some.is in
+      subst (λ found. IfSome found (λ one. IsAreaShown book area c.args.columns_first c.args.render one c.match-sheet.values))
       (sym there) (record {
         values = value_told area sheet told;
-        values_are = values_shown c.stored_values.ensures sheets area sheet there told c.args.render c.requires.told;
+        values_are = values_shown c.stored_values.ensures book area sheet there told c.args.render c.requires.told;
         lines_are = w.values-is ∙ w.in_ok-values.ensures
             ∙ read_of (record {
               alloc = c.args.alloc;
@@ -33,7 +33,7 @@ returns-clause-values c = elim c.match-sheet.branch [
               render = c.args.render;
             }) c.args.book.now w.of.ensures;
       })
-  | in_default w ↦ subst (λ found. IfSome found (λ sheet. IsAreaShown c.args.book.now.sheets c.args.area.now
+  | in_default w ↦ subst (λ found. IfSome found (λ sheet. IsAreaShown c.args.book.now c.args.area.now
       c.args.columns_first c.args.render sheet c.match-sheet.values))
       (sym (ap option_copied w.in_default.is) ∙ c.sheet.ensures) tt
 ]

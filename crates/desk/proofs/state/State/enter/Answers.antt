@@ -49,7 +49,7 @@ pub put_noted-requires-clause-at : goal.put_noted-requires-clause-at
 put_noted-requires-clause-at g c =
     let s = c.self.inside in
     subst (λ (n : ℕ). IfSome (g.K.Keeper.kept s.keeper) (λ bytes. n ≤ length bytes)) (sym (place_at g c))
-    (place_within (g.K.Keeper.kept s.keeper) (entries_of s.list.items) c.self.invariant.keeps)
+    (place_within (g.K.Keeper.kept s.keeper) s.list.items c.self.invariant.keeps)
 
 pub overflow_add-self : goal.overflow_add-self
 overflow_add-self g c =
@@ -133,12 +133,15 @@ marked_state : (g : given.Over) (c : goal.After-drop-world-in-Marked-1 g)
     c.self.inside.limit c.self.inside.opened (g.K.Keeper.failures c.put_noted.new.keeper)
     (g.K.Keeper.kept c.put_noted.new.keeper)
 marked_state g c =
-    let s = c.self.inside in
+    let s = c.self.inside in let p = c.in_ok-entry.ensures in
     let put = noted_marked _ c.in-Marked.before c.in-Marked.after c.in-Marked.is c.in_ok-put_noted.ensures.noted in
     sound_mark g.E.Engine.stands s.world s.list.items c.put_noted.new.list.items s.entries s.bytes s.limit s.opened
     (g.K.Keeper.failures s.keeper) (g.K.Keeper.failures c.put_noted.new.keeper) (g.K.Keeper.kept s.keeper)
     (g.K.Keeper.kept c.put_noted.new.keeper) _ c.in-Marked.before c.in-Marked.after c.as_slice.result.now
     c.if-first.at c.self.invariant (marked_place g c)
+    (c.as_slice.ensures ∙ p.piece_is ∙ ap (λ (b : Bool). piece_of b (entry_of c.args.caller c.args.ask.now))
+    (first_of s.entries (entries_of s.list.items) c.self.invariant.entries_is)
+    ∙ ap (piece_of (is_first (entries_of s.list.items))) (sym p.entry_is))
     (subst (λ (l : List Noted). IsMarked c.in_ok-entry.field-0.entry c.in-Marked.before c.in-Marked.after c.if-first.at
     c.as_slice.result.now l c.put_noted.new.list.items (g.K.Keeper.kept s.keeper)
     (g.K.Keeper.kept c.put_noted.new.keeper) (g.K.Keeper.failures s.keeper)

@@ -22,6 +22,7 @@ overflow_add-formulas c =
       title = c.self.inside.title;
       owner = c.self.inside.owner;
       sheets = map arc_value c.self.inside.sheets.items;
+      ranges = c.self.inside.names;
     })
     c.self.invariant.0) c.self.invariant.0.few_places)) in
     omega (arith, within, few)

@@ -1,17 +1,13 @@
-use Rattle.std.proofs.Common.{◌≡◌, ℕ, sym, ap, subst, ◌∙◌, List, map}
+use Rattle.std.proofs.Common.{◌≡◌, sym, ap, subst, ◌∙◌, map}
 use Rattle.std.specs.Arc.{arc_value}
 use Rattle.std.specs.List.{insert}
-use Rattle.world_model.specs.Book.{PlaceBook}
 use Rattle.world_model.specs.Sheet.{PlaceSheet}
 use Rattle.world_model.specs.SheetChange.{place_sheet_added}
 use Rattle.world_model.specs.Sound.{IsSound}
 use Rattle.dimension_ops.proofs.Inserting.{map-insert}
+use Rattle.dimension_ops.proofs.Marking.{as_book}
 use Rattle.dimension_ops.proofs.book.Book.insert.Goals.{After-drop-self-inside}
 use Rattle.dimension_ops.proofs.book.Book.insert.Goals as goal
-
--- the spreadsheet of these sheets
-abbrev as_book : List ℕ → List ℕ → List ℕ → List PlaceSheet → PlaceBook
-as_book id title owner sheets = record { id = id; title = title; owner = owner; sheets = sheets }
 
 -- the sheets after
 sheets_after : (c : After-drop-self-inside) → map arc_value c.insert.new.self.items
@@ -22,10 +18,10 @@ sheets_after c =
     ∙ ap (insert (map arc_value c.self.inside.sheets.items) c.args.at) c.in_ok-shared.ensures
 
 book_after : (c : After-drop-self-inside)
-    → as_book c.self.inside.id c.self.inside.title c.self.inside.owner (map arc_value c.insert.new.self.items)
+    → as_book c.self.inside.id c.self.inside.title c.self.inside.owner c.self.inside.names (map arc_value c.insert.new.self.items)
     ≡ place_sheet_added c.args.at c.args.sheet c.args.self.now
 book_after c =
-    ap (as_book c.self.inside.id c.self.inside.title c.self.inside.owner) (sheets_after c)
+    ap (as_book c.self.inside.id c.self.inside.title c.self.inside.owner c.self.inside.names) (sheets_after c)
     ∙ ap (place_sheet_added c.args.at c.args.sheet) c.self.view_is
 
 pub invariant_of-self-2 : goal.invariant_of-self-2
@@ -38,7 +34,6 @@ invariant_of-self-2 c = (
       ∙ sym (ap (map (λ (sheet : PlaceSheet). sheet.id)) (sheets_after c)),
   c.self.invariant.2,
   c.self.invariant.3,
-  c.self.invariant.4,
 )
 
 pub returns-clause-added : goal.returns-clause-added

@@ -5,6 +5,7 @@ use Rattle.world_model.specs.Book.{PlaceBook}
 use Rattle.world_model.specs.Sound.{most_places, place_sheet_with}
 use Rattle.dimension_ops.specs.Lines.{lines_of_sheet, places_changed}
 use Rattle.dimension_ops.proofs.Changed.{all_can, has_places, same_ids}
+use Rattle.dimension_ops.proofs.Marking.{as_book}
 use Rattle.dimension_ops.proofs.book.Book.lines_changed.Goals as goal
 
 pub sheets_changed-requires-clause-ready : goal.sheets_changed-requires-clause-ready
@@ -17,18 +18,21 @@ sheets_changed-requires-clause-ready c =
 
 pub invariant_of-result : goal.invariant_of-result
 invariant_of-result c =
-    let before : PlaceBook = record {
-      id = c.self.inside.id;
-      title = c.self.inside.title;
-      owner = c.self.inside.owner;
-      sheets = map arc_value c.self.inside.sheets.items;
-    } in
-    let after : PlaceBook = record before { sheets = map arc_value c.in_ok-sheets.sheets.items } in (
+    let before = as_book c.self.inside.id c.self.inside.title c.self.inside.owner c.self.inside.names
+    (map arc_value c.self.inside.sheets.items) in
+    let after = as_book c.self.inside.id c.self.inside.title c.self.inside.owner c.change.new.self
+    (map arc_value c.in_ok-sheets.sheets.items) in (
       c.changes_stay_sound.ensures.stays before after c.args.by.now.sheet c.args.by.now.axis c.args.by.now.count
           c.args.by.now.change.now c.self.invariant.0 c.requires.fits c.requires.room
           (subst (λ (book : PlaceBook). IsSomeAnd (place_sheet_with c.args.by.now.sheet book.sheets)
           (λ sheet. lines_of_sheet c.args.by.now.axis sheet ≡ c.args.by.now.count)) (sym c.self.view_is) c.requires.long)
-          (record { id = refl; title = refl; owner = refl; sheets = c.in_ok-sheets.ensures })
+          (record {
+            id = refl;
+            title = refl;
+            owner = refl;
+            sheets = c.in_ok-sheets.ensures;
+            ranges = c.change.ensures.followed;
+          })
           (subst (λ n. n ≤ most_places)
           (sym (has_places c.args.by.now.sheet c.args.by.now.axis c.args.by.now.count c.args.by.now.change.now before.sheets
           after.sheets c.in_ok-sheets.ensures))
@@ -38,5 +42,4 @@ invariant_of-result c =
           before.sheets after.sheets c.in_ok-sheets.ensures,
       c.self.invariant.2,
       c.self.invariant.3,
-      c.self.invariant.4,
     )

@@ -23,17 +23,17 @@ index_mut-requires c =
 
 -- the sheets after
 after : (c : In_ok-mark_shared)
-    → as_book c.self.inside.id c.self.inside.title c.self.inside.owner
+    → as_book c.self.inside.id c.self.inside.title c.self.inside.owner c.self.inside.names
     (map arc_value (set c.self.inside.sheets.items c.in-Some.place c.mark_shared.new.shared))
     ≡ on_place_sheet c.args.sheet (place_marked_hidden c.args.hidden) c.args.self.now
 after c =
-    ap (as_book c.self.inside.id c.self.inside.title c.self.inside.owner) (sheets c)
+    ap (as_book c.self.inside.id c.self.inside.title c.self.inside.owner c.self.inside.names) (sheets c)
     ∙ ap (on_place_sheet c.args.sheet (place_marked_hidden c.args.hidden)) c.self.view_is
   where
     sheets : (c : In_ok-mark_shared)
         → map arc_value (set c.self.inside.sheets.items c.in-Some.place c.mark_shared.new.shared)
         ≡ (on_place_sheet c.args.sheet (place_marked_hidden c.args.hidden)
-        (as_book c.self.inside.id c.self.inside.title c.self.inside.owner (map arc_value c.self.inside.sheets.items))).sheets
+        (as_book c.self.inside.id c.self.inside.title c.self.inside.owner c.self.inside.names (map arc_value c.self.inside.sheets.items))).sheets
     sheets c = seen_changed c.self.inside.sheets.items c.args.sheet c.in-Some.place c.index_mut.result.now
         c.mark_shared.new.shared c.index_mut.ensures.value (place_marked_hidden c.args.hidden) c.self.invariant.0.distinct
         (place_found c.deref.result.now c.self.inside.sheets.items c.args.sheet c.in-Some.place c.deref.ensures.value
@@ -50,7 +50,6 @@ invariant_of-self c = (
       ∙ sym (ap (λ (book : PlaceBook). map (λ (sheet : PlaceSheet). sheet.id) book.sheets) (after c)),
   c.self.invariant.2,
   c.self.invariant.3,
-  c.self.invariant.4,
 )
 
 -- the sheets as they were
@@ -62,20 +61,19 @@ kept c = seen_kept arc_value c.self.inside.sheets.items c.in-Some.place c.index_
 
 pub invariant_of-self-in_err-mark_shared : goal.invariant_of-self-in_err-mark_shared
 invariant_of-self-in_err-mark_shared c = (
-  subst (λ sheets. IsSound (as_book c.self.inside.id c.self.inside.title c.self.inside.owner sheets)) (sym (kept c))
+  subst (λ sheets. IsSound (as_book c.self.inside.id c.self.inside.title c.self.inside.owner c.self.inside.names sheets)) (sym (kept c))
       c.self.invariant.0,
   c.self.invariant.1 ∙ sym (ap (map (λ (sheet : PlaceSheet). sheet.id)) (kept c)),
   c.self.invariant.2,
   c.self.invariant.3,
-  c.self.invariant.4,
 )
 
 pub returns-in_err-mark_shared-clause-unchanged : goal.returns-in_err-mark_shared-clause-unchanged
 returns-in_err-mark_shared-clause-unchanged c =
-    let same : as_book c.self.inside.id c.self.inside.title c.self.inside.owner
+    let same : as_book c.self.inside.id c.self.inside.title c.self.inside.owner c.self.inside.names
     (map arc_value (set c.self.inside.sheets.items c.in-Some.place c.mark_shared.new.shared)) ≡ c.args.self.now =
-    ap (as_book c.self.inside.id c.self.inside.title c.self.inside.owner) (kept c) ∙ c.self.view_is in
-    elim c.from_residual.result as (λ r. OnErr r (as_book c.self.inside.id c.self.inside.title c.self.inside.owner
+    ap (as_book c.self.inside.id c.self.inside.title c.self.inside.owner c.self.inside.names) (kept c) ∙ c.self.view_is in
+    elim c.from_residual.result as (λ r. OnErr r (as_book c.self.inside.id c.self.inside.title c.self.inside.owner c.self.inside.names
     (map arc_value (set c.self.inside.sheets.items c.in-Some.place c.mark_shared.new.shared)) ≡ c.args.self.now)) [
       | Ok u ↦ tt
       | Err e ↦ same

@@ -6,6 +6,7 @@ use Rattle.cell_store.specs.Table.{empty_table}
 use Rattle.world_model.specs.Sheet.{PlaceSheet}
 use Rattle.world_model.specs.Sound.{IsSound}
 use Rattle.dimension_ops.specs.World.{opening_sheet}
+use Rattle.dimension_ops.proofs.Marking.{as_book}
 use Rattle.dimension_ops.proofs.Opening.{opening_sound}
 use Rattle.dimension_ops.proofs.book.Book.opening.Goals as goal
 
@@ -17,11 +18,12 @@ invariant_of-result c =
     let one : map arc_value c.in_ok-sheets.sheets.items ≡ opening_sheet ∷ [] =
     c.in_ok-sheets.ensures
     ∙ ap (λ (sheet : PlaceSheet). sheet ∷ []) (c.in_ok-sheet.ensures ∙ ap titled (c.of-title.ensures ∙ c.in_ok-from_str.ensures.ok)) in (
-      subst (λ sheets. IsSound (record { id = c.of.result; title = c.of-2.result; owner = c.of-3.result; sheets = sheets })) (sym one)
-          (opening_sound c.of.result c.of-2.result c.of-3.result),
+      subst (λ ranges. IsSound (as_book c.of.result c.of-2.result c.of-3.result ranges (map arc_value c.in_ok-sheets.sheets.items)))
+          (sym c.new.ensures)
+          (subst (λ sheets. IsSound (as_book c.of.result c.of-2.result c.of-3.result [] sheets)) (sym one)
+          (opening_sound c.of.result c.of-2.result c.of-3.result)),
       c.of-4.ensures ∙ c.in_ok-push.ensures.items ∙ ap (λ list. list ++ (0 ∷ [])) c.new-ids.ensures.items
           ∙ sym (ap (map (λ (sheet : PlaceSheet). sheet.id)) one),
-      c.new.ensures,
       c.new-2.ensures,
       c.new-3.ensures,
     )

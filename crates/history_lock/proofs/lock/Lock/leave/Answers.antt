@@ -1,6 +1,9 @@
 use Rattle.std.proofs.Common.{rules, ◌∷◌, Some, drop, length, sym, ap, ◌∙◌, subst}
 use Rattle.atomic_table.specs.Table.{rest}
-use Rattle.history_lock.specs.History.{StartsWith, AllOf}
+use Rattle.history_lock.specs.History.{StartsWith, AllOf, AreDone}
+use Rattle.history_lock.specs.Steps.{the_view, held_list}
+use Rattle.history_lock.specs.Passes.{opened_with, taken_by}
+use Rattle.history_lock.proofs.Histories.{starts_through}
 use Rattle.history_lock.proofs.Turns.{leaves_at}
 use Rattle.history_lock.proofs.lock.Lock.leave.Goals as goal
 
@@ -24,3 +27,18 @@ store-requires g c =
           (sym number) c.requires.own))
           (c.requires.pair ∙ sym (ap (λ m. m.0.pair) put.3 ∙ turn.view_is.pair_is)),
     )
+
+pub returns-clause-pass : goal.returns-clause-pass
+returns-clause-pass g c =
+    let left = c.store.ensures.2 in
+    let turn = c.requires.turn in
+    let view = ap the_view c.into_badge.ensures.2 ∙ ap (λ m. m.0) left.0 in
+    let seen = ap (λ v. v.seen) view ∙ ap (λ m. held_list g.T.Told.list m.1) c.exchange.ensures.3 in
+    record {
+      table_is = search rules;
+      view_is = search rules;
+      begins = subst (λ l. StartsWith l (g.T.Told.list (opened_with c.args.self.now))) (sym seen)
+          (starts_through (g.T.Told.list c.args.value) (taken_by c.args.turn)
+          (g.T.Told.list (opened_with c.args.self.now)) c.requires.list turn.begins);
+      done = subst (λ v. AreDone g.T.Told.caller v.met v.seen) (sym view) left.1;
+    }

@@ -16,7 +16,8 @@ join_seat-requires g c =
       search rules,
       hears _ _ _ _ _ _ c.into_seat-seat.result.me.0 _ c.into_seat.result.me.0
           (ap (λ v. v.stage) view ∙ c.args.pass.now.away)
-          (ap (λ v. v.stage) other ∙ c.args.other.away),
+          (ap (λ v. v.stage) other ∙ c.args.other.away)
+          (ap (λ v. v.numbered) other ∙ c.args.other.numbered),
     )
 
 pub load-requires : goal.load-requires
@@ -28,5 +29,6 @@ load-requires g c =
       search rules,
       settles_at _ _ _ _ _ _ _ c.join_seat.new.seat.me
           (ap (λ m. m.1) met ∙ mine.3)
-          (ap (λ m. m.0.stage) met ∙ ap (λ v. v.stage) view ∙ c.args.pass.now.away),
+          (ap (λ m. m.0.stage) met ∙ ap (λ v. v.stage) view ∙ c.args.pass.now.away)
+          (ap (λ m. m.0.numbered) met ∙ ap (λ v. v.numbered) view ∙ c.args.pass.now.numbered),
     )

@@ -1,13 +1,13 @@
 use Rattle.std.proofs.Common.{◌++◌, codes}
 use Rattle.std.specs.Fmt.{decimal}
 use Rattle.sheets_cli.proofs.SendLemmas.{Sends-then, Sends-cut}
-use Rattle.sheets_cli.proofs.report.send_truncated.Goals as goal
+use Rattle.sheets_cli.proofs.report.send_line.Goals as goal
 
 pub returns-in-Ok-clause-sends : goal.returns-in-Ok-clause-sends
 returns-in-Ok-clause-sends g c =
-    Sends-then _ _ _ (codes "truncated ") (decimal c.args.count ++ codes "\n") _ _ c.in-Ok.ensures.sent
+    Sends-then _ _ _ c.args.text.now (decimal c.args.count ++ codes "\n") _ _ c.in-Ok.ensures.sent
     c.send_count.ensures.sends
 
 pub returns-in-Err-clause-sends : goal.returns-in-Err-clause-sends
 returns-in-Err-clause-sends g c =
-    Sends-cut _ _ (codes "truncated ") (decimal c.args.count ++ codes "\n") c.in-Err.fault c.in-Err.ensures.sent
+    Sends-cut _ _ c.args.text.now (decimal c.args.count ++ codes "\n") c.in-Err.fault c.in-Err.ensures.sent
