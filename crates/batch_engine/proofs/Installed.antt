@@ -1,5 +1,5 @@
 -- A call on a spreadsheet that is there, from its answer and from what takes its place.
-use Rattle.std.proofs.Common.{◌≡◌, ℕ, refl, sym, ap, subst, ◌∙◌, List}
+use Rattle.std.proofs.Common.{◌≡◌, ◌⊎◌, inl, inr, ℕ, refl, sym, ap, subst, ◌∙◌, List}
 use Rattle.std.specs.Prelude.{Bool, Option, Some, None, IsSomeAnd, IfOk, Result, Ok, Err}
 use Rattle.std.specs.Option.{IsSome}
 use Rattle.world_model.specs.Book.{PlaceBook}
@@ -8,11 +8,14 @@ use Rattle.dimension_ops.specs.ByName.{ReplacesByName}
 use Rattle.dimension_ops.specs.Rules.{IsUnlessNoMemory}
 use Rattle.dimension_ops.specs.World.{book_with}
 use Rattle.dimension_ops.specs.declared.rule.Rule.{Rule}
+use Rattle.dimension_ops.specs.declared.rule.Rule.TheVariants as rule
 use Rattle.sheets_json.specs.declared.answer.Answer.{Answer}
 use Rattle.dimension_ops.specs.declared.rule.RuleOr.{RuleOr}
 use Rattle.grid_range.specs.declared.axis.Axis.{Axis}
 use Rattle.cell_value.specs.declared.cell.Render.{Render}
 use Rattle.cell_value.specs.declared.entered.Mode.{Mode}
+use Rattle.json_requests.specs.declared.request.DataFilter.{DataFilter}
+use Rattle.json_requests.specs.declared.request.MetadataLookup.{MetadataLookup}
 use Rattle.json_shapes.specs.Reading.{Reading}
 use Rattle.sheets_json.specs.declared.call.Call.{Call}
 use Rattle.sheets_json.specs.declared.call.Call.TheVariants as call
@@ -25,7 +28,7 @@ use Rattle.batch_engine.specs.Calls.{OnBook, IsAlone, IsAnswered, IsApplied, IsC
 use Rattle.batch_engine.specs.Calls.{AreNext, IsMaking}
 use Rattle.batch_engine.specs.Create.{IsCreateOf}
 use Rattle.batch_engine.specs.Looks.{looked}
-use Rattle.batch_engine.specs.Calls.{IsLookOf, IsClearOf, IsReadOf, IsReadManyOf, IsWriteOf}
+use Rattle.batch_engine.specs.Calls.{IsLookOf, IsNotDone, IsClearOf, IsReadOf, IsReadManyOf, IsWriteOf}
 use Rattle.batch_engine.specs.declared.calls.Caller.{Caller}
 use Rattle.batch_engine.specs.declared.calls.Outcome.{Outcome}
 use Rattle.batch_engine.proofs.Becoming.{found_has_id, becomes_changed}
@@ -53,6 +56,32 @@ applied_unchanged caller called books told outcome next answered is none = recor
   told_is = is;
   next_is = none_next books next none;
 }
+
+-- a call that isn't done yet
+not_done_answered : (caller : Caller) (called : Call) (books : List PlaceBook) (told : Result Answer Refusal)
+    (effect : Effect)
+    → ((id : List ℕ) × (filters : List (Reading DataFilter)) × (dimension : Option Axis) × (render : Option Render)
+    × (called ≡ call.ReadFiltered id filters dimension render))
+    ⊎ ((id : List ℕ) × (item : ℕ) × (called ≡ call.Item id item))
+    ⊎ ((id : List ℕ) × (filters : List (Reading MetadataLookup)) × (called ≡ call.Search id filters))
+    → IsNotDone told effect → IsAnswered caller called books told effect
+not_done_answered caller called books told effect (inl (id, filters, dimension, render, is)) holds =
+    subst (λ one. IsAnswered caller one books told effect) (sym is) holds
+not_done_answered caller called books told effect (inr (inl (id, item, is))) holds =
+    subst (λ one. IsAnswered caller one books told effect) (sym is) holds
+not_done_answered caller called books told effect (inr (inr (id, filters, is))) holds =
+    subst (λ one. IsAnswered caller one books told effect) (sym is) holds
+
+pub not_done_applied : (caller : Caller) (called : Call) (books : List PlaceBook) (outcome : Outcome)
+    (next : Option (List PlaceBook))
+    → ((id : List ℕ) × (filters : List (Reading DataFilter)) × (dimension : Option Axis) × (render : Option Render)
+    × (called ≡ call.ReadFiltered id filters dimension render))
+    ⊎ ((id : List ℕ) × (item : ℕ) × (called ≡ call.Item id item))
+    ⊎ ((id : List ℕ) × (filters : List (Reading MetadataLookup)) × (called ≡ call.Search id filters))
+    → outcome ≡ told_as (Err (place.Alone, rule.Unsupported)) → next ≡ None → IsApplied caller called books outcome next
+not_done_applied caller called books outcome next one is none =
+    applied_unchanged caller called books (Err (place.Alone, rule.Unsupported)) outcome next
+    (not_done_answered caller called books (Err (place.Alone, rule.Unsupported)) Nothing one (refl, refl)) is none
 
 module _ (caller : Caller) (called : Call) (id : List ℕ) (books : List PlaceBook)
     (Answered : PlaceBook → Result Answer Refusal → Effect → Type 0)

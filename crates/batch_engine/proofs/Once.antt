@@ -17,6 +17,7 @@ use Rattle.world_model.specs.Updating.{Updates}
 use Rattle.dimension_ops.specs.SheetRequests.{NewSheetsOnce}
 use Rattle.dimension_ops.specs.World.{book_with}
 use Rattle.dimension_ops.specs.declared.rule.Rule.{Rule}
+use Rattle.dimension_ops.specs.declared.rule.Rule.TheVariants as rule
 use Rattle.values_api.specs.Blocks.{contents_of}
 use Rattle.values_api.specs.Laws.{AppendsOnce, ReadsOnce, WritesOnce}
 use Rattle.values_api.specs.Ranges.{FoundArea, Resolves, named, unnamed, part_of}
@@ -38,7 +39,7 @@ use Rattle.batch_engine.specs.Values.{Appended, IsAppendOn, IsAppended, IsUpdate
 use Rattle.batch_engine.specs.Values.{axis_or_rows, is_columns, render_or_formatted, shown_range}
 use Rattle.batch_engine.specs.Looks.{looked}
 use Rattle.batch_engine.specs.Calls.{AreMade, IsAppendOf, IsBatchOf, IsLookOf, IsAlone, IsAnswered, IsClearManyOf, IsClearOf, IsMade, IsReadManyOf}
-use Rattle.batch_engine.specs.Calls.{IsReadOf, IsSeen, IsWriteManyOf, IsWriteOf, OnBook, Refusal, alone, answered_at}
+use Rattle.batch_engine.specs.Calls.{IsNotDone, IsReadOf, IsSeen, IsWriteManyOf, IsWriteOf, OnBook, Refusal, alone, answered_at}
 use Rattle.batch_engine.specs.Calls.{answered_by, effect_of, effect_on, told_of, written_answer}
 use Rattle.batch_engine.specs.Members.{InOrder, Then, Told, with_first}
 use Rattle.sheets_json.specs.declared.answer.ShownRange.{ShownRange}
@@ -115,6 +116,9 @@ module _ {A : Type 0} (Found : Result FoundArea Rule → Type 0) (sheets : List 
 -- what is answered and made so has one answer and one effect
 said_once : {Broken : Type 0} (says : Result Answer Broken) (makes : Effect) → IsOnce (λ told effect. (told ≡ says) × (effect ≡ makes))
 said_once says makes told told' effect effect' is is' = (is.0 ∙ sym is'.0, is.1 ∙ sym is'.1)
+
+not_done_once : IsOnce IsNotDone
+not_done_once = said_once (Err (place.Alone, rule.Unsupported)) Nothing
 
 -- ---- reads
 
@@ -354,6 +358,9 @@ module _ (one_reading : HasOneReading) (news : NewSheetsOnce) (reads : ReadsOnce
         on_book_once id (IsBatchOf requests)
         (λ book sound. are_made_once IsRequested (requested_once news writes apart turns) requests place.Requests
         (λ replies. answer.Batch replies book.id) book sound)
+    answered_once caller (call.ReadFiltered id filters dimension render) = not_done_once
+    answered_once caller (call.Item id item) = not_done_once
+    answered_once caller (call.Search id filters) = not_done_once
     answered_once caller (call.Append id range mode option values) =
         on_book_once id (λ book. IsAlone (IsAppendOf range option values book))
         (λ book sound. alone_once (IsAppendOf range option values book)

@@ -1,6 +1,6 @@
 -- What requests on named ranges do, from what is done to the list of them.
-use Rattle.std.proofs.Common.{◌≡◌, ◌+◌, ℕ, Bool, true, false, cond, sym, ap, ◌∙◌, refl, List, [], ◌∷◌, length, arith}
-use Rattle.std.specs.Prelude.{Option, None, Some, Result, Ok, Err, nat_lt, ◌<◌, ◌≤◌}
+use Rattle.std.proofs.Common.{◌≡◌, ◌+◌, ℕ, Bool, true, false, cond, sym, ap, ◌∙◌, refl, List, [], ◌∷◌, length}
+use Rattle.std.specs.Prelude.{Option, None, Some, Result, Ok, Err, nat_lt}
 use Rattle.std.specs.Option.{is_none, option_map_or}
 use Rattle.std.proofs.lemmas.List.{length-append}
 use Rattle.grid_range.specs.declared.area.Area.{Area}
@@ -20,7 +20,7 @@ use Rattle.json_requests.specs.declared.request.NewNamedRange.{NewNamedRange}
 use Rattle.sheets_json.specs.declared.spreadsheet.Reply.{Reply}
 use Rattle.sheets_json.specs.declared.spreadsheet.Reply.TheVariants as reply
 use Rattle.batch_engine.specs.AddNamedRange.{IsRangePut, most_names, names_broken, put_behind}
-use Rattle.batch_engine.specs.DeleteNamedRange.{range_deleted, range_deleted_broken}
+use Rattle.batch_engine.specs.DeleteNamedRange.{range_deleted}
 use Rattle.batch_engine.specs.Members.{IsDoneTo}
 use Rattle.batch_engine.specs.UpdateNamedRange.{IsRangeSet}
 

@@ -11,7 +11,6 @@ use Rattle.world_model.specs.BookChange.{BookChange}
 use Rattle.dimension_ops.specs.Broken.{judged_by}
 use Rattle.dimension_ops.specs.RangeRequests.{IsRangeAdded, IsRangeUpdated, range_of, range_updates}
 use Rattle.dimension_ops.specs.declared.rule.Rule.{Rule}
-use Rattle.dimension_ops.specs.declared.rule.Rule.TheVariants as rule
 use Rattle.json_requests.specs.declared.request.NewNamedRange.{NewNamedRange}
 use Rattle.sheets_json.specs.declared.spreadsheet.Reply.{Reply}
 use Rattle.sheets_json.specs.declared.spreadsheet.Reply.TheVariants as reply

@@ -1,6 +1,6 @@
 -- addNamedRange (Google Sheets API v4 reference, AddNamedRangeRequest): a named range is put behind the others, and is
 -- replied. That its area is cut at the grid, and how many there can be, is this project's profile.
-use Rattle.std.specs.Prelude.{◌≡◌, ◌+◌, ℕ, false, nat_lt, List, [], ◌∷◌, length, Result, MatchResult, Ok, Err}
+use Rattle.std.specs.Prelude.{◌≡◌, ◌+◌, ℕ, false, nat_lt, List, [], ◌∷◌, length, Result, MatchResult, Err}
 use Rattle.grid_range.specs.declared.area.Area.{Area}
 use Rattle.named_ranges.specs.declared.range.NamedRange.{NamedRange}
 use Rattle.world_model.specs.Book.{PlaceBook}

@@ -14,6 +14,7 @@ use Rattle.world_model.specs.BookChange.{AreChanges, BookChange}
 use Rattle.dimension_ops.specs.ByName.{ReplacesByName}
 use Rattle.dimension_ops.specs.World.{book_with}
 use Rattle.dimension_ops.specs.declared.rule.Rule.{Rule}
+use Rattle.dimension_ops.specs.declared.rule.Rule.TheVariants as rule
 use Rattle.dimension_ops.specs.declared.rule.RuleOr.{RuleOr}
 use Rattle.dimension_ops.specs.declared.rule.RuleOr.TheVariants as refusal
 use Rattle.values_api.specs.declared.writing.Written.{Written}
@@ -173,6 +174,10 @@ OnBook id books Holds = IsSomeAnd (book_with id books) Holds
 abbrev pub IsLookOf : Option Bool → PlaceBook → Result Answer Refusal → Effect → Type 0
 IsLookOf grids book told effect = (told ≡ Ok (looked grids book)) × (effect ≡ Nothing)
 
+-- a call that isn't done yet is unsupported
+abbrev pub IsNotDone : Result Answer Refusal → Effect → Type 0
+IsNotDone told effect = (told ≡ Err (place.Alone, rule.Unsupported)) × (effect ≡ Nothing)
+
 -- the call of its caller is answered so, or breaks that rule there, and makes that of the spreadsheets
 abbrev pub IsAnswered : Caller → Call → List PlaceBook → Result Answer Refusal → Effect → Type 0
 IsAnswered caller (call.Create spreadsheet) books told effect =
@@ -194,6 +199,9 @@ IsAnswered caller (call.WriteMany id mode blocks) books told effect =
     OnBook id books (λ book. IsWriteManyOf blocks book told effect)
 IsAnswered caller (call.ClearMany id ranges) books told effect =
     OnBook id books (λ book. IsClearManyOf ranges book told effect)
+IsAnswered caller (call.ReadFiltered id filters dimension render) books told effect = IsNotDone told effect
+IsAnswered caller (call.Item id item) books told effect = IsNotDone told effect
+IsAnswered caller (call.Search id filters) books told effect = IsNotDone told effect
 
 -- the spreadsheet that a call is on is there; one that makes a spreadsheet is on none
 abbrev pub HasItsBook : Call → List PlaceBook → Type 0
@@ -207,6 +215,9 @@ HasItsBook (call.Clear id range) books = IsSome (book_with id books)
 HasItsBook (call.ReadMany id ranges dimension render) books = IsSome (book_with id books)
 HasItsBook (call.WriteMany id mode blocks) books = IsSome (book_with id books)
 HasItsBook (call.ClearMany id ranges) books = IsSome (book_with id books)
+HasItsBook (call.ReadFiltered id filters dimension render) books = IsSome (book_with id books)
+HasItsBook (call.Item id item) books = IsSome (book_with id books)
+HasItsBook (call.Search id filters) books = IsSome (book_with id books)
 
 abbrev pub told_as : Result Answer Refusal → Outcome
 told_as (Ok told) = outcome.Answered told

@@ -1,5 +1,5 @@
 -- What is shown of a spreadsheet itself (Google Sheets API v4 reference, spreadsheets.get, Spreadsheet, Sheet,
--- SheetProperties, GridData and NamedRange). None has merged cells or filters yet.
+-- SheetProperties, GridData and NamedRange). None has merged cells, filters or protected ranges yet.
 use Rattle.std.specs.Prelude.{ℕ, ◌+◌, Bool, true, false, List, [], ◌∷◌, Option, None, Some, unwrap_or}
 use Rattle.world_model.specs.Book.{PlaceBook}
 use Rattle.world_model.specs.Sheet.{PlaceSheet}
@@ -29,8 +29,13 @@ rows_shown false = None
 
 -- the sheet at a place among the sheets, with its rows or without
 abbrev pub shown_sheet : Bool → ℕ → PlaceSheet → ShownSheet
-shown_sheet grids index sheet =
-    record { «data» = rows_shown grids; merges = None; properties = shown_properties index sheet }
+shown_sheet grids index sheet = record {
+  basic_filter = None;
+  «data» = rows_shown grids;
+  merges = None;
+  properties = shown_properties index sheet;
+  protected_ranges = None;
+}
 
 -- the sheets from a place on
 abbrev pub shown_from : Bool → ℕ → List PlaceSheet → List ShownSheet

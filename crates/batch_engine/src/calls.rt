@@ -51,9 +51,9 @@ pub struct Applied {
 /// Makes a call of its caller on the spreadsheets, which stay as they are: what they are after it is told. New
 /// spreadsheets, looks at one, batches of requests, appends, and reads, writes and clears of one range and of a
 /// list of them are done (Sheets API v4 reference, spreadsheets.create, spreadsheets.get, spreadsheets.batchUpdate
-/// and spreadsheets.values); a request of a kind that isn't done is refused as [`Rule::Unsupported`]. A batch
-/// and a list are done in their order, each member on what those before it leave, and the first member that
-/// breaks a rule refuses the call.
+/// and spreadsheets.values); another call, and a request of a kind that isn't done, is refused as
+/// [`Rule::Unsupported`]. A batch and a list are done in their order, each member on what those before it leave,
+/// and the first member that breaks a rule refuses the call.
 ///
 /// # Errors
 ///
@@ -146,6 +146,9 @@ pub fn apply(
         Call::Create { spreadsheet } => {
             let told = judged(create(alloc, world, caller.user.as_str(), spreadsheet))?;
             Ok(made(alone(told)))
+        }
+        Call::ReadFiltered { .. } | Call::Item { .. } | Call::Search { .. } => {
+            Ok(unchanged(Err((Place::Alone, Rule::Unsupported))))
         }
     }
 }

@@ -85,9 +85,11 @@ fn shown_sheet(
     ensures { IfOk result (λ shown. shown ≡ shown_sheet grids index sheet.now) }
 {
     Ok(ShownSheet {
+        basic_filter: None,
         data: rows_shown(alloc, grids),
         merges: None,
         properties: shown_properties(index, sheet)?,
+        protected_ranges: None,
     })
 }
 

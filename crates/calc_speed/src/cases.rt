@@ -3,6 +3,8 @@
 pub enum Reads {
     /// The number beside it.
     Beside,
+    /// The number over it, where the formulas stand in a row.
+    Over,
     /// The formula above it, to which it adds one; the first of them the number beside it.
     Above,
     /// The formula below it, to which it adds one; the last of them the number beside it.
@@ -37,12 +39,24 @@ const MANY: Size = Size {
     numbers: 20_000,
 };
 
-pub static CASES: [Case; 5] = [
+pub static CASES: [Case; 6] = [
     Case {
         name: "one cell each",
         reads: Reads::Beside,
         small: FEW,
         large: MANY,
+    },
+    Case {
+        name: "one cell of a row each",
+        reads: Reads::Over,
+        small: Size {
+            formulas: 1_800,
+            numbers: 1_800,
+        },
+        large: Size {
+            formulas: 18_000,
+            numbers: 18_000,
+        },
     },
     Case {
         name: "a chain from its start",
@@ -83,11 +97,16 @@ pub static CASES: [Case; 5] = [
 ];
 
 impl Reads {
+    /// Whether the formulas stand in a row, one column behind another, rather than in a column.
+    pub fn in_row(self) -> bool {
+        matches!(self, Reads::Over)
+    }
+
     /// How many reads the formulas of a sheet of that size make together.
     pub fn count(self, size: Size) -> u128 {
         let formulas = u128::from(size.formulas);
         match self {
-            Reads::Beside | Reads::Above | Reads::Below => formulas,
+            Reads::Beside | Reads::Over | Reads::Above | Reads::Below => formulas,
             Reads::Numbers => formulas * u128::from(size.numbers),
         }
     }
@@ -95,7 +114,7 @@ impl Reads {
     /// What makes one of these reads.
     pub fn unit(self) -> &'static str {
         match self {
-            Reads::Beside | Reads::Above | Reads::Below => "formula",
+            Reads::Beside | Reads::Over | Reads::Above | Reads::Below => "formula",
             Reads::Numbers => "cell of a sum",
         }
     }

@@ -1,5 +1,6 @@
-//! What a calculation costs, by what its formulas read: 2,000 formulas and 20,000 that read a cell each, chains of
-//! as many in both directions, 20 sums over 2,000 cells and over 20,000, and 100 sums and 1,000 over 1,000 cells.
+//! What a calculation costs, by what its formulas read: 2,000 formulas and 20,000 that read a cell each, 1,800 and
+//! 18,000 in a row that do, chains of as many in both directions as those in a column, 20 sums over 2,000 cells and
+//! over 20,000, and 100 sums and 1,000 over 1,000 cells.
 //!
 //! It writes what the first formula and the last of each smaller sheet show. With the argument `time` it also
 //! writes how many picoseconds a formula takes, or a cell that a sum reads, in the smaller sheet and in the larger
@@ -10,12 +11,12 @@ mod cases;
 mod rounds;
 mod sheets;
 
-use cases::{CASES, Case, Size};
-use cell_calc::calculate_for;
-use cell_value::show;
+use cases::{CASES, Case, Reads};
+use cell_calc::{Table, calculate_for};
+use cell_value::{NoMemory, Text, show};
 use dimension_ops::Book;
 use rounds::{Times, time};
-use sheets::{FORMULA_COLUMN, FORMULAS, sheet_of};
+use sheets::{SHEET, formula_cell, formula_cells, sheet_of};
 use std::alloc::Global;
 use std::time::Clock;
 use std::{env, io};
@@ -28,7 +29,7 @@ fn main(rt: HostRuntime) -> anyhow::Result<()> {
     }
     for case in &CASES {
         let small = sheet_of(rt.alloc(), case.reads, case.small)?;
-        print_values(&rt, rt.alloc(), case.name, case.small, &small)?;
+        print_values(&rt, rt.alloc(), case, &small)?;
         if timed {
             time_case(&rt, rt.alloc(), case, &small)?;
         }
@@ -37,25 +38,30 @@ fn main(rt: HostRuntime) -> anyhow::Result<()> {
 }
 
 /// Writes what the first formula of a sheet shows, and the last.
-fn print_values<R: Print>(
-    rt: &R,
-    alloc: Global,
-    name: &str,
-    size: Size,
-    book: &Book,
-) -> anyhow::Result<()> {
-    let table = calculate_for(alloc, &BookCells::of(book), &[FORMULAS])?;
-    let last_row = size.formulas.saturating_sub(1);
-    let first = show(alloc, table.value(FORMULAS.sheet, 0, FORMULA_COLUMN))?;
-    let last = show(alloc, table.value(FORMULAS.sheet, last_row, FORMULA_COLUMN))?;
+fn print_values<R: Print>(rt: &R, alloc: Global, case: &Case, book: &Book) -> anyhow::Result<()> {
+    let table = calculate_for(alloc, &BookCells::of(book), &[formula_cells(case.reads)])?;
+    let first = value_shown(alloc, &table, case.reads, 0)?;
+    let last = value_shown(
+        alloc,
+        &table,
+        case.reads,
+        case.small.formulas.saturating_sub(1),
+    )?;
     println!(rt;
-        "{name}, formulas {}, numbers {}: the first shows {}, the last {}",
-        size.formulas,
-        size.numbers,
+        "{}, formulas {}, numbers {}: the first shows {}, the last {}",
+        case.name,
+        case.small.formulas,
+        case.small.numbers,
         first.as_str(),
         last.as_str()
     )?;
     Ok(())
+}
+
+/// What one of the formulas that read so shows; the first has the index 0.
+fn value_shown(alloc: Global, table: &Table, reads: Reads, index: u32) -> Result<Text, NoMemory> {
+    let (row, column) = formula_cell(reads, index);
+    show(alloc, table.value(SHEET, row, column))
 }
 
 /// Times the calculations of both sheets of a case.
@@ -66,7 +72,7 @@ fn time_case<R: Clock + Print>(
     small: &Book,
 ) -> anyhow::Result<()> {
     let large = sheet_of(alloc, case.reads, case.large)?;
-    let times = time(rt, alloc, small, &large)?;
+    let times = time(rt, alloc, &formula_cells(case.reads), small, &large)?;
     print_times(rt, case, times)?;
     Ok(())
 }

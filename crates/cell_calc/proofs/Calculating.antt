@@ -1,13 +1,15 @@
 -- From marks to the values that a table tells.
-use Rattle.std.proofs.Common.{◌≡◌, ◌⊎◌, ℕ, suc, ◌+◌, ◌<◌, List, [], ◌∷◌, ◌++◌, length, map, take, get_or, Contains, Option, Some, None, unwrap_or, refl, ap, sym, subst, ◌∙◌, inl, inr, arith}
+use Rattle.std.proofs.Common.{◌≡◌, ◌⊎◌, ℕ, suc, ◌+◌, ◌<◌, List, [], ◌∷◌, ◌++◌, length, map, take, get_or, Contains, Option, Some, None, unwrap_or, Result, refl, ap, sym, subst, ◌∙◌, inl, inr, arith}
 use Rattle.std.specs.Prelude.{IsSomeAnd}
 use Rattle.std.specs.Option.{IsSome}
+use Rattle.std.specs.Result.{OnOk}
 use Rattle.std.proofs.Math.Seq.{take-suc}
 use Rattle.std.proofs.lemmas.List.Elements.{Contains-append_cases}
+use Rattle.std.proofs.lemmas.Result.{on_ok_weaker}
 use Rattle.cell_value.specs.declared.cell.Kind.TheVariants as kind
 use Rattle.cell_value.specs.declared.cell.Value.{Value}
 use Rattle.cell_value.specs.declared.cell.Value.TheVariants.{Blank, Error}
-use Rattle.cell_value.specs.Elements.{nothing_in, Contains-cons_cases, Contains-map}
+use Rattle.cell_value.specs.Elements.{nothing_in, Contains-head, Contains-cons_cases, Contains-map}
 use Rattle.grid_range.specs.declared.area.Area.{Area}
 use Rattle.ref_rewrite.specs.declared.cell_content.Content.{Content}
 use Rattle.cell_calc.specs.declared.mark.Mark.{Mark}
@@ -15,9 +17,10 @@ use Rattle.cell_calc.specs.declared.mark.Mark.TheVariants.{Open, Endless, Known}
 use Rattle.cell_calc.specs.Book.{Book, Place, HoldsPlace}
 use Rattle.cell_calc.specs.Contents.{Contents, AreOf, AreSound, AreStoredPlaces}
 use Rattle.cell_calc.specs.CellValue.{HasValue}
-use Rattle.cell_calc.specs.Marks.{place_of, value_told}
-use Rattle.cell_calc.specs.Walk.{Holds, Goes}
-use Rattle.cell_calc.specs.Calculated.{AreValues, AreAllValues, IsStoredFormula, Calculates, SettlesAll, Calculated, whole_sheet}
+use Rattle.cell_calc.specs.declared.table.Table.{Table}
+use Rattle.cell_calc.specs.Marks.{place_of, marks_of, value_told}
+use Rattle.cell_calc.specs.Walk.{HeldBy, Holds, Goes}
+use Rattle.cell_calc.specs.Calculated.{IsValueIn, AreValues, AreAllValues, IsTableOf, IsStoredFormula, Calculates, SettlesAll, Calculated, whole_sheet}
 use Rattle.cell_calc.proofs.Endless.{counts_are_bounds}
 use Rattle.cell_calc.proofs.Steps.{told_is_value}
 use Rattle.cell_calc.proofs.Going.{goes_nowhere, goes_on}
@@ -136,6 +139,51 @@ module _ (contents : Contents) where
       | inr never ↦ absurd (nothing_in held.0 never)
     ];
   }
+
+  module _ (area : Area) (areas : List Area) (before after : Place → Option Mark)
+      (was : (book : Book) → AreOf contents book → Holds contents book before []) (calculates : Calculates contents area before after)
+      (values : AreValues contents areas (λ place. value_told (before place))) where
+    calculated : Calculated contents (area ∷ []) after
+    calculated = one_area area before after was calculates
+
+    nothing_before : (place : Place) → after place ≡ None → before place ≡ None
+    nothing_before place is = none_before (before place) (calculates.goes.stay place) refl
+      where
+        none_before : (mark : Option Mark) → (IsSome mark → IsSome (after place)) → before place ≡ mark → before place ≡ None
+        none_before None stays at = at
+        none_before (Some mark) stays at = let some = stays refl in let never : ⊥ = cc in absurd never
+
+    value_kept : (place : Place) → IsStoredFormula (contents.content place) → HeldBy areas place → (mark : Option Mark)
+        → after place ≡ mark → IsValueIn contents place (unwrap_or (value_told mark) Blank)
+    value_kept place formed held None is =
+        subst (λ mark. IsValueIn contents place (unwrap_or (value_told mark) Blank)) (nothing_before place is)
+        (values.formulas place formed held)
+    value_kept place formed held (Some mark) is = λ book are.
+        some_told (area ∷ []) after calculated book are place (Some mark) is refl
+
+    -- the values of areas that were calculated before stay
+    pub one_area_more : AreValues contents (area ∷ areas) (λ place. value_told (after place))
+    one_area_more = record {
+      formulas = λ place formed held. elim (Contains-cons_cases area held.0 areas held.1) [
+        | inl same ↦
+            (are_values (area ∷ []) after calculated).formulas place formed
+            (area, Contains-head area [], subst (λ a. HoldsPlace a place) (sym same) held.2)
+        | inr earlier ↦ value_kept place formed (held.0, earlier, held.2) (after place) refl
+      ];
+      others = (are_values (area ∷ []) after calculated).others;
+    }
+
+  module _ {T E : Type 0} (area : Area) (before after : Table) (was : IsTableOf contents before) (r : Result T E)
+      (calculates : OnOk r (Calculates contents area (marks_of before) (marks_of after))) where
+    -- a table of the spreadsheet comes to another that has the area's values
+    pub table_after : OnOk r (IsTableOf contents after)
+    table_after =
+        on_ok_weaker r (λ found. record { right = λ book are. found.goes.right book are (was.right book are) }) calculates
+
+    pub values_after : OnOk r (AreValues contents (area ∷ []) (λ place. value_told (marks_of after place)))
+    values_after =
+        on_ok_weaker r (λ found. are_values (area ∷ []) (marks_of after) (one_area area (marks_of before) (marks_of after) was.right found))
+        calculates
 
   pub are_all_values : AreSound contents → (known : Place → Option Value)
       → AreValues contents (map whole_sheet contents.sheets) known → AreAllValues contents known

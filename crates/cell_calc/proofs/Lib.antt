@@ -25,3 +25,4 @@ pub mod Calculating
 pub mod AreasListed
 pub mod Popped
 pub mod Noting
+pub mod OneCell

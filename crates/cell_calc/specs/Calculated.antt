@@ -1,9 +1,9 @@
 -- The values that are calculated of a spreadsheet (Google Sheets API v4 reference, CellData, `effectiveValue`).
-use Rattle.std.specs.Prelude.{◌≡◌, ⊤, List, [], Contains, ℕ, Option, Some, None}
+use Rattle.std.specs.Prelude.{◌≡◌, ⊤, List, [], Contains, ℕ, ◌+◌, Option, Some, None}
 use Rattle.std.specs.Option.{IsSome}
 use Rattle.cell_value.specs.declared.cell.Value.{Value}
 use Rattle.grid_range.specs.declared.area.Area.{Area}
-use Rattle.grid_range.specs.declared.band.Band.TheVariants.{Whole}
+use Rattle.grid_range.specs.declared.band.Band.TheVariants.{Whole, Span}
 use Rattle.ref_rewrite.specs.declared.cell_content.Content.{Content}
 use Rattle.ref_rewrite.specs.declared.cell_content.Content.TheVariants.{Number, Text, Truth, Formula}
 use Rattle.cell_calc.specs.declared.mark.Mark.{Mark}
@@ -74,3 +74,7 @@ pub record Calculated (contents : Contents) (areas : List Area) (marks : Place �
 -- all cells of a sheet
 abbrev pub whole_sheet : ℕ → Area
 whole_sheet sheet = record { sheet = sheet; rows = Whole; cols = Whole }
+
+-- one cell of a sheet
+abbrev pub one_cell : ℕ → ℕ → ℕ → Area
+one_cell sheet row column = record { sheet = sheet; rows = Span row (row + 1); cols = Span column (column + 1) }

@@ -1,11 +1,13 @@
-ghost use Rattle.std.specs.Prelude.{◌≡◌, ◌↔◌, [], ◌∷◌, map, IfOk, OnOk, IsTrue};
+ghost use Rattle.std.specs.Prelude.{◌≡◌, ◌↔◌, List, [], ◌∷◌, map, IfOk, OnOk, IsTrue};
 ghost use Rattle.std.specs.Option.{IsSome, option_copied};
+ghost use Rattle.grid_range.specs.declared.area.Area.{Area};
 ghost use Rattle.cell_calc.specs.Calculated.{AreValues, AreAllValues, IsTableOf, Calculates, SettlesAll, IsStoredFormula, whole_sheet};
 ghost use Rattle.cell_calc.specs.Marks.{place_of, marks_of, values_of};
 ghost use Rattle.cell_calc.specs.Walk.{Goes};
 
 use crate::cells::CellsOf;
 use crate::mark::Key;
+use crate::stored_places::stored_places;
 use crate::table::Table;
 use crate::walk::settle;
 use cell_value::NoMemory;
@@ -70,12 +72,13 @@ pub fn calculate_for<C: CellsOf>(
     Ok(table)
 }
 
-/// Comes to know the values of the formulas in one more area, as [`calculate_for`] does; what the table knows isn't
-/// calculated again.
+/// Comes to know the values of the formulas in one more area, as [`calculate_for`] does, beside those of the areas whose
+/// values the table has; what it knows isn't calculated again.
 ///
 /// # Errors
 ///
 /// [`NoMemory`] where memory runs out; the table is to be given up then.
+#[tactic(auto, using(crate::proofs::Calculating::table_after, crate::proofs::Calculating::values_after))]
 pub fn calculate_more<C: CellsOf>(
     alloc: Global,
     cells: &C,
@@ -85,6 +88,8 @@ pub fn calculate_more<C: CellsOf>(
     requires { IsTableOf (C.contents cells.now) table.old }
     ensures right { OnOk result (IsTableOf (C.contents cells.now) table.new) }
     ensures values { OnOk result (AreValues (C.contents cells.now) (area.now ∷ []) (values_of table.new)) }
+    ensures kept { OnOk result ((areas : List Area) → AreValues (C.contents cells.now) areas (values_of table.old)
+        → AreValues (C.contents cells.now) (area.now ∷ areas) (values_of table.new)) }
 {
     calculate_area(alloc, cells, table, area)
 }
@@ -98,7 +103,7 @@ fn calculate_area<C: CellsOf>(
 ) -> Result<(), NoMemory>
     ensures { OnOk result (Calculates (C.contents cells.now) area.now (marks_of table.old) (marks_of table.new)) }
 {
-    let places = cells.places(area)?;
+    let places = stored_places(alloc, cells, area)?;
     settle_all(alloc, cells, table, area.sheet, places.as_slice())
 }
 

@@ -10,6 +10,7 @@ use crate::arguments::{AreaCells, FilledCell};
 use crate::cells::CellsOf;
 use crate::functions::is_blank;
 use crate::reader::CellReader;
+use crate::stored_places::stored_places;
 use cell_value::{NoMemory, Value};
 use grid_range::{Area, Band};
 use std::alloc::Global;
@@ -43,7 +44,7 @@ impl<'a, C: CellsOf, V: ValuesOf> CellReader for KnownCells<'a, C, V> {
         self.cells.stay_sound();
         let (rows, columns) = self.cells.size(area.sheet).unwrap_or((0, 0));
         let columns = line_count(area.cols, columns);
-        let places = self.cells.places(area)?;
+        let places = stored_places(alloc, self.cells, area)?;
         let filled = filled_cells(alloc, self.values, area, columns, places.as_slice())?;
         Ok(AreaCells {
             rows: line_count(area.rows, rows),

@@ -17,6 +17,7 @@ mod mark;
 mod operators;
 mod outcome;
 mod reader;
+mod stored_places;
 mod table;
 mod walk;
 

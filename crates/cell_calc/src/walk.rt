@@ -15,6 +15,7 @@ use crate::content_value::{tree_within, value_of_content};
 use crate::evaluation::value_of_tree;
 use crate::known::KnownCells;
 use crate::mark::{Found, Key, Mark};
+use crate::stored_places::stored_places;
 use crate::table::Table;
 use cell_value::{Kind, NoMemory, Value};
 use formula_reader::Tree;
@@ -151,7 +152,7 @@ fn wait_for<C: CellsOf>(
         → OnOk result (Goes (C.contents cells.now) (marks_of table.old) (whole ∷ path.old.items)
         (marks_of table.new) path.new.items) }
 {
-    let places = cells.places(&area)?;
+    let places = stored_places(alloc, cells, &area)?;
     let noted = all_noted(alloc, cells, table, area.sheet, places.as_slice())?;
     if noted.is_empty() {
         Ok(path.push_front(frame)?)

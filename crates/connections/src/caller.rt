@@ -2,7 +2,7 @@ ghost use Rattle.std.specs.Prelude.{◌≡◌, ◌≢◌, ◌≤◌, ℕ, ◌++�
 ghost use Rattle.std.specs.Option.{option_and_then};
 ghost use Rattle.cell_value.specs.FaultCount.{Rose};
 ghost use Rattle.history_lock.specs.History.{StartsWith};
-ghost use Rattle.history_lock.specs.Passes.{seen_by, number_of, given_by, count_of, met_by};
+ghost use Rattle.history_lock.specs.Passes.{seen_by, number_of, given_by, count_of, drawing_of, met_by};
 ghost use Rattle.sheets_http.specs.Users.{user_of};
 ghost use Rattle.sheets_http.specs.Responses.{IsServedStatus};
 ghost use Rattle.desk.specs.Points.{IsCallAt, AreCountsOf};
@@ -14,6 +14,7 @@ ghost use Rattle.connections.specs.Calls.{IsAnswer, ask_of, response_of};
 use cell_value::{NoMemory, Text};
 use conversation::{Ended, Replies, Said};
 use desk::{Ask, Desk, Engine, Keeper, Noted, Pass, Reply};
+use history_lock::Drawing;
 use sheets_http::{Duplex, Users, Wire, response_text};
 use std::alloc::Global;
 use std::collections::LinkedList;
@@ -40,7 +41,7 @@ impl<'a, E: Engine, K: Keeper> Model for Caller<'a, E, K> {
 }
 
 impl<E: Engine, K: Keeper> Replies for Caller<'_, E, K> {
-    ghost use Rattle.history_lock.specs.Passes.{seen_by, number_of, given_by, count_of, met_by};
+    ghost use Rattle.history_lock.specs.Passes.{seen_by, number_of, given_by, count_of, drawing_of, met_by};
     ghost use Rattle.connections.specs.Calls.{IsAnswer};
 
     type Context = (
@@ -49,6 +50,7 @@ impl<E: Engine, K: Keeper> Replies for Caller<'_, E, K> {
         u32,
         Option<u64>,
         u64,
+        Drawing,
         LinkedList<(u64, u64)>,
     );
 
@@ -60,6 +62,7 @@ impl<E: Engine, K: Keeper> Replies for Caller<'_, E, K> {
       number_of caller.pass,
       given_by caller.pass,
       count_of caller.pass,
+      drawing_of caller.pass,
       met_by caller.pass,
     ) };
 
@@ -86,7 +89,8 @@ impl<'a, E: Engine, K: Keeper> Caller<'a, E, K> {
         ensures same { (result.0.desk ≡ self.entry.desk) × (result.0.users ≡ self.entry.users) }
         ensures number { number_of result.0.pass ≡ number_of self.entry.pass }
         ensures drawn { (given_by result.0.pass ≡ given_by self.entry.pass)
-            × (count_of result.0.pass ≡ count_of self.entry.pass) }
+            × (count_of result.0.pass ≡ count_of self.entry.pass)
+            × (drawing_of result.0.pass ≡ drawing_of self.entry.pass) }
         ensures met { met_by result.0.pass ≡ met_by self.entry.pass }
         ensures call { IsCallAt E.plain (pair_at self.entry.desk) (callers_at self.entry.desk)
             (number_of self.entry.pass) ask.now (seen_by self.entry.pass) (seen_by result.0.pass) result.1 }
@@ -205,7 +209,8 @@ pub fn converse<R: Wait, L: Duplex, E: Engine, K: Keeper>(
     requires { IsPass desk.now pass }
     ensures pass { IsPass desk.now result.1 }
     ensures number { number_of result.1 ≡ number_of pass }
-    ensures drawn { (given_by result.1 ≡ given_by pass) × (count_of result.1 ≡ count_of pass) }
+    ensures drawn { (given_by result.1 ≡ given_by pass) × (count_of result.1 ≡ count_of pass)
+        × (drawing_of result.1 ≡ drawing_of pass) }
     ensures met { met_by result.1 ≡ met_by pass }
     ensures begins { StartsWith (seen_by result.1) (seen_by pass) }
 

@@ -2,8 +2,9 @@
 use Rattle.std.specs.Prelude.{◌≡◌, ◌≢◌, ◌⊎◌, ℕ, ◌≤◌, ◌<◌, Bool, true, List, [], ◌∷◌, ◌++◌, All, length, take, drop, Option, Some, None, IfSome, if◌then◌else◌}
 use Rattle.std.specs.List.{Contains}
 use Rattle.cell_value.specs.FaultCount.{Rose}
-use Rattle.history_lock.specs.History.{StartsWith, NoneOf, AreDone}
-use Rattle.history_lock.specs.Passes.{seen_by, number_of, met_by}
+use Rattle.history_lock.specs.History.{StartsWith, NoneOf, AreSilent}
+use Rattle.history_lock.specs.declared.view.Drawing.TheVariants.{Alone}
+use Rattle.history_lock.specs.Passes.{seen_by, number_of, count_of, drawing_of, met_by}
 use Rattle.history_lock.specs.declared.pass.Pass.{Pass}
 use Rattle.desk.specs.declared.entry.Entry.{Entry}
 use Rattle.desk.specs.declared.entry.Ask.{Ask}
@@ -136,14 +137,17 @@ pub record IsCallAt (plain : List Entry → Ask → Outcome → Type 0) (pair : 
   pub happens : Happens plain pair caller ask told after reply
 
 -- What a closed desk's history is, by the pass that closed it: the entries of a list that begins with all that the pass
--- had seen, to which others may have added items, but none whose pass this one took in; the keeper's count of faults is
--- that of the list's last mark, and it keeps the journal of the entries.
-pub record IsClosed (opened callers : ℕ) (pass : Pass Noted) (entries : List Entry) (failures : ℕ)
+-- had seen, to which others may have added items, but none whose pass this one took in. Each item since the opening is
+-- from one of so many callers; where the pass alone drew numbers, from one below the count that it knew. The keeper's
+-- count of faults is that of the list's last mark, and it keeps the journal of the entries.
+pub record IsClosed (start : List Noted) (opened callers : ℕ) (pass : Pass Noted) (entries : List Entry) (failures : ℕ)
     (kept : Option (List ℕ)) : Type 0 where
   pub told : List Noted
   pub begins : StartsWith told (seen_by pass)
-  pub others : AreOthers callers (number_of pass) (drop (length (seen_by pass)) told)
-  pub done : AreDone caller_of (met_by pass) told
+  pub not_own : NoneOf caller_of (number_of pass) (drop (length (seen_by pass)) told)
+  pub numbered : All (λ item. caller_of item < callers) (drop (length start) told)
+  pub alone : drawing_of pass ≡ Alone → All (λ item. caller_of item < count_of pass) (drop (length start) told)
+  pub done : AreSilent caller_of (met_by pass) told
   pub entries_are : entries ≡ entries_of told
   pub counted : failures ≡ last_counted opened told
   pub keeps : Keeps kept told

@@ -1,7 +1,8 @@
 ghost use Rattle.std.specs.Prelude.{◌≡◌, ◌≢◌, ◌≤◌, ◌<◌, ◌+◌, ◌++◌, ℕ, List, [], ◌∷◌, length, drop, Some, None, IfOk};
-ghost use Rattle.std.specs.Prelude.{IfErr, IfSome};
+ghost use Rattle.std.specs.Prelude.{IfErr, IfSome, max, ◌⊎◌};
 ghost use Rattle.history_lock.specs.History.{StartsWith, NoneOf, longer};
-ghost use Rattle.history_lock.specs.Passes.{seen_by, number_of, given_by, count_of, met_by};
+ghost use Rattle.history_lock.specs.declared.view.Drawing.TheVariants.{Alone, Shared, Never};
+ghost use Rattle.history_lock.specs.Passes.{seen_by, number_of, given_by, count_of, drawing_of, met_by};
 ghost use Rattle.desk.specs.declared.entry.Noted.{Noted};
 ghost use Rattle.desk.specs.Points.{IsCallAt, IsClosed, AreCountsOf, caller_of};
 
@@ -41,8 +42,8 @@ pub struct Desk<E: Engine, K: Keeper> {
 impl<E: Engine, K: Keeper> Desk<E, K> {
     ghost use Rattle.desk.specs.Desks.{IsPass, pair_at, list_at, callers_at};
 
-    /// A desk for this many callers, with an empty history, and the pass of number 0. Nothing is loaded of what the
-    /// keeper has; the first put begins at its first byte.
+    /// A desk for this many callers, with an empty history, and the pass of number 0, which alone draws numbers.
+    /// Nothing is loaded of what the keeper has; the first put begins at its first byte.
     ///
     /// # Errors
     ///
@@ -60,6 +61,7 @@ impl<E: Engine, K: Keeper> Desk<E, K> {
         ensures pair { IfOk result (λ made. pair_at made.0 ≡ (limit, K.failures keeper)) }
         ensures callers { IfOk result (λ made. callers_at made.0 ≡ callers) }
         ensures drawn { IfOk result (λ made. (count_of made.1 ≡ 1) × (given_by made.1 ≡ None)) }
+        ensures alone { IfOk result (λ made. drawing_of made.1 ≡ Alone) }
         ensures met { IfOk result (λ made. met_by made.1 ≡ []) }
         ensures err { IfErr result (λ failed. failed.1 ≡ keeper) }
     {
@@ -70,11 +72,11 @@ impl<E: Engine, K: Keeper> Desk<E, K> {
         }
     }
 
-    /// A pass with the next number, that has seen the same list.
+    /// A pass with the next number, that has seen the same list. Both then draw numbers.
     ///
     /// # Errors
     ///
-    /// [`Spent`] where all numbers were drawn, each of them for some pass.
+    /// [`Spent`] where all numbers were drawn, each of them for some pass, or the pass was lent.
     pub fn pass<R: Wait>(&self, rt: &R, from: &mut Pass) -> Result<Pass, Spent>
         requires { IsPass self.now from.old }
         ensures old { IsPass self.now from.new }
@@ -92,10 +94,47 @@ impl<E: Engine, K: Keeper> Desk<E, K> {
         ensures given { IfOk result (λ new. (given_by from.new ≡ Some (number_of new)) × (given_by new ≡ None)) }
         ensures met { met_by from.new ≡ met_by from.old }
         ensures none_met { IfOk result (λ new. met_by new ≡ []) }
-        ensures spent { IfErr result (λ _. count_of from.new ≡ callers_at self.now) }
+        ensures shared { IfOk result (λ new. (drawing_of from.new ≡ Shared) × (drawing_of new ≡ Shared)) }
+        ensures spent { IfErr result (λ _. (drawing_of from.old ≡ Never) ⊎ (count_of from.new ≡ callers_at self.now)) }
         ensures none_given { IfErr result (λ _. given_by from.new ≡ given_by from.old) }
+        ensures as_before { IfErr result (λ _. drawing_of from.new ≡ drawing_of from.old) }
     {
         self.lock.split(rt, from)
+    }
+
+    /// A pass with the next number, that has seen the same list, and draws no numbers itself. A pass that alone draws
+    /// numbers does so still, and so knows how many were drawn.
+    ///
+    /// # Errors
+    ///
+    /// [`Spent`] where all numbers were drawn, or the pass was itself lent.
+    pub fn lend<R: Wait>(&self, rt: &R, from: &mut Pass) -> Result<Pass, Spent>
+        requires { IsPass self.now from.old }
+        ensures old { IsPass self.now from.new }
+        ensures same { (seen_by from.new ≡ seen_by from.old) × (number_of from.new ≡ number_of from.old)
+            × (drawing_of from.new ≡ drawing_of from.old) }
+        ensures count { count_of from.old ≤ count_of from.new }
+        ensures new { IfOk result (λ new. IsPass self.now new × (seen_by new ≡ seen_by from.old)) }
+        ensures lent { IfOk result (λ new. drawing_of new ≡ Never) }
+        ensures draws { IfOk result (λ _. drawing_of from.old ≢ Never) }
+        ensures next { IfOk result (λ new. count_of from.old ≤ number_of new) }
+        ensures exact { IfOk result (λ new. drawing_of from.old ≡ Alone → number_of new ≡ count_of from.old) }
+        ensures counted { IfOk result (λ new. (count_of new ≡ number_of new + 1)
+            × (count_of from.new ≡ number_of new + 1)) }
+        ensures number { IfOk result (λ new. (number_of new < callers_at self.now)
+            × (number_of new ≢ number_of from.old)) }
+        ensures above { IfOk result (λ new. IfSome (given_by from.old) (λ given. given < number_of new)) }
+        ensures unused { IfOk result (λ new. NoneOf caller_of (number_of new)
+            (drop (length (list_at self.now)) (seen_by new))) }
+        ensures given { IfOk result (λ new. (given_by from.new ≡ Some (number_of new)) × (given_by new ≡ None)) }
+        ensures met { met_by from.new ≡ met_by from.old }
+        ensures none_met { IfOk result (λ new. met_by new ≡ []) }
+        ensures spent { IfErr result (λ _. (drawing_of from.old ≡ Never) ⊎ (count_of from.new ≡ callers_at self.now)) }
+        ensures none_given { IfErr result (λ _. given_by from.new ≡ given_by from.old) }
+        ensures none_drawn { IfErr result (λ _. drawing_of from.old ≡ Alone
+            → count_of from.new ≡ count_of from.old) }
+    {
+        self.lock.lend(rt, from)
     }
 
     /// Makes one call at a point of the history, whatever other passes do meanwhile. The pass has then seen all items
@@ -104,7 +143,8 @@ impl<E: Engine, K: Keeper> Desk<E, K> {
         requires { IsPass self.now pass }
         ensures pass { IsPass self.now result.0 }
         ensures number { number_of result.0 ≡ number_of pass }
-        ensures drawn { (count_of result.0 ≡ count_of pass) × (given_by result.0 ≡ given_by pass) }
+        ensures drawn { (count_of result.0 ≡ count_of pass) × (given_by result.0 ≡ given_by pass)
+            × (drawing_of result.0 ≡ drawing_of pass) }
         ensures met { met_by result.0 ≡ met_by pass }
         ensures call { IsCallAt E.plain (pair_at self.now) (callers_at self.now) (number_of pass) ask.now (seen_by pass)
             (seen_by result.0) result.1 }
@@ -125,8 +165,9 @@ impl<E: Engine, K: Keeper> Desk<E, K> {
         requires pass { IsPass self.now pass.old }
         requires other { IsPass self.now other }
         ensures pass { IsPass self.now pass.new }
-        ensures same { (number_of pass.new ≡ number_of pass.old) × (given_by pass.new ≡ given_by pass.old) }
-        ensures count { (count_of pass.old ≤ count_of pass.new) × (count_of other ≤ count_of pass.new) }
+        ensures same { (number_of pass.new ≡ number_of pass.old) × (given_by pass.new ≡ given_by pass.old)
+            × (drawing_of pass.new ≡ drawing_of pass.old) }
+        ensures count { count_of pass.new ≡ max (count_of pass.old) (count_of other) }
         ensures longer { seen_by pass.new ≡ longer (seen_by pass.old) (seen_by other) }
         ensures mine { StartsWith (seen_by pass.new) (seen_by pass.old) }
         ensures theirs { StartsWith (seen_by pass.new) (seen_by other) }
@@ -138,13 +179,14 @@ impl<E: Engine, K: Keeper> Desk<E, K> {
     }
 
     /// Waits for the turn, and gives the history and the keeper. The entries are those of a list that begins with all
-    /// that the pass has seen, and has no further call of the pass, nor of one that it took in; the keeper has failed
-    /// as often as its last mark tells. Where there is an entry the keeper has the journal of them all; behind it may
+    /// that the pass has seen, and has no further call of the pass, nor of one that it took in. Where the pass alone
+    /// draws numbers, those since the opening are from callers below the count that it knows. The keeper has failed as
+    /// often as its last mark tells. Where there is an entry the keeper has the journal of them all; behind it may
     /// stand a part of the piece of one more that was answered 503, where that came behind the last. It takes no
     /// memory.
     pub fn close<R: Wait>(self, rt: &R, pass: Pass) -> (History<E>, K)
         requires { IsPass self pass }
-        ensures { IsClosed (pair_at self).1 (callers_at self) pass result.0 (K.failures result.1)
+        ensures { IsClosed (list_at self) (pair_at self).1 (callers_at self) pass result.0 (K.failures result.1)
             (K.kept result.1) }
     {
         let Desk { lock } = self;

@@ -6,7 +6,7 @@ use Rattle.std.proofs.Math.Seq.{drop-length}
 use Rattle.std.proofs.lemmas.Bool.{ltb-true, ltb-false}
 use Rattle.std.proofs.lemmas.List.{append-nil, append_assoc}
 use Rattle.std.proofs.lemmas.List.Elements.{All-nil, All-cons, All-head, All-tail, All-append, All-drop, All-weaker}
-use Rattle.history_lock.specs.History.{StartsWith, AllOf, AreDone, longer, shorter}
+use Rattle.history_lock.specs.History.{StartsWith, AllOf, AreSilent, longer, shorter}
 
 module _ {E : Type 0} where
   pub starts_whole : (xs : List E) → StartsWith xs xs
@@ -67,7 +67,7 @@ module _ {E : Type 0} where
 module _ {E : Type 0} (caller : E → ℕ) where
   -- those who are done stay so where another adds entries
   pub done_grown : (met : List (ℕ × ℕ)) (all added : List E) (number : ℕ) → AllOf caller number added
-      → All (λ m. m.0 ≢ number) met → AreDone caller met all → AreDone caller met (all ++ added)
+      → All (λ m. m.0 ≢ number) met → AreSilent caller met all → AreSilent caller met (all ++ added)
   done_grown [] all added number own apart done = All-nil (λ m. All (λ e. caller e ≢ m.0) (drop m.1 (all ++ added)))
   done_grown (m ∷ met) all added number own apart done =
       All-cons (λ (m : ℕ × ℕ). All (λ e. caller e ≢ m.0) (drop m.1 (all ++ added))) m met
@@ -79,7 +79,7 @@ module _ {E : Type 0} (caller : E → ℕ) where
       (All-tail (λ (m : ℕ × ℕ). All (λ e. caller e ≢ m.0) (drop m.1 all)) m met done))
 
   -- and are so in a list's beginning
-  pub done_front : (met : List (ℕ × ℕ)) (xs ys : List E) → AreDone caller met (xs ++ ys) → AreDone caller met xs
+  pub done_front : (met : List (ℕ × ℕ)) (xs ys : List E) → AreSilent caller met (xs ++ ys) → AreSilent caller met xs
   done_front met xs ys =
       All-weaker (λ m. All (λ e. caller e ≢ m.0) (drop m.1 (xs ++ ys))) (λ m. All (λ e. caller e ≢ m.0) (drop m.1 xs))
       (λ m done. All-drop_front (λ e. caller e ≢ m.0) m.1 xs ys done) met

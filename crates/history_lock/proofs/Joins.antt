@@ -1,6 +1,6 @@
 -- A seat that is cut in two, and two that become one.
-use Rattle.std.proofs.Common.{◌≡◌, ◌≢◌, ℕ, max, true≢false, true, ◌<◌, List, [], ◌∷◌, ◌++◌, length, drop, set, refl, sym, ◌∙◌, subst}
-use Rattle.std.proofs.Common.{⊎_elim, arith}
+use Rattle.std.proofs.Common.{◌≡◌, ◌≢◌, ℕ, max, true≢false, true, ◌<◌, ◌≤◌, List, [], ◌∷◌, ◌++◌, length, drop, set, refl, sym, ◌∙◌, subst}
+use Rattle.std.proofs.Common.{◌⊎◌, ⊎_elim, inl, inr, arith}
 use Rattle.std.specs.List.{Contains}
 use Rattle.std.specs.Prelude.{All, map}
 use mathlib.Core.Bool.{cond}
@@ -8,31 +8,59 @@ use Rattle.std.proofs.lemmas.List.{map-append}
 use Rattle.std.proofs.lemmas.List.Elements.{All-nil, All-cons, All-append, Contains-append_left, Contains-append_right, Contains-append_cases}
 use Rattle.std.proofs.Math.Nat.{le-max_left, le-max_right, max-le}
 use Rattle.atomic_table.specs.Table.{Splits, Joins}
-use Rattle.atomic_table.proofs.Lists.{at_set, set_again}
+use Rattle.atomic_table.proofs.Lists.{at_set}
 use Rattle.history_lock.specs.declared.view.View.{View}
 use Rattle.history_lock.specs.declared.view.Stage.TheVariants.{Away}
-use Rattle.history_lock.specs.History.{NoneOf, AreDone}
+use Rattle.history_lock.specs.declared.view.Drawing.{Drawing}
+use Rattle.history_lock.specs.declared.view.Drawing.TheVariants.{Alone, Shared, Never}
+use Rattle.history_lock.specs.History.{NoneOf, AreSilent}
 use Rattle.history_lock.specs.Rule.{StandsAt, own_number, numbers_of, Apart, AreRetired, Known, KeptAt, Kept}
-use Rattle.history_lock.specs.Steps.{copy_of, joined, noted, gone}
+use Rattle.history_lock.specs.Steps.{idle, sharing, copy_of, joined, noted, returned, gone}
 use Rattle.history_lock.proofs.Histories.{starts_through, starts_shorter, by_length, All-drop_more, All-drop_front}
 use Rattle.history_lock.proofs.Histories.{nothing_behind}
 use Rattle.history_lock.proofs.Kept.{below_more, kept_free, kept_more, drawn_set, drawn_join}
-use Rattle.history_lock.proofs.Views.{all_set, set_twice, retired_set, retired_more}
+use Rattle.history_lock.proofs.Views.{all_set, set_twice, retired_set, retired_same, retired_more}
+use Rattle.history_lock.proofs.Views.{drawers_handed, drawers_joined}
 use Rattle.history_lock.proofs.Turns.{away_free, away_live}
 
 module _ {T E : Type 0} (list : T → List E) (pair : T → ℕ × ℕ) (caller : E → ℕ) (start : T) (most : ℕ) where
-  pub copies : (id : ℕ) (v : View E) → v.stage ≡ Away → Splits (Kept list pair caller start most) id v v (copy_of v)
-  copies id v away s k at =
+  -- a copy with no number is made, and this right to draw numbers is left, and that one handed to the copy
+  cuts : (id : ℕ) (v : View E) (left right : Drawing) → v.stage ≡ Away → left ≢ Alone
+      → (left ≢ Never → v.drawing ≢ Never) → (right ≡ Alone → v.drawing ≡ Alone)
+      → (right ≢ Never → v.drawing ≢ Never) → (right ≡ Alone → left ≡ Never)
+      → Splits (Kept list pair caller start most) id v (record v { drawing = left })
+      (record (copy_of v) { drawing = right })
+  cuts id v left right away not_alone left_draws alone draws apart s k at =
       let m = k.kept.known id v at (away_live away) in
+      let w : View E = record v { drawing = left } in
       record {
         turn = k.turn;
         drawn = k.drawn;
         sleepers = k.sleepers;
         all = k.all;
         words = k.words;
-        kept = kept_more list pair caller start most k.turn k.drawn s.homes (set s.views id v) k.all (copy_of v)
-            (subst (λ views. KeptAt list pair caller start most k.turn k.drawn s.homes views k.all)
-            (sym (set_again s.views id v at)) k.kept)
+        kept = kept_more list pair caller start most k.turn k.drawn s.homes (set s.views id w) k.all
+            (record (copy_of v) { drawing = right })
+            (kept_free list pair caller start most k.turn k.drawn s.homes s.views k.all id v w k.kept at
+            (away_free away) (away_free away)
+            (λ _. record {
+              seen = m.seen;
+              heard = m.heard;
+              begun = m.begun;
+              start_is = m.start_is;
+              pair_is = m.pair_is;
+              most_is = m.most_is;
+              counted = m.counted;
+              exact = λ a. absurd (not_alone a);
+              below = m.below;
+              given = m.given;
+              own = m.own;
+              others = m.others;
+              done = m.done;
+            })
+            (λ g. absurd (away_live away g))
+            (λ numbered. (numbered, refl))
+            (λ n lt. drawn_set s.views id v w n at (λ has. has) (k.kept.drawn_by n lt)))
             tt
             (record {
               seen = m.seen;
@@ -42,6 +70,7 @@ module _ {T E : Type 0} (list : T → List E) (pair : T → ℕ × ℕ) (caller 
               pair_is = m.pair_is;
               most_is = m.most_is;
               counted = m.counted;
+              exact = λ a. m.exact (alone a);
               below = m.below;
               given = tt;
               own = λ numbered. absurd (true≢false (sym numbered));
@@ -49,9 +78,21 @@ module _ {T E : Type 0} (list : T → List E) (pair : T → ℕ × ℕ) (caller 
               done = All-nil (λ m. NoneOf caller m.0 (drop m.1 k.all));
             })
             refl;
-        retired = retired_more k.drawn (set s.views id v) (copy_of v)
-            (subst (AreRetired k.drawn) (sym (set_again s.views id v at)) k.retired) refl refl;
+        retired = retired_more k.drawn (set s.views id w) (record (copy_of v) { drawing = right })
+            (retired_same k.drawn s.views id v w at (λ numbered. (numbered, refl)) refl k.retired) refl refl;
+        one_draws = drawers_handed s.views id v w (record (copy_of v) { drawing = right }) at k.one_draws alone draws
+            not_alone left_draws (λ a d. d (apart a));
       }
+
+  pub hands : (id : ℕ) (v : View E) → v.stage ≡ Away
+      → Splits (Kept list pair caller start most) id v (idle v) (copy_of v)
+  hands id v away = cuts id v Never v.drawing away (λ e. let h : Never ≡ Alone = e in cc) (λ d. absurd (d refl))
+      (λ a. a) (λ d. d) (λ _. refl)
+
+  pub shares : (id : ℕ) (v : View E) → v.stage ≡ Away → v.drawing ≢ Never
+      → Splits (Kept list pair caller start most) id v (sharing v) (sharing (copy_of v))
+  shares id v away draws = cuts id v Shared Shared away (λ e. let h : Shared ≡ Alone = e in cc) (λ _. draws)
+      (λ a. absurd (let h : Shared ≡ Alone = a in cc)) (λ _. draws) (λ a. absurd (let h : Shared ≡ Alone = a in cc))
 
   -- where one view is gone and another took it in, retired numbers stay so, and that of the one that is gone is one
   retired_join : (drawn : ℕ) (views : List (View E)) (id : ℕ) (v : View E) (other : ℕ) (w u : View E)
@@ -86,7 +127,7 @@ module _ {T E : Type 0} (list : T → List E) (pair : T → ℕ × ℕ) (caller 
 
   -- a view takes in another's knowledge under its own number
   joins : (id : ℕ) (v : View E) (other : ℕ) (w u : View E) → v.stage ≡ Away → w.stage ≡ Away → u.stage ≡ Away
-      → u.numbered ≡ v.numbered → u.number ≡ v.number
+      → u.numbered ≡ v.numbered → u.number ≡ v.number → (u.drawing ≡ v.drawing) ⊎ (u.drawing ≡ w.drawing)
       → ((number : ℕ) → Contains (numbers_of v) number → Contains (numbers_of u) number)
       → ((number : ℕ) → Contains (numbers_of w) number → Contains (numbers_of u) number)
       → ((P : ℕ × ℕ → Type 0) → All P v.met → All P w.met → (w.numbered ≡ true → P (w.number, length w.seen))
@@ -94,7 +135,7 @@ module _ {T E : Type 0} (list : T → List E) (pair : T → ℕ × ℕ) (caller 
       → ((drawn : ℕ) (all : List E) → Known list pair caller start most drawn all v
       → Known list pair caller start most drawn all w → Known list pair caller start most drawn all u)
       → Joins (Kept list pair caller start most) id v other w u gone
-  joins id v other w u v_away w_away u_away numbered number mine theirs met both s k at else there =
+  joins id v other w u v_away w_away u_away numbered number draws mine theirs met both s k at else there =
       let w_at : StandsAt s.views other w = ⊎_elim (λ (t : (other ≡ id) × (u ≡ w)). absurd (else t.0)) (λ
       (t : (other ≢ id) × StandsAt s.views other w). t.1) (at_set s.views id other u w there) in
       let joined_views : KeptAt list pair caller start most k.turn k.drawn s.homes (set s.views id u) k.all =
@@ -120,7 +161,15 @@ module _ {T E : Type 0} (list : T → List E) (pair : T → ℕ × ℕ) (caller 
             (λ n. let m = k.kept.known other w w_at (away_live w_away) in let b = m.below in let c = m.counted in
             omega arith)
             met;
+        one_draws = drawers_joined s.views id v other w u gone at w_at else refl draws k.one_draws;
       }
+
+  -- of two counts of which one is exact it is the greater
+  most_known : (m n drawn : ℕ) → m ≡ drawn → n ≤ drawn → max m n ≡ drawn
+  most_known m n drawn exact le =
+      let left = le-max_left m n in
+      let both : max m n ≤ drawn = max-le (omega arith) le in
+      omega arith
 
   -- those that the other has are among those that were taken in
   joined_met : (v w : View E) → map (λ m. m.0) (joined v w).met ≡ map (λ m. m.0) v.met
@@ -150,11 +199,11 @@ module _ {T E : Type 0} (list : T → List E) (pair : T → ℕ × ℕ) (caller 
   pub hears : (id : ℕ) (v : View E) (other : ℕ) (w : View E) → v.stage ≡ Away → w.stage ≡ Away → w.numbered ≡ true
       → Joins (Kept list pair caller start most) id v other w (joined v w) gone
   hears id v other w v_away w_away w_numbered =
-      joins id v other w (joined v w) v_away w_away v_away refl refl (numbers_kept v w)
+      joins id v other w (joined v w) v_away w_away v_away refl refl (inl refl) (numbers_kept v w)
       (λ n has. numbers_added v w n w_numbered has) (joined_all v w w_numbered)
       (λ drawn all m n.
       let below = m.below in
-      let done : AreDone caller (joined v w).met all =
+      let done : AreSilent caller (joined v w).met all =
       joined_all v w w_numbered (λ x. NoneOf caller x.0 (drop x.1 all)) m.done n.done n.own in
       let left = le-max_left v.count w.count in
       by_length (λ more less. Known list pair caller start most drawn all
@@ -173,6 +222,7 @@ module _ {T E : Type 0} (list : T → List E) (pair : T → ℕ × ℕ) (caller 
         pair_is = m.pair_is;
         most_is = m.most_is;
         counted = max-le m.counted n.counted;
+        exact = λ a. most_known v.count w.count drawn (m.exact a) n.counted;
         below = omega arith;
         given = below_more v.given v.count (max v.count w.count) left m.given;
         own = λ numbered. All-drop_more (λ e. caller e ≢ v.number) (length v.seen) (length w.seen) all le
@@ -189,6 +239,7 @@ module _ {T E : Type 0} (list : T → List E) (pair : T → ℕ × ℕ) (caller 
         pair_is = m.pair_is;
         most_is = m.most_is;
         counted = max-le m.counted n.counted;
+        exact = λ a. most_known v.count w.count drawn (m.exact a) n.counted;
         below = omega arith;
         given = below_more v.given v.count (max v.count w.count) left m.given;
         own = m.own;
@@ -199,7 +250,7 @@ module _ {T E : Type 0} (list : T → List E) (pair : T → ℕ × ℕ) (caller 
   pub notes : (id : ℕ) (v : View E) (other : ℕ) (w : View E) → v.stage ≡ Away → w.stage ≡ Away → numbers_of w ≡ []
       → Joins (Kept list pair caller start most) id v other w (noted v w) gone
   notes id v other w v_away w_away nothing =
-      joins id v other w (noted v w) v_away w_away v_away refl refl (λ n has. has)
+      joins id v other w (noted v w) v_away w_away v_away refl refl (inr refl) (λ n has. has)
       (λ n has. absurd (let none = subst (λ numbers. Contains numbers n) nothing has in let lt = none.1 in omega arith))
       (λ P mine _ _. mine)
       (λ drawn all m n.
@@ -215,8 +266,36 @@ module _ {T E : Type 0} (list : T → List E) (pair : T → ℕ × ℕ) (caller 
         pair_is = m.pair_is;
         most_is = m.most_is;
         counted = max-le m.counted n.counted;
+        exact = λ a. let other = n.exact a in let both = max-le m.counted n.counted in omega arith;
         below = omega arith;
         given = omega arith;
+        own = m.own;
+        others = m.others;
+        done = m.done;
+      })
+
+  pub returns : (id : ℕ) (v : View E) (other : ℕ) (w : View E) → v.stage ≡ Away → w.stage ≡ Away → numbers_of w ≡ []
+      → Joins (Kept list pair caller start most) id v other w (returned v w) gone
+  returns id v other w v_away w_away nothing =
+      joins id v other w (returned v w) v_away w_away v_away refl refl (inr refl) (λ n has. has)
+      (λ n has. absurd (let none = subst (λ numbers. Contains numbers n) nothing has in let lt = none.1 in omega arith))
+      (λ P mine _ _. mine)
+      (λ drawn all m n.
+      let below = m.below in
+      let w_below = n.below in
+      let left = le-max_left v.count w.count in
+      let right = le-max_right v.count w.count in
+      record {
+        seen = m.seen;
+        heard = m.heard;
+        begun = m.begun;
+        start_is = m.start_is;
+        pair_is = m.pair_is;
+        most_is = m.most_is;
+        counted = max-le m.counted n.counted;
+        exact = λ a. let other = n.exact a in let both = max-le m.counted n.counted in omega arith;
+        below = omega arith;
+        given = below_more v.given v.count (max v.count w.count) left m.given;
         own = m.own;
         others = m.others;
         done = m.done;

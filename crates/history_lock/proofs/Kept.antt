@@ -12,7 +12,8 @@ use Rattle.atomic_table.proofs.Lists.{set_else, at_longer}
 use Rattle.history_lock.specs.declared.view.View.{View}
 use Rattle.history_lock.specs.declared.view.Stage.{Stage}
 use Rattle.history_lock.specs.declared.view.Stage.TheVariants.{Away, Opening, Holds, Ready, Gone}
-use Rattle.history_lock.specs.History.{StartsWith, NoneOf, AreDone}
+use Rattle.history_lock.specs.declared.view.Drawing.TheVariants.{Alone}
+use Rattle.history_lock.specs.History.{StartsWith, NoneOf, AreSilent}
 use Rattle.history_lock.specs.Rule.{StandsAt, numbers_of, IsDrawnBy, IsFree, SlotAt, HeldBy, IsInTurn, Known, Apart}
 use Rattle.history_lock.specs.Rule.{KeptAt}
 use Rattle.history_lock.proofs.Histories.{starts_whole, starts_through, All-drop_append, nothing_behind}
@@ -54,9 +55,10 @@ module _ {E : Type 0} where
 module _ {T E : Type 0} (list : T → List E) (pair : T → ℕ × ℕ) (caller : E → ℕ) (start : T) (most : ℕ) where
   -- more numbers were drawn, and entries of others were added
   pub known_grown : (drawn more : ℕ) (all added : List E) (v : View E) → drawn ≤ more
-      → (v.numbered ≡ true → NoneOf caller v.number added) → AreDone caller v.met (all ++ added)
+      → (v.drawing ≡ Alone → v.count ≡ more)
+      → (v.numbered ≡ true → NoneOf caller v.number added) → AreSilent caller v.met (all ++ added)
       → Known list pair caller start most drawn all v → Known list pair caller start most more (all ++ added) v
-  known_grown drawn more all added v le others done k = record {
+  known_grown drawn more all added v le exact others done k = record {
     seen = starts_through (all ++ added) all v.seen (added, refl) k.seen;
     heard = k.heard;
     begun = k.begun;
@@ -64,6 +66,7 @@ module _ {T E : Type 0} (list : T → List E) (pair : T → ℕ × ℕ) (caller 
     pair_is = k.pair_is;
     most_is = k.most_is;
     counted = let c = k.counted in omega arith;
+    exact = exact;
     below = k.below;
     given = k.given;
     own = λ numbered. All-drop_append (λ e. caller e ≢ v.number) (length v.seen) all added (k.own numbered)
@@ -74,7 +77,7 @@ module _ {T E : Type 0} (list : T → List E) (pair : T → ℕ × ℕ) (caller 
 
   -- the view has seen the whole list, which begins with what it had seen
   pub known_whole : (drawn : ℕ) (before all : List E) (v : View E) (stage : Stage) → StartsWith all v.seen
-      → AreDone caller v.met all
+      → AreSilent caller v.met all
       → Known list pair caller start most drawn before v
       → Known list pair caller start most drawn all (record v { stage = stage; seen = all; mine = all })
   known_whole drawn before all v stage longer done k = record {
@@ -85,6 +88,7 @@ module _ {T E : Type 0} (list : T → List E) (pair : T → ℕ × ℕ) (caller 
     pair_is = k.pair_is;
     most_is = k.most_is;
     counted = k.counted;
+    exact = k.exact;
     below = k.below;
     given = k.given;
     own = λ _. nothing_behind (λ e. caller e ≢ v.number) all;

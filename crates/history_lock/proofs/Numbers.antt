@@ -13,11 +13,12 @@ use Rattle.atomic_table.specs.Table.{State, Act, keeps, Valid, Allows, stepped, 
 use Rattle.atomic_table.proofs.Lists.{exchanged}
 use Rattle.history_lock.specs.declared.view.View.{View}
 use Rattle.history_lock.specs.declared.view.Stage.TheVariants.{Away}
+use Rattle.history_lock.specs.declared.view.Drawing.TheVariants.{Never}
 use Rattle.history_lock.specs.History.{NoneOf}
 use Rattle.history_lock.specs.Rule.{StandsAt, IsDrawnBy, AreRetired, KeptAt, Kept}
 use Rattle.history_lock.specs.Steps.{Counted, Drew}
 use Rattle.history_lock.proofs.Histories.{All-drop_front, All-drop_more, nothing_behind}
-use Rattle.history_lock.proofs.Views.{apart_set, set_there, retired_set, retired_same}
+use Rattle.history_lock.proofs.Views.{apart_set, set_there, retired_set, retired_same, drawers_same}
 use Rattle.history_lock.proofs.Kept.{below_more, turns_set, kept_set, kept_free, drawn_set}
 use Rattle.history_lock.proofs.Turns.{away_free, away_live, stays}
 
@@ -55,6 +56,7 @@ module _ {T E : Type 0} (list : T → List E) (pair : T → ℕ × ℕ) (caller 
                 pair_is = m.pair_is;
                 most_is = m.most_is;
                 counted = omega arith;
+                exact = λ _. n_is;
                 below = omega arith;
                 given = below_more v.given v.count n (omega arith) m.given;
                 own = m.own;
@@ -65,8 +67,16 @@ module _ {T E : Type 0} (list : T → List E) (pair : T → ℕ × ℕ) (caller 
               (λ numbered. (numbered, refl))
               (λ number lt. drawn_set s.views id v w number at (λ has. has) (k.kept.drawn_by number lt));
           retired = retired_same k.drawn s.views id v w at (λ numbered. (numbered, refl)) refl k.retired;
+          one_draws = drawers_same s.views id v w at (λ a. a) (λ d. d) k.one_draws;
         },
-        (refl, omega arith, omega arith, omega arith, below_more v.given v.count n (omega arith) m.given),
+        (
+          refl,
+          omega arith,
+          omega arith,
+          omega arith,
+          below_more v.given v.count n (omega arith) m.given,
+          λ a. n_is ∙ sym (m.exact a),
+        ),
       )
 
   -- the number that is drawn is the view's, and each lower one some view's
@@ -89,11 +99,11 @@ module _ {T E : Type 0} (list : T → List E) (pair : T → ℕ × ℕ) (caller 
 
   drawer : (slots id : ℕ) (v : View E) (c : List (ℕ × Maybe T)) (s : State (Maybe T) (View E))
       (k : Kept list pair caller start most s) (n : ℕ) → StandsAt s.views id v → v.stage ≡ Away → v.numbered ≡ false
-      → k.drawn ≡ n → n < v.most
+      → v.drawing ≢ Never → k.drawn ≡ n → n < v.most
       → KeptAt list pair caller start most k.turn (n + 1) s.homes
       (set s.views id (record v { numbered = true; number = n; mine = v.seen; count = n + 1 })) k.all
       × NoneOf caller n (drop (length v.start) v.seen)
-  drawer slots id v c s k n at away bare n_is room =
+  drawer slots id v c s k n at away bare draws n_is room =
       let m = k.kept.known id v at (away_live away) in
       let counted = m.counted in
       let most_is = m.most_is in
@@ -112,7 +122,7 @@ module _ {T E : Type 0} (list : T → List E) (pair : T → ℕ × ℕ) (caller 
             (omega arith)
             (All-weaker (λ e. caller e < k.drawn) (λ e. caller e < n + 1) (λ e lt. omega arith)
             (drop (length (list start)) k.all) k.kept.entries)
-            (λ j u _ _ u_knows. record {
+            (λ j u else there u_knows. record {
               seen = u_knows.seen;
               heard = u_knows.heard;
               begun = u_knows.begun;
@@ -120,6 +130,7 @@ module _ {T E : Type 0} (list : T → List E) (pair : T → ℕ × ℕ) (caller 
               pair_is = u_knows.pair_is;
               most_is = u_knows.most_is;
               counted = let h = u_knows.counted in omega arith;
+              exact = λ a. absurd (else (k.one_draws j id u v there at a draws));
               below = u_knows.below;
               given = u_knows.given;
               own = u_knows.own;
@@ -134,6 +145,7 @@ module _ {T E : Type 0} (list : T → List E) (pair : T → ℕ × ℕ) (caller 
               pair_is = m.pair_is;
               most_is = m.most_is;
               counted = omega arith;
+              exact = λ _. refl;
               below = omega arith;
               given = below_more v.given v.count (n + 1) (omega arith) m.given;
               own = λ _. All-drop_more (λ e. caller e ≢ n) (length v.start) (length v.seen) k.all long unused;
@@ -168,16 +180,16 @@ module _ {T E : Type 0} (list : T → List E) (pair : T → ℕ × ℕ) (caller 
       new u = All-weaker (λ m. m.0 < k.drawn) (λ m. m.0 ≢ n) (λ m lt same. omega arith) u.met
 
   pub draws : (slots id : ℕ) (v : View E) (c : List (ℕ × Maybe T)) (n : ℕ) → v.stage ≡ Away → v.numbered ≡ false
-      → n < v.most
+      → v.drawing ≢ Never → n < v.most
       → Allows (Kept list pair caller start most) slots id (v, c) 1 (λ m. either (m == n) (n + 1) m)
       (Drew caller n (n + 1) (v, c))
-  draws slots id v c n away bare room s k len at fits =
+  draws slots id v c n away bare may room s k len at fits =
       exchanged (slice_index s.words 1) n (n + 1)
       (λ m. (w : View E) × (a : Act (Maybe T)) × Valid s.homes c a
       × Kept list pair caller start most (stepped s 1 m id c w a)
       × Drew caller n (n + 1) (v, c) (slice_index s.words 1) (w, carried_after c a))
       (λ hit.
-      let drawn = drawer slots id v c s k n at away bare (sym (drawn_word s k) ∙ hit) room in (
+      let drawn = drawer slots id v c s k n at away bare may (sym (drawn_word s k) ∙ hit) room in (
         record v { numbered = true; number = n; mine = v.seen; count = n + 1 },
         keeps,
         tt,
@@ -189,6 +201,8 @@ module _ {T E : Type 0} (list : T → List E) (pair : T → ℕ × ℕ) (caller 
           words = ap (λ ws. slice_set ws 1 (n + 1)) k.words;
           kept = drawn.0;
           retired = newly_drawn s k n id v at (sym (drawn_word s k) ∙ hit);
+          one_draws = drawers_same s.views id v
+              (record v { numbered = true; number = n; mine = v.seen; count = n + 1 }) at (λ a. a) (λ d. d) k.one_draws;
         },
         ((λ _. (refl, refl, drawn.1)), (λ miss. absurd (miss hit))),
       ))

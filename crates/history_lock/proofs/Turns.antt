@@ -15,14 +15,14 @@ use Rattle.atomic_table.proofs.Lists.{exchanged, set_again}
 use Rattle.history_lock.specs.declared.view.View.{View}
 use Rattle.history_lock.specs.declared.view.Stage.{Stage}
 use Rattle.history_lock.specs.declared.view.Stage.TheVariants.{Away, Opening, Holds, Ready, Gone}
-use Rattle.history_lock.specs.History.{StartsWith, NoneOf, AllOf, AreDone}
+use Rattle.history_lock.specs.History.{StartsWith, NoneOf, AllOf, AreSilent}
 use Rattle.history_lock.specs.Rule.{StandsAt, numbers_of, IsFree, SlotAt, IsInTurn, Known, KeptAt, Kept, opening_view}
-use Rattle.history_lock.specs.Rule.{OneNumberDrawn, AreRetired}
+use Rattle.history_lock.specs.Rule.{OneNumberDrawn, OneDraws, AreRetired}
 use Rattle.history_lock.specs.Steps.{Stayed, Opened, Took, Left, Readied, Settled}
 use Rattle.history_lock.proofs.Histories.{starts_whole, starts_nothing, All-drop_append, nothing_behind, done_grown, done_front}
 use Rattle.history_lock.proofs.Kept.{known_grown, known_whole, holder, turns_home, turns_held, apart_same, kept_set}
 use Rattle.history_lock.proofs.Kept.{drawn_set}
-use Rattle.history_lock.proofs.Views.{retired_same}
+use Rattle.history_lock.proofs.Views.{retired_same, drawers_same}
 
 pub away_free : {stage : Stage} → stage ≡ Away → IsFree stage
 away_free e = subst IsFree (sym e) tt
@@ -44,6 +44,7 @@ module _ {T E : Type 0} (list : T → List E) (pair : T → ℕ × ℕ) (caller 
     kept = subst (λ views. KeptAt list pair caller start most k.turn k.drawn s.homes views k.all)
         (sym (set_again s.views id v at)) k.kept;
     retired = subst (AreRetired k.drawn) (sym (set_again s.views id v at)) k.retired;
+    one_draws = subst OneDraws (sym (set_again s.views id v at)) k.one_draws;
   }
 
   abbrev first : View E
@@ -66,6 +67,7 @@ module _ {T E : Type 0} (list : T → List E) (pair : T → ℕ × ℕ) (caller 
     pair_is = refl;
     most_is = refl;
     counted = omega arith;
+    exact = λ _. refl;
     below = omega arith;
     given = tt;
     own = λ _. nothing_behind (λ e. caller e ≢ 0) (list start);
@@ -108,6 +110,7 @@ module _ {T E : Type 0} (list : T → List E) (pair : T → ℕ × ℕ) (caller 
       nobodys = λ i j v u _ there _. subst (λ (w : View E). All (λ m. m.0 ≢ v.number) w.met) (at_first j u there).1
           (All-nil (λ m. m.0 ≢ v.number));
     };
+    one_draws = λ i j v w at_i at_j _ _. (at_first i v at_i).0 ∙ sym (at_first j w at_j).0;
   }
 
   -- of a lock that is just made the count is above the first pass's number, and a higher number would be some other
@@ -155,6 +158,7 @@ module _ {T E : Type 0} (list : T → List E) (pair : T → ℕ × ℕ) (caller 
                 pair_is = m.pair_is;
                 most_is = m.most_is;
                 counted = m.counted;
+                exact = m.exact;
                 below = m.below;
                 given = m.given;
                 own = m.own;
@@ -165,6 +169,7 @@ module _ {T E : Type 0} (list : T → List E) (pair : T → ℕ × ℕ) (caller 
               (apart_same list pair caller start most s.views id v w at (λ n. (n, refl)) k.kept.apart)
               (λ number lt. drawn_set s.views id v w number at (λ has. has) (k.kept.drawn_by number lt));
           retired = retired_same k.drawn s.views id v w at (λ n. (n, refl)) refl k.retired;
+          one_draws = drawers_same s.views id v w at (λ a. a) (λ d. d) k.one_draws;
         },
         refl,
       )
@@ -183,7 +188,7 @@ module _ {T E : Type 0} (list : T → List E) (pair : T → ℕ × ℕ) (caller 
       let x = home.value in
       let w : View E = record v { stage = Holds; seen = list x; mine = list x } in
       let known = k.kept.known id v at (away_live away) in
-      let done : AreDone caller v.met (list x) = subst (AreDone caller v.met) (sym home.list_is) known.done in
+      let done : AreSilent caller v.met (list x) = subst (AreSilent caller v.met) (sym home.list_is) known.done in
       let sees : StartsWith (list x) v.seen = (known.seen.0, home.list_is ∙ known.seen.1) in
       let entries : All (λ e. caller e < k.drawn) (drop (length (list start)) (list x)) =
       subst (λ all. All (λ e. caller e < k.drawn) (drop (length (list start)) all)) (sym home.list_is) k.kept.entries in (
@@ -207,6 +212,7 @@ module _ {T E : Type 0} (list : T → List E) (pair : T → ℕ × ℕ) (caller 
               (apart_same list pair caller start most s.views id v w at (λ n. (n, refl)) k.kept.apart)
               (λ number lt. drawn_set s.views id v w number at (λ has. has) (k.kept.drawn_by number lt));
           retired = retired_same k.drawn s.views id v w at (λ n. (n, refl)) refl k.retired;
+          one_draws = drawers_same s.views id v w at (λ a. a) (λ d. d) k.one_draws;
         },
         (
           (λ _. (
@@ -221,6 +227,8 @@ module _ {T E : Type 0} (list : T → List E) (pair : T → ℕ × ℕ) (caller 
                 (subst (λ l. All (λ e. caller e < k.drawn) (drop (length l) (list x))) (sym known.start_is) entries),
             home.pair_is ∙ sym known.pair_is,
             done,
+            λ a. subst (λ n. All (λ e. caller e < n) (drop (length v.start) (list x))) (sym (known.exact a))
+                (subst (λ l. All (λ e. caller e < k.drawn) (drop (length l) (list x))) (sym known.start_is) entries),
           )),
           (λ else. absurd (else (found_word s k ∙ free))),
         ),
@@ -248,9 +256,9 @@ module _ {T E : Type 0} (list : T → List E) (pair : T → ℕ × ℕ) (caller 
   done_left : (drawn : ℕ) (views : List (View E)) (all : List E) (id : ℕ) (v : View E) (x : T) → AreRetired drawn views
       → StandsAt views id v → v.numbered ≡ true → v.seen ≡ all → StartsWith (list x) v.seen
       → AllOf caller v.number (drop (length v.seen) (list x)) → (j : ℕ) (u : View E) → StandsAt views j u
-      → AreDone caller u.met all → AreDone caller u.met (list x)
+      → AreSilent caller u.met all → AreSilent caller u.met (list x)
   done_left drawn views all id v x retired at numbered seen longer own j u there done =
-      subst (AreDone caller u.met) (sym (longer.1 ∙ ap (λ l. l ++ longer.0) seen))
+      subst (AreSilent caller u.met) (sym (longer.1 ∙ ap (λ l. l ++ longer.0) seen))
       (done_grown caller u.met all longer.0 v.number
       (subst (AllOf caller v.number) (front_rest (list x) v.seen longer.0 longer.1) own)
       (retired.nobodys id j v u at there numbered) done)
@@ -273,7 +281,7 @@ module _ {T E : Type 0} (list : T → List E) (pair : T → ℕ × ℕ) (caller 
       let mine : AllOf caller v.number added = subst (AllOf caller v.number) (front_rest
       (list x) v.seen added longer.1) own in
       let done : (j : ℕ) (u : View E) → StandsAt views j u → Known list pair caller start most drawn all u
-      → AreDone caller u.met (list x) =
+      → AreSilent caller u.met (list x) =
       λ j u there m. done_left drawn views all id v x retired at numbered seen longer own j u there m.done in
       kept_set list pair caller start most turn drawn turn' drawn homes homes' views all (list x) id
       (record v { stage = stage; seen = list x; mine = list x }) k
@@ -283,10 +291,10 @@ module _ {T E : Type 0} (list : T → List E) (pair : T → ℕ × ℕ) (caller 
       (All-weaker (λ e. caller e ≡ v.number) (λ e. caller e < drawn)
       (λ e is. let b = known.below in let c = known.counted in omega arith) added mine)))
       (λ j u else there m. subst (λ l. Known list pair caller start most drawn l u) (sym new)
-      (known_grown list pair caller start most drawn drawn all added u (omega arith)
+      (known_grown list pair caller start most drawn drawn all added u (omega arith) m.exact
       (λ nu. All-weaker (λ e. caller e ≡ v.number) (λ e. caller e ≢ u.number)
       (λ e is same. else (k.apart j id u v there at nu numbered (sym same ∙ is))) added mine)
-      (subst (AreDone caller u.met) new (done j u there m)) m))
+      (subst (AreSilent caller u.met) new (done j u there m)) m))
       (λ _. known_whole list pair caller start most drawn all (list x) v stage longer
       (done id v at known) known)
       (λ g. absurd (live g))
@@ -321,6 +329,8 @@ module _ {T E : Type 0} (list : T → List E) (pair : T → ℕ × ℕ) (caller 
               (ap (λ hs. set hs 0 (some (Some x))) slot) refl (pair_is ∙ known.pair_is) tt);
           retired = retired_same k.drawn s.views id v (record v { stage = Away; seen = list x; mine = list x }) at
               (λ n. (n, refl)) refl k.retired;
+          one_draws = drawers_same s.views id v (record v { stage = Away; seen = list x; mine = list x }) at (λ a. a)
+              (λ d. d) k.one_draws;
         },
         (
           refl,
@@ -353,6 +363,8 @@ module _ {T E : Type 0} (list : T → List E) (pair : T → ℕ × ℕ) (caller 
               (x, ap (λ hs. set hs 0 (some (Some x))) slot, refl, pair_is) refl h.others);
           retired = retired_same k.drawn s.views id v (record v { stage = Ready; seen = list x; mine = list x }) at
               (λ n. (n, refl)) refl k.retired;
+          one_draws = drawers_same s.views id v (record v { stage = Ready; seen = list x; mine = list x }) at (λ a. a)
+              (λ d. d) k.one_draws;
         },
         refl,
       )
@@ -370,7 +382,7 @@ module _ {T E : Type 0} (list : T → List E) (pair : T → ℕ × ℕ) (caller 
           refl,
           known.heard,
           known.others numbered,
-          done_front caller v.met v.seen known.seen.0 (subst (AreDone caller v.met) known.seen.1 known.done),
+          done_front caller v.met v.seen known.seen.0 (subst (AreSilent caller v.met) known.seen.1 known.done),
         ),
       )
 

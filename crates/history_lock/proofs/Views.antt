@@ -1,13 +1,14 @@
 -- A list of views in which one is changed, or to which one is added.
-use Rattle.std.proofs.Common.{◌≡◌, ◌≢◌, ℕ, zero, suc, List, [], ◌∷◌, ◌++◌, set, true, false, true≢false, refl, sym, ap, ◌<◌, ◌≤◌, arith}
+use Rattle.std.proofs.Common.{◌≡◌, ◌≢◌, ℕ, zero, suc, List, [], ◌∷◌, ◌++◌, length, ◌⊎◌, inl, inr, set, true, false, true≢false, refl, sym, ap, ◌<◌, ◌≤◌, arith}
 use Rattle.std.proofs.Common.{◌∙◌, subst, ⊎_elim}
 use Rattle.std.specs.Prelude.{All}
 use Rattle.std.proofs.lemmas.List.Elements.{All-nil, All-weaker}
-use mathlib.Core.Option.{some, some-ne-none}
+use mathlib.Core.Option.{some, some-injective, some-ne-none}
 use lib.ListN.{get_elem?}
 use Rattle.atomic_table.proofs.Lists.{at_set, at_snoc}
 use Rattle.history_lock.specs.declared.view.View.{View}
-use Rattle.history_lock.specs.Rule.{StandsAt, Apart, AreRetired}
+use Rattle.history_lock.specs.declared.view.Drawing.TheVariants.{Alone, Never}
+use Rattle.history_lock.specs.Rule.{StandsAt, Apart, OneDraws, AreRetired}
 
 module _ {A : Type 0} (P : ℕ → A → Type 0) where
   pub all_set : (l : List A) (id : ℕ) (w : A) → ((j : ℕ) (u : A) → j ≢ id → get_elem? l j ≡ some u → P j u) → P id w
@@ -28,6 +29,13 @@ module _ {A : Type 0} where
   set_there [] i a b e = absurd (some-ne-none a (sym e))
   set_there (x ∷ xs) zero a b e = refl
   set_there (x ∷ xs) (suc i) a b e = set_there xs i a b e
+
+  pub at_end : (l : List A) (a b : A) (j : ℕ) → get_elem? (l ++ a ∷ []) j ≡ some b
+      → (get_elem? l j ≡ some b) ⊎ ((j ≡ length l) × (a ≡ b))
+  at_end [] a b zero e = inr (refl, some-injective a b e)
+  at_end [] a b (suc j) e = absurd (some-ne-none b (sym e))
+  at_end (x ∷ xs) a b zero e = inl e
+  at_end (x ∷ xs) a b (suc j) e = ⊎_elim inl (λ t. inr (ap suc t.0, t.1)) (at_end xs a b j e)
 
   pub set_twice : (l : List A) (i j : ℕ) (a b : A) → i ≢ j → set (set l i a) j b ≡ set (set l j b) i a
   set_twice [] i j a b else = refl
@@ -64,6 +72,86 @@ module _ {E : Type 0} where
       j u at_j nu same)
       (λ i nw. absurd (true≢false (sym nw ∙ bare)))
       i v at_i
+
+  pub drawers_set : (views : List (View E)) (id : ℕ) (w : View E) → OneDraws views
+      → ((j : ℕ) (u : View E) → j ≢ id → StandsAt views j u → w.drawing ≡ Alone → u.drawing ≢ Never → ⊥)
+      → ((j : ℕ) (u : View E) → j ≢ id → StandsAt views j u → u.drawing ≡ Alone → w.drawing ≢ Never → ⊥)
+      → OneDraws (set views id w)
+  drawers_set views id w one mine theirs i j v u at_i at_j =
+      all_set (λ i v. v.drawing ≡ Alone → u.drawing ≢ Never → i ≡ j) views id w
+      (λ i v i_else was a d.
+      all_set (λ j u. u.drawing ≢ Never → i ≡ j) views id w
+      (λ j u _ there d. one i j v u was there a d)
+      (λ d. absurd (theirs i v i_else was a d))
+      j u at_j d)
+      (λ a d.
+      all_set (λ j u. u.drawing ≢ Never → id ≡ j) views id w
+      (λ j u j_else there d. absurd (mine j u j_else there a d))
+      (λ _. refl)
+      j u at_j d)
+      i v at_i
+
+  -- a view that draws numbers as before, or not at all
+  pub drawers_same : (views : List (View E)) (id : ℕ) (v w : View E) → StandsAt views id v
+      → (w.drawing ≡ Alone → v.drawing ≡ Alone) → (w.drawing ≢ Never → v.drawing ≢ Never) → OneDraws views
+      → OneDraws (set views id w)
+  drawers_same views id v w at alone draws one =
+      drawers_set views id w one
+      (λ j u else there a d. else (sym (one id j v u at there (alone a) d)))
+      (λ j u else there a d. else (one j id u v there at a (draws d)))
+
+  -- a view takes in another, which then draws none, and draws numbers as one of both did
+  pub drawers_joined : (views : List (View E)) (id : ℕ) (v : View E) (other : ℕ) (w u x : View E)
+      → StandsAt views id v → StandsAt views other w → other ≢ id → x.drawing ≡ Never
+      → (u.drawing ≡ v.drawing) ⊎ (u.drawing ≡ w.drawing) → OneDraws views
+      → OneDraws (set (set views id u) other x)
+  drawers_joined views id v other w u x at w_at else never which one =
+      let none : x.drawing ≡ Alone → ⊥ = λ a. let h : Never ≡ Alone = sym never ∙ a in cc in
+      subst OneDraws (set_twice views other id x u else)
+      (drawers_set (set views other x) id u
+      (drawers_set views other x one (λ _ _ _ _ a _. none a) (λ _ _ _ _ _ d. d never))
+      (λ j y j_else there a d.
+      all_set (λ j y. j ≢ id → y.drawing ≢ Never → ⊥) views other x
+      (λ j y j_other was j_else d. ⊎_elim
+      (λ e. j_else (sym (one id j v y at was (sym e ∙ a) d)))
+      (λ e. j_other (sym (one other j w y w_at was (sym e ∙ a) d))) which)
+      (λ _ d. d never) j y there j_else d)
+      (λ j y j_else there a d.
+      all_set (λ j y. j ≢ id → y.drawing ≡ Alone → ⊥) views other x
+      (λ j y j_other was j_else a. ⊎_elim
+      (λ e. j_else (one j id y v was at a (λ n. d (e ∙ n))))
+      (λ e. j_other (one j other y w was w_at a (λ n. d (e ∙ n)))) which)
+      (λ _ a. none a) j y there j_else a))
+
+  -- a view hands its right to draw numbers to one more, and may share it
+  pub drawers_handed : (views : List (View E)) (id : ℕ) (v left right : View E) → StandsAt views id v
+      → OneDraws views → (right.drawing ≡ Alone → v.drawing ≡ Alone) → (right.drawing ≢ Never → v.drawing ≢ Never)
+      → (left.drawing ≡ Alone → ⊥) → (left.drawing ≢ Never → v.drawing ≢ Never)
+      → (right.drawing ≡ Alone → left.drawing ≢ Never → ⊥)
+      → OneDraws (set views id left ++ right ∷ [])
+  drawers_handed views id v left right at one alone draws not_left left_draws apart i j x y at_i at_j =
+      let n : ℕ = length (set views id left) in
+      ⊎_elim
+      (λ (was : StandsAt (set views id left) i x).
+      ⊎_elim
+      (λ (there : StandsAt (set views id left) j y).
+      drawers_set views id left one (λ _ _ _ _ a _. not_left a)
+      (λ k u else was a d. else (one k id u v was at a (left_draws d))) i j x y was there)
+      (λ (new : (j ≡ n) × (right ≡ y)) a d.
+      absurd (all_set (λ _ x. x.drawing ≡ Alone → ⊥) views id left
+      (λ k u else there a. else (one k id u v there at a
+      (draws (subst (λ (z : View E). z.drawing ≢ Never) (sym new.1) d)))) not_left i x was a))
+      (at_end (set views id left) right y j at_j))
+      (λ (new : (i ≡ n) × (right ≡ x)) a d.
+      ⊎_elim
+      (λ (there : StandsAt (set views id left) j y).
+      absurd (all_set (λ _ y. y.drawing ≢ Never → ⊥) views id left
+      (λ k u else was d. else (sym (one id k v u at was
+      (alone (subst (λ (z : View E). z.drawing ≡ Alone) (sym new.1) a)) d)))
+      (apart (subst (λ (z : View E). z.drawing ≡ Alone) (sym new.1) a)) j y there d))
+      (λ (newer : (j ≡ n) × (right ≡ y)). new.0 ∙ sym newer.0)
+      (at_end (set views id left) right y j at_j))
+      (at_end (set views id left) right x i at_i)
 
   -- retired numbers stay so where the view that changes has a number that is none of them, and took in none that is a
   -- view's own

@@ -13,9 +13,9 @@ NoneOf caller number entries = All (λ entry. caller entry ≢ number) entries
 abbrev pub AllOf : {E : Type 0} → (E → ℕ) → ℕ → List E → Type 0
 AllOf caller number entries = All (λ entry. caller entry ≡ number) entries
 
--- each of these callers has a count beside it, and behind so many entries none is from that caller
-abbrev pub AreDone : {E : Type 0} → (E → ℕ) → List (ℕ × ℕ) → List E → Type 0
-AreDone caller met entries = All (λ m. NoneOf caller m.0 (drop m.1 entries)) met
+-- each of these callers has a count beside it, and behind so many entries it has added none
+abbrev pub AreSilent : {E : Type 0} → (E → ℕ) → List (ℕ × ℕ) → List E → Type 0
+AreSilent caller met entries = All (λ m. NoneOf caller m.0 (drop m.1 entries)) met
 
 -- the longer of two lists, and the other one
 abbrev pub longer : {E : Type 0} → List E → List E → List E

@@ -3,10 +3,12 @@ use Rattle.std.specs.Prelude.{◌≡◌, ℕ, ◌+◌, ◌<◌, ◌≤◌, true,
 use Rattle.atomic_table.specs.declared.shared.Seat.{Seat}
 use Rattle.history_lock.specs.declared.view.View.{View}
 use Rattle.history_lock.specs.declared.view.Stage.TheVariants.{Away, Holds}
+use Rattle.history_lock.specs.declared.view.Drawing.{Drawing}
+use Rattle.history_lock.specs.declared.view.Drawing.TheVariants.{Alone, Never}
 use Rattle.history_lock.specs.declared.pass.Pass.{Pass}
 use Rattle.history_lock.specs.declared.pass.Turn.{Turn}
 use Rattle.history_lock.specs.declared.lock.Lock.{Lock}
-use Rattle.history_lock.specs.History.{StartsWith, NoneOf, AreDone}
+use Rattle.history_lock.specs.History.{StartsWith, NoneOf, AreSilent}
 use Rattle.history_lock.specs.Steps.{the_view}
 
 abbrev pub view_of : {E : Type 0} → Pass E → View E
@@ -28,6 +30,10 @@ given_by pass = (view_of pass).given
 abbrev pub count_of : {E : Type 0} → Pass E → ℕ
 count_of pass = (view_of pass).count
 
+-- whether it draws numbers: it alone, with others, or never
+abbrev pub drawing_of : {E : Type 0} → Pass E → Drawing
+drawing_of pass = (view_of pass).drawing
+
 -- the numbers of the passes that it took in, each with the length of the list that that one had seen
 abbrev pub met_by : {E : Type 0} → Pass E → List (ℕ × ℕ)
 met_by pass = (view_of pass).met
@@ -44,6 +50,9 @@ turn_given_by turn = turn.seat.me.0.given
 
 abbrev pub turn_count_of : {T E : Type 0} → Turn T E → ℕ
 turn_count_of turn = turn.seat.me.0.count
+
+abbrev pub turn_drawing_of : {T E : Type 0} → Turn T E → Drawing
+turn_drawing_of turn = turn.seat.me.0.drawing
 
 abbrev pub turn_met_by : {T E : Type 0} → Turn T E → List (ℕ × ℕ)
 turn_met_by turn = turn.seat.me.0.met
@@ -70,7 +79,7 @@ pub record IsPassOf {T A E : Type 0} (list : T → List E) (pair : T → ℕ × 
   pub table_is : pass.badge.table_id ≡ lock.table.shared.table_id
   pub view_is : IsViewOf list pair lock (view_of pass)
   pub begins : StartsWith (seen_by pass) (list (opened_with lock))
-  pub done : AreDone caller (met_by pass) (seen_by pass)
+  pub done : AreSilent caller (met_by pass) (seen_by pass)
 
 -- the turn is of this lock, and what was taken begins with the list at the opening
 pub record IsTurnOf {T A E : Type 0} (list : T → List E) (pair : T → ℕ × ℕ) (lock : Lock T A E)
@@ -81,10 +90,11 @@ pub record IsTurnOf {T A E : Type 0} (list : T → List E) (pair : T → ℕ × 
   pub stage_is : turn.seat.me.0.stage ≡ Holds
   pub numbered : turn.seat.me.0.numbered ≡ true
   pub number_is : turn.seat.me.0.number ≡ turn.number
+  pub drawing_is : turn.seat.me.0.drawing ≡ turn.drawing
   pub slot_is : turn.seat.me.1 ≡ (0, None) ∷ []
 
 -- the seat is new: it has this number, which is none of those that the view knows and that no entry since the opening
--- carries, and has seen what the view has
+-- carries, and has seen what the view has; it draws no numbers
 pub record IsDrawn {T A E : Type 0} (caller : E → ℕ) (lock : Lock T A E) (v : View E) (number : ℕ)
     (seat : Seat (Maybe T) (View E)) : Type 0 where
   pub table_is : seat.table_id ≡ lock.table.shared.table_id
@@ -92,9 +102,11 @@ pub record IsDrawn {T A E : Type 0} (caller : E → ℕ) (lock : Lock T A E) (v 
       × (seat.me.0.pair ≡ v.pair) × (seat.me.0.most ≡ v.most)
   pub numbered : (seat.me.0.numbered ≡ true) × (seat.me.0.number ≡ number)
   pub nothing_given : (seat.me.0.given ≡ None) × (seat.me.0.met ≡ []) × (seat.me.1 ≡ [])
+  pub idle : seat.me.0.drawing ≡ Never
   pub fits : number < callers_of lock
   pub counted : seat.me.0.count ≡ number + 1
   pub next : v.count ≤ number
+  pub exact : v.drawing ≡ Alone → number ≡ v.count
   pub above : v.number < number
   pub above_given : IfSome v.given (λ given. given < number)
   pub unseen : NoneOf caller number (drop (length v.start) v.seen)

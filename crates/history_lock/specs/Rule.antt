@@ -10,7 +10,8 @@ use Rattle.atomic_table.specs.Table.{State, opening}
 use Rattle.history_lock.specs.declared.view.View.{View}
 use Rattle.history_lock.specs.declared.view.Stage.{Stage}
 use Rattle.history_lock.specs.declared.view.Stage.TheVariants.{Away, Opening, Holds, Ready, Gone}
-use Rattle.history_lock.specs.History.{StartsWith, NoneOf, AreDone}
+use Rattle.history_lock.specs.declared.view.Drawing.TheVariants.{Alone, Never}
+use Rattle.history_lock.specs.History.{StartsWith, NoneOf, AreSilent}
 
 -- the view stands at this place among the views
 abbrev pub StandsAt : {E : Type 0} → List (View E) → ℕ → View E → Type 0
@@ -36,7 +37,7 @@ IsFree Opening = ⊥
 IsFree Holds = ⊥
 IsFree Ready = ⊥
 
--- the first pass, of number 0, which has the turn until the value is put in
+-- the first pass, of number 0, which alone draws numbers, and has the turn until the value is put in
 abbrev pub opening_view : {E : Type 0} → List E → ℕ × ℕ → ℕ → View E
 opening_view start pair most = record {
   stage = Opening;
@@ -46,6 +47,7 @@ opening_view start pair most = record {
   seen = start;
   mine = start;
   heard = [];
+  drawing = Alone;
   count = 1;
   given = None;
   start = start;
@@ -91,7 +93,8 @@ IsInTurn {T} {E} list pair start turn homes views all =
 
 -- What a view knows where this many numbers were drawn. It has seen a beginning of the history, which begins with the
 -- list at the opening. It knows the list and the pair at the opening and the number of callers. Its count is at most
--- that of the drawn numbers, and above its number and each that it gave. If it has a number of its own, it has seen
+-- that of the drawn numbers, and is that where it alone draws them; it is above its number and each that it gave. If it
+-- has a number of its own, it has seen
 -- each entry that carries it, and had seen it before the last join. Of a pass that it took in, it has seen each entry,
 -- and so had that one.
 pub record Known {T E : Type 0} (list : T → List E) (pair : T → ℕ × ℕ) (caller : E → ℕ) (start : T) (most : ℕ)
@@ -103,16 +106,22 @@ pub record Known {T E : Type 0} (list : T → List E) (pair : T → ℕ × ℕ) 
   pub pair_is : v.pair ≡ pair start
   pub most_is : v.most ≡ most
   pub counted : v.count ≤ drawn
+  pub exact : v.drawing ≡ Alone → v.count ≡ drawn
   pub below : v.number < v.count
   pub given : IfSome v.given (λ number. number < v.count)
   pub own : v.numbered ≡ true → NoneOf caller v.number (drop (length v.seen) all)
   pub others : v.numbered ≡ true → NoneOf caller v.number (drop (length v.mine) v.seen)
-  pub done : AreDone caller v.met all
+  pub done : AreSilent caller v.met all
 
 -- the numbers of two views differ
 abbrev pub Apart : {E : Type 0} → List (View E) → Type 0
 Apart {E} views = (i j : ℕ) (v w : View E) → StandsAt views i v → StandsAt views j w → v.numbered ≡ true
     → w.numbered ≡ true → v.number ≡ w.number → i ≡ j
+
+-- where a view draws numbers alone, no other does
+abbrev pub OneDraws : {E : Type 0} → List (View E) → Type 0
+OneDraws {E} views = (i j : ℕ) (v w : View E) → StandsAt views i v → StandsAt views j w → v.drawing ≡ Alone
+    → w.drawing ≢ Never → i ≡ j
 
 -- the number of a pass that was taken in was drawn, and is no view's own
 pub record AreRetired {E : Type 0} (drawn : ℕ) (views : List (View E)) : Type 0 where
@@ -145,6 +154,7 @@ pub record Kept {T E : Type 0} (list : T → List E) (pair : T → ℕ × ℕ) (
   pub words : s.words ≡ turn ∷ drawn ∷ sleepers ∷ []
   pub kept : KeptAt list pair caller start most turn drawn s.homes s.views all
   pub retired : AreRetired drawn s.views
+  pub one_draws : OneDraws s.views
 
 -- where these are the words of a lock that is just made, one number was drawn: that of the first pass
 abbrev pub OneNumberDrawn : {T E : Type 0} → (T → List E) → (T → ℕ × ℕ) → (E → ℕ) → T → ℕ → Type 0

@@ -4,7 +4,16 @@ use Rattle.std.specs.Prelude.{Option as Maybe, Some, None, IfSome}
 use Rattle.atomic_table.specs.Table.{Me}
 use Rattle.history_lock.specs.declared.view.View.{View}
 use Rattle.history_lock.specs.declared.view.Stage.TheVariants.{Away, Holds, Ready, Gone}
-use Rattle.history_lock.specs.History.{StartsWith, NoneOf, AreDone, longer, shorter}
+use Rattle.history_lock.specs.declared.view.Drawing.TheVariants.{Alone, Shared, Never}
+use Rattle.history_lock.specs.History.{StartsWith, NoneOf, AreSilent, longer, shorter}
+
+-- it draws no numbers
+abbrev pub idle : {E : Type 0} → View E → View E
+idle v = record v { drawing = Never }
+
+-- it draws numbers, and others may
+abbrev pub sharing : {E : Type 0} → View E → View E
+sharing v = record v { drawing = Shared }
 
 -- a copy with no number
 abbrev pub copy_of : {E : Type 0} → View E → View E
@@ -20,9 +29,13 @@ joined v w = record v {
   count = max v.count w.count;
 }
 
--- a split gave the other's number
+-- it draws numbers as the other did
+abbrev pub returned : {E : Type 0} → View E → View E → View E
+returned v w = record v { drawing = w.drawing; count = max v.count w.count }
+
+-- and a split gave the other's number
 abbrev pub noted : {E : Type 0} → View E → View E → View E
-noted v w = record v { count = max v.count w.count; given = Some w.number }
+noted v w = record v { drawing = w.drawing; count = max v.count w.count; given = Some w.number }
 
 -- what a join leaves of the other view
 abbrev pub gone : {E : Type 0} → View E
@@ -34,6 +47,7 @@ gone = record {
   seen = [];
   mine = [];
   heard = [];
+  drawing = Never;
   count = 0;
   given = None;
   start = [];
@@ -53,7 +67,8 @@ abbrev pub Opened : {T E : Type 0} → Me (Maybe T) (View E) → Me (Maybe T) (V
 Opened before after = after ≡ (record before.0 { stage = Holds }, (0, None) ∷ [])
 
 -- With 0 found the turn is taken. The list begins with what was seen, and has no further entry of the own number, nor
--- of a pass that was taken in. Each entry since the opening is from one of so many callers.
+-- of a pass that was taken in. Each entry since the opening is from one of so many callers; where nobody else draws
+-- numbers, from one below the known count.
 abbrev pub Took : {T E : Type 0} → (T → List E) → (T → ℕ × ℕ) → (E → ℕ) → Me (Maybe T) (View E) → ℕ
     → Me (Maybe T) (View E) → Type 0
 Took {T} list pair caller before found after =
@@ -61,7 +76,9 @@ Took {T} list pair caller before found after =
     × (after ≡ (record before.0 { stage = Holds; seen = list value; mine = list value }, (0, Some value) ∷ []))
     × StartsWith (list value) before.0.seen × NoneOf caller before.0.number (drop (length before.0.seen) (list value))
     × All (λ entry. caller entry < before.0.most) (drop (length before.0.start) (list value))
-    × (pair value ≡ before.0.pair) × AreDone caller before.0.met (list value))
+    × (pair value ≡ before.0.pair) × AreSilent caller before.0.met (list value)
+    × (before.0.drawing ≡ Alone
+    → All (λ entry. caller entry < before.0.count) (drop (length before.0.start) (list value))))
     × (found ≢ 0 → after ≡ before)
 
 -- the list of the value in the slot that is held
@@ -74,7 +91,7 @@ held_list list ((slot, Some value) ∷ slots) = list value
 abbrev pub Left : {T E : Type 0} → (T → List E) → (E → ℕ) → Me (Maybe T) (View E) → Me (Maybe T) (View E) → Type 0
 Left list caller before after =
     (after ≡ (record before.0 { stage = Away; seen = held_list list before.1; mine = held_list list before.1 }, []))
-    × AreDone caller before.0.met (held_list list before.1)
+    × AreSilent caller before.0.met (held_list list before.1)
 
 -- the value is back in its place, and the turn is still taken
 abbrev pub Readied : {T E : Type 0} → (T → List E) → Me (Maybe T) (View E) → Me (Maybe T) (View E) → Type 0
@@ -86,6 +103,7 @@ abbrev pub Counted : {T E : Type 0} → Me (Maybe T) (View E) → ℕ → Me (Ma
 Counted before found after =
     (after ≡ (record before.0 { count = found }, before.1)) × (before.0.count ≤ found) × (found ≤ before.0.most)
     × (before.0.number < found) × IfSome before.0.given (λ number. number < found)
+    × (before.0.drawing ≡ Alone → found ≡ before.0.count)
 
 -- with the expected count found, the count goes up by one. The number that is drawn is the count that was found, and no
 -- entry that was added since the opening has it
@@ -103,7 +121,11 @@ abbrev pub Settled : {T E : Type 0} → (E → ℕ) → Me (Maybe T) (View E) �
 Settled caller before after =
     (after ≡ before) × StartsWith before.0.seen before.0.heard
     × NoneOf caller before.0.number (drop (length before.0.mine) before.0.seen)
-    × AreDone caller before.0.met before.0.seen
+    × AreSilent caller before.0.met before.0.seen
+
+-- the same, but numbers are drawn with others
+abbrev pub Redrawn : {E : Type 0} → View E → View E → Type 0
+Redrawn v w = w ≡ record v { drawing = Shared }
 
 -- the same but for the count, and for the number that was given last
 abbrev pub Recounted : {E : Type 0} → View E → View E → Type 0

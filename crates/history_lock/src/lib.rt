@@ -16,3 +16,4 @@ mod view;
 pub use lock::Lock;
 pub use pass::{Pass, Spent, Turn};
 pub use told::Told;
+pub use view::Drawing;

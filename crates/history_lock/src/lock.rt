@@ -1,14 +1,16 @@
-ghost use Rattle.std.specs.Prelude.{◌≡◌, ◌≢◌, ℕ, ◌+◌, ◌++◌, ◌<◌, ◌≤◌, true, [], ◌∷◌, All, drop, length, Some, None, IfOk, IfErr};
-ghost use Rattle.std.specs.Prelude.{IfSome};
+ghost use Rattle.std.specs.Prelude.{◌≡◌, ◌≢◌, ℕ, ◌+◌, ◌++◌, ◌<◌, ◌≤◌, true, [], ◌∷◌, All, drop, length, max, Some, None, IfOk, IfErr};
+ghost use Rattle.std.specs.Prelude.{IfSome, ◌⊎◌};
 ghost use Rattle.history_lock.specs.declared.view.Stage.TheVariants.{Away, Holds};
-ghost use Rattle.history_lock.specs.History.{StartsWith, NoneOf, AllOf, AreDone, longer};
+ghost use Rattle.history_lock.specs.declared.view.Drawing.TheVariants.{Alone, Shared, Never};
+ghost use Rattle.history_lock.specs.History.{StartsWith, NoneOf, AllOf, AreSilent, longer};
 
 use crate::pass::{Pass, Spent, Turn};
 use crate::steps::{
-    Copies, Counts, Draws, Hears, InTurn, Leaves, Notes, Opens, Readies, Settles, Takes, Waits,
+    Counts, Draws, Hands, Hears, InTurn, Leaves, Notes, Opens, Readies, Returns, Settles, Shares,
+    Takes, Waits,
 };
 use crate::told::Told;
-use crate::view::View;
+use crate::view::{Drawing, View};
 use atomic_table::{Badge, Seat, Table};
 use cell_value::NoMemory;
 use std::alloc::{Allocator, Global};
@@ -42,12 +44,14 @@ pub struct Lock<T: Told, A: Allocator = Global> {
 
 impl<T: Told, A: Allocator> Lock<T, A> {
     ghost use Rattle.history_lock.specs.Rule.{OneNumberDrawn};
-    ghost use Rattle.history_lock.specs.Steps.{Recounted};
+    ghost use Rattle.history_lock.specs.Steps.{Recounted, Redrawn};
     ghost use Rattle.history_lock.specs.Passes.{seen_by, number_of, given_by, count_of, taken_by, turn_number_of};
-    ghost use Rattle.history_lock.specs.Passes.{turn_given_by, turn_count_of, opened_with, callers_of, IsViewOf};
-    ghost use Rattle.history_lock.specs.Passes.{met_by, turn_met_by, IsPassOf, IsTurnOf, IsDrawn};
+    ghost use Rattle.history_lock.specs.Passes.{turn_given_by, turn_count_of, drawing_of, turn_drawing_of};
+    ghost use Rattle.history_lock.specs.Passes.{opened_with, callers_of, IsViewOf};
+    ghost use Rattle.history_lock.specs.Passes.{view_of, met_by, turn_met_by, IsPassOf, IsTurnOf, IsDrawn};
 
-    /// A lock round the value, for this many callers, and the pass of number 0, which has seen the value's list.
+    /// A lock round the value, for this many callers, and the pass of number 0, which has seen the value's list. It
+    /// alone draws numbers, until it is split.
     ///
     /// # Errors
     ///
@@ -63,6 +67,7 @@ impl<T: Told, A: Allocator> Lock<T, A> {
         ensures seen { IfOk result (λ made. seen_by made.1 ≡ T.list value) }
         ensures number { IfOk result (λ made. number_of made.1 ≡ 0) }
         ensures drawn { IfOk result (λ made. (count_of made.1 ≡ 1) × (given_by made.1 ≡ None)) }
+        ensures alone { IfOk result (λ made. drawing_of made.1 ≡ Alone) }
         ensures met { IfOk result (λ made. met_by made.1 ≡ []) }
 
         // In the words with which a lock is made one number is drawn, that of the first pass.
@@ -75,7 +80,13 @@ impl<T: Told, A: Allocator> Lock<T, A> {
             Ok((table, mut seat)) => {
                 table.shared.load::<Opens>(&mut seat, TURN);
                 let lock = Lock { table, callers };
-                let pass = lock.leave(Turn { number: 0, seat }, value);
+                let drawing = Drawing::Alone;
+                let turn = Turn {
+                    number: 0,
+                    drawing,
+                    seat,
+                };
+                let pass = lock.leave(turn, value);
                 Ok((lock, pass))
             }
         }
@@ -88,7 +99,8 @@ impl<T: Told, A: Allocator> Lock<T, A> {
         ensures turn { IsTurnOf T.list T.pair self.now result.0 }
         ensures taken { taken_by result.0 ≡ T.list result.1 }
         ensures number { turn_number_of result.0 ≡ number_of pass }
-        ensures drawn { (turn_count_of result.0 ≡ count_of pass) × (turn_given_by result.0 ≡ given_by pass) }
+        ensures drawn { (turn_count_of result.0 ≡ count_of pass) × (turn_given_by result.0 ≡ given_by pass)
+            × (turn_drawing_of result.0 ≡ drawing_of pass) }
 
         // The list begins with what the pass has seen. What follows has no entry of the pass's number.
         ensures list { StartsWith (T.list result.1) (seen_by pass) }
@@ -96,20 +108,29 @@ impl<T: Told, A: Allocator> Lock<T, A> {
 
         // Of a pass that this one took in the list has no entry behind what that one had seen.
         ensures met { turn_met_by result.0 ≡ met_by pass }
-        ensures done { AreDone T.caller (met_by pass) (T.list result.1) }
+        ensures done { AreSilent T.caller (met_by pass) (T.list result.1) }
 
         // Each entry since the opening is from one of so many callers.
         ensures callers { All (λ entry. T.caller entry < callers_of self.now)
             (drop (length (T.list (opened_with self.now))) (T.list result.1)) }
+
+        // Where the pass alone draws numbers, each is from one below the count that it knows.
+        ensures alone { drawing_of pass ≡ Alone → All (λ entry. T.caller entry < count_of pass)
+            (drop (length (T.list (opened_with self.now))) (T.list result.1)) }
         ensures pair { T.pair result.1 ≡ T.pair (opened_with self.now) }
     {
-        let (number, badge) = pass.into_parts();
+        let (number, drawing, badge) = pass.into_parts();
         let mut seat = badge.into_seat();
         let shared = &self.table.shared;
         for _ in rt.forever() {
             if shared.compare_exchange::<Takes>(&mut seat, TURN, 0, 1) == 0 {
                 let value = shared.exchange(&mut seat, VALUE, None).unwrap();
-                return (Turn { number, seat }, value);
+                let turn = Turn {
+                    number,
+                    drawing,
+                    seat,
+                };
+                return (turn, value);
             }
             self.sleep(rt, &mut seat);
         }
@@ -162,10 +183,15 @@ impl<T: Told, A: Allocator> Lock<T, A> {
         ensures pass { IsPassOf T.list T.pair T.caller self.now result }
         ensures seen { seen_by result ≡ T.list value }
         ensures number { number_of result ≡ turn_number_of turn }
-        ensures drawn { (count_of result ≡ turn_count_of turn) × (given_by result ≡ turn_given_by turn) }
+        ensures drawn { (count_of result ≡ turn_count_of turn) × (given_by result ≡ turn_given_by turn)
+            × (drawing_of result ≡ turn_drawing_of turn) }
         ensures met { met_by result ≡ turn_met_by turn }
     {
-        let Turn { number, mut seat } = turn;
+        let Turn {
+            number,
+            drawing,
+            mut seat,
+        } = turn;
         let shared = &self.table.shared;
         match shared.exchange(&mut seat, VALUE, Some(value)) {
             None => {}
@@ -175,6 +201,7 @@ impl<T: Told, A: Allocator> Lock<T, A> {
         self.wake();
         Pass {
             number,
+            drawing,
             badge: seat.into_badge(),
         }
     }
@@ -184,7 +211,8 @@ impl<T: Told, A: Allocator> Lock<T, A> {
     ///
     /// # Errors
     ///
-    /// [`Spent`] where all numbers were drawn, each of them for some pass. The pass then knows that count.
+    /// [`Spent`] where all numbers were drawn, each of them for some pass. The pass then knows that count. Also where
+    /// the pass was lent, and so draws none.
     pub fn split<R: Wait>(&self, rt: &R, pass: &mut Pass<T::Entry>) -> Result<Pass<T::Entry>, Spent>
         requires { IsPassOf T.list T.pair T.caller self.now pass.old }
         ensures old { IsPassOf T.list T.pair T.caller self.now pass.new }
@@ -210,20 +238,92 @@ impl<T: Told, A: Allocator> Lock<T, A> {
         ensures met { met_by pass.new ≡ met_by pass.old }
         ensures none_met { IfOk result (λ new. met_by new ≡ []) }
 
-        ensures spent { IfErr result (λ _. count_of pass.new ≡ callers_of self.now) }
+        // Both draw numbers then.
+        ensures shared { IfOk result (λ new. (drawing_of pass.new ≡ Shared) × (drawing_of new ≡ Shared)) }
+
+        ensures spent { IfErr result (λ _. (drawing_of pass.old ≡ Never) ⊎ (count_of pass.new ≡ callers_of self.now)) }
         ensures none_given { IfErr result (λ _. given_by pass.new ≡ given_by pass.old) }
+        ensures as_before { IfErr result (λ _. drawing_of pass.new ≡ drawing_of pass.old) }
     {
+        let mut new = self.lend(rt, pass)?;
+        self.share(pass, &mut new);
+        Ok(new)
+    }
+
+    /// A pass as [`Lock::split`] gives it, but one that draws no numbers itself. A pass that alone draws numbers does
+    /// so still, and so knows how many were drawn.
+    ///
+    /// # Errors
+    ///
+    /// [`Spent`] where all numbers were drawn, or the pass was itself lent.
+    pub fn lend<R: Wait>(&self, rt: &R, pass: &mut Pass<T::Entry>) -> Result<Pass<T::Entry>, Spent>
+        requires { IsPassOf T.list T.pair T.caller self.now pass.old }
+        ensures old { IsPassOf T.list T.pair T.caller self.now pass.new }
+        ensures same { (seen_by pass.new ≡ seen_by pass.old) × (number_of pass.new ≡ number_of pass.old) }
+        ensures drawing { drawing_of pass.new ≡ drawing_of pass.old }
+        ensures count { count_of pass.old ≤ count_of pass.new }
+        ensures new { IfOk result (λ new. IsPassOf T.list T.pair T.caller self.now new) }
+        ensures seen { IfOk result (λ new. seen_by new ≡ seen_by pass.old) }
+        ensures lent { IfOk result (λ new. drawing_of new ≡ Never) }
+        ensures draws { IfOk result (λ _. drawing_of pass.old ≢ Never) }
+
+        // It is at least the count that the pass knew, and just that where nobody else draws numbers.
+        ensures next { IfOk result (λ new. count_of pass.old ≤ number_of new) }
+        ensures exact { IfOk result (λ new. drawing_of pass.old ≡ Alone → number_of new ≡ count_of pass.old) }
+        ensures counted { IfOk result (λ new. (count_of new ≡ number_of new + 1)
+            × (count_of pass.new ≡ number_of new + 1)) }
+        ensures number { IfOk result (λ new. number_of new < callers_of self.now) }
+        ensures other { IfOk result (λ new. number_of new ≢ number_of pass.old) }
+        ensures above { IfOk result (λ new. IfSome (given_by pass.old) (λ given. given < number_of new)) }
+        ensures unused { IfOk result (λ new. NoneOf T.caller (number_of new)
+            (drop (length (T.list (opened_with self.now))) (seen_by new))) }
+        ensures given { IfOk result (λ new. (given_by pass.new ≡ Some (number_of new)) × (given_by new ≡ None)) }
+        ensures met { met_by pass.new ≡ met_by pass.old }
+        ensures none_met { IfOk result (λ new. met_by new ≡ []) }
+
+        ensures spent { IfErr result (λ _. (drawing_of pass.old ≡ Never) ⊎ (count_of pass.new ≡ callers_of self.now)) }
+        ensures none_given { IfErr result (λ _. given_by pass.new ≡ given_by pass.old) }
+        ensures none_drawn { IfErr result (λ _. drawing_of pass.old ≡ Alone
+            → count_of pass.new ≡ count_of pass.old) }
+    {
+        if let Drawing::Never = pass.drawing {
+            return Err(Spent);
+        }
         let mut seat = mem::replace(&mut pass.badge, Badge::blank()).into_seat();
         let drawn = self.draw(rt, &mut seat);
         pass.badge = seat.into_badge();
         let (number, new) = drawn?;
         Ok(Pass {
             number,
+            drawing: Drawing::Never,
             badge: new.into_badge(),
         })
     }
 
-    // A new seat with a new number. Where another thread draws first, a further number is tried.
+    // The new pass draws numbers, too.
+    fn share(&self, pass: &mut Pass<T::Entry>, new: &mut Pass<T::Entry>)
+        requires pass { IsPassOf T.list T.pair T.caller self.now pass.old }
+        requires new { IsPassOf T.list T.pair T.caller self.now new.old }
+        requires draws { drawing_of pass.old ≢ Never }
+        requires count { count_of pass.old ≡ count_of new.old }
+        ensures pass { IsPassOf T.list T.pair T.caller self.now pass.new }
+        ensures new { IsPassOf T.list T.pair T.caller self.now new.new }
+        ensures same { (number_of pass.new ≡ number_of pass.old) × Redrawn (view_of pass.old) (view_of pass.new) }
+        ensures same_new { (number_of new.new ≡ number_of new.old) × Redrawn (view_of new.old) (view_of new.new) }
+    {
+        let mut seat = mem::replace(&mut pass.badge, Badge::blank()).into_seat();
+        let mut other = mem::replace(&mut new.badge, Badge::blank()).into_seat();
+        let shared = &self.table.shared;
+        let right = shared.split_seat::<Shares>(&mut seat);
+        shared.join_seat::<Returns>(&mut other, right);
+        pass.badge = seat.into_badge();
+        pass.drawing = Drawing::Shared;
+        new.badge = other.into_badge();
+        new.drawing = Drawing::Shared;
+    }
+
+    // A new seat with a new number. It has the right to draw for as long as it takes, and gives it back. Where another
+    // thread draws first, a further number is tried.
     fn draw<R: Wait>(
         &self,
         rt: &R,
@@ -232,6 +332,7 @@ impl<T: Told, A: Allocator> Lock<T, A> {
         requires here { seat.old.table_id ≡ self.now.table.shared.table_id }
         requires view { IsViewOf T.list T.pair self.now seat.old.me.0 }
         requires away { (seat.old.me.0.stage ≡ Away) × (seat.old.me.1 ≡ []) }
+        requires draws { seat.old.me.0.drawing ≢ Never }
         ensures here { seat.new.table_id ≡ self.now.table.shared.table_id }
         ensures same { Recounted seat.old.me.0 seat.new.me.0 × (seat.new.me.1 ≡ []) }
         ensures count { seat.old.me.0.count ≤ seat.new.me.0.count }
@@ -240,6 +341,8 @@ impl<T: Told, A: Allocator> Lock<T, A> {
         ensures given { IfOk result (λ drawn. seat.new.me.0.given ≡ Some drawn.0) }
         ensures spent { IfErr result (λ _. seat.new.me.0.count ≡ callers_of self.now) }
         ensures none_given { IfErr result (λ _. seat.new.me.0.given ≡ seat.old.me.0.given) }
+        ensures none_drawn { IfErr result (λ _. seat.old.me.0.drawing ≡ Alone
+            → seat.new.me.0.count ≡ seat.old.me.0.count) }
     {
         let shared = &self.table.shared;
         for _ in rt.forever() {
@@ -247,12 +350,13 @@ impl<T: Told, A: Allocator> Lock<T, A> {
             if next >= u64::from(self.callers) {
                 return Err(Spent);
             }
-            let mut new = shared.split_seat::<Copies>(seat);
+            let mut new = shared.split_seat::<Hands>(seat);
             if shared.compare_exchange::<Draws>(&mut new, DRAWN, next, next + 1) == next {
-                let note = shared.split_seat::<Copies>(&mut new);
+                let note = shared.split_seat::<Hands>(&mut new);
                 shared.join_seat::<Notes>(seat, note);
                 return Ok((next as u32, new));
             }
+            shared.join_seat::<Returns>(seat, new);
         }
         unreachable!()
     }
@@ -264,8 +368,9 @@ impl<T: Told, A: Allocator> Lock<T, A> {
         requires pass { IsPassOf T.list T.pair T.caller self.now pass.old }
         requires other { IsPassOf T.list T.pair T.caller self.now other }
         ensures pass { IsPassOf T.list T.pair T.caller self.now pass.new }
-        ensures same { (number_of pass.new ≡ number_of pass.old) × (given_by pass.new ≡ given_by pass.old) }
-        ensures count { (count_of pass.old ≤ count_of pass.new) × (count_of other ≤ count_of pass.new) }
+        ensures same { (number_of pass.new ≡ number_of pass.old) × (given_by pass.new ≡ given_by pass.old)
+            × (drawing_of pass.new ≡ drawing_of pass.old) }
+        ensures count { count_of pass.new ≡ max (count_of pass.old) (count_of other) }
         ensures longer { seen_by pass.new ≡ longer (seen_by pass.old) (seen_by other) }
         ensures mine { StartsWith (seen_by pass.new) (seen_by pass.old) }
         ensures theirs { StartsWith (seen_by pass.new) (seen_by other) }
@@ -274,7 +379,7 @@ impl<T: Told, A: Allocator> Lock<T, A> {
             ≡ met_by pass.old ++ (number_of other, length (seen_by other)) ∷ met_by other }
     {
         let mut seat = mem::replace(&mut pass.badge, Badge::blank()).into_seat();
-        let (_, badge) = other.into_parts();
+        let (_, _, badge) = other.into_parts();
         let shared = &self.table.shared;
         shared.join_seat::<Hears>(&mut seat, badge.into_seat());
         shared.load::<Settles>(&mut seat, TURN);
@@ -287,14 +392,19 @@ impl<T: Told, A: Allocator> Lock<T, A> {
         requires { IsPassOf T.list T.pair T.caller self pass }
         ensures list { StartsWith (T.list result) (seen_by pass) }
         ensures own { NoneOf T.caller (number_of pass) (drop (length (seen_by pass)) (T.list result)) }
-        ensures done { AreDone T.caller (met_by pass) (T.list result) }
+        ensures done { AreSilent T.caller (met_by pass) (T.list result) }
         ensures callers { All (λ entry. T.caller entry < callers_of self)
+            (drop (length (T.list (opened_with self))) (T.list result)) }
+
+        // Where the pass alone draws numbers, each is from one below the count that it knows.
+        ensures alone { drawing_of pass ≡ Alone → All (λ entry. T.caller entry < count_of pass)
             (drop (length (T.list (opened_with self))) (T.list result)) }
         ensures pair { T.pair result ≡ T.pair (opened_with self) }
     {
         let (turn, value) = self.take(rt, pass);
         let Turn {
             number: _,
+            drawing: _,
             mut seat,
         } = turn;
         let Lock { table, callers: _ } = self;

@@ -3,7 +3,7 @@ ghost use Rattle.history_lock.specs.declared.view.Stage.TheVariants.{Away};
 ghost use Rattle.history_lock.specs.Steps.{the_view};
 
 use crate::told::Told;
-use crate::view::View;
+use crate::view::{Drawing, View};
 use atomic_table::{Badge, Seat};
 use std::error::Error;
 use std::fmt;
@@ -14,17 +14,20 @@ use std::fmt;
 /// All but the number exists in proofs alone. A pass serves the lock that gave it, and no other.
 pub struct Pass<E> {
     pub(crate) number: u32,
+    pub(crate) drawing: Drawing,
     pub(crate) badge: Badge<View<E>>,
     ghost one: { length badge.views ≡ 1 },
     ghost away: { (the_view badge.views).stage ≡ Away },
     ghost numbered: { (the_view badge.views).numbered ≡ true },
     ghost number_is: { (the_view badge.views).number ≡ number },
+    ghost drawing_is: { (the_view badge.views).drawing ≡ drawing },
 }
 
 /// The right to the value of a lock, and the duty to give it back: [`crate::Lock::leave`] and
 /// nothing else takes it. It can't be let go, so a body that keeps the value does not compile.
 pub struct Turn<T: Told> {
     pub(crate) number: u32,
+    pub(crate) drawing: Drawing,
     pub(crate) seat: Seat<Option<T>, View<T::Entry>>,
 }
 
@@ -43,12 +46,16 @@ impl<E> Pass<E> {
     }
 
     // A type with a `Drop` is taken apart only in its own `impl`.
-    pub(crate) fn into_parts(self) -> (u32, Badge<View<E>>)
-        ensures { (result.0 ≡ self.number) × (result.1.table_id ≡ self.badge.table_id)
-            × (result.1.views ≡ self.badge.views) }
+    pub(crate) fn into_parts(self) -> (u32, Drawing, Badge<View<E>>)
+        ensures { (result.0 ≡ self.number) × (result.1 ≡ self.drawing)
+            × (result.2.table_id ≡ self.badge.table_id) × (result.2.views ≡ self.badge.views) }
     {
-        let Self { number, badge } = self;
-        (number, badge)
+        let Self {
+            number,
+            drawing,
+            badge,
+        } = self;
+        (number, drawing, badge)
     }
 }
 
@@ -56,6 +63,7 @@ impl<E> Drop for Pass<E> {
     fn drop(self) {
         let Self {
             number: _,
+            drawing: _,
             badge: _,
         } = self;
     }

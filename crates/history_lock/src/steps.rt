@@ -1,7 +1,8 @@
 // The rule that the table of a lock keeps, and what each step tells. These types are for the proofs alone.
 ghost use Rattle.history_lock.specs.Rule.{Kept, opening_view};
 ghost use Rattle.history_lock.specs.Steps.{Opened, Took, Left, Counted, Drew, Settled, Readied, Stayed, copy_of};
-ghost use Rattle.history_lock.specs.Steps.{joined, noted, gone};
+ghost use Rattle.history_lock.specs.Steps.{idle, sharing};
+ghost use Rattle.history_lock.specs.Steps.{joined, noted, returned, gone};
 
 use crate::told::Told;
 use crate::view::View;
@@ -74,13 +75,22 @@ impl<T: Told> Play<Option<T>, View<T::Entry>> for Waits {
     ghost then = { λ _ before _ after. Stayed before after };
 }
 
-/// A copy with no number of its own.
-pub(crate) struct Copies;
+/// A copy with no number of its own, which draws numbers where the view did.
+pub(crate) struct Hands;
 
-impl<E> Split<View<E>> for Copies {
-    ghost left = { λ view. view };
+impl<E> Split<View<E>> for Hands {
+    ghost left = { idle };
 
     ghost right = { copy_of };
+}
+
+/// A copy with no number of its own. It draws numbers, as the view does.
+pub(crate) struct Shares;
+
+impl<E> Split<View<E>> for Shares {
+    ghost left = { sharing };
+
+    ghost right = { λ view. sharing (copy_of view) };
 }
 
 /// The longer list and the greater count, under the number of the first.
@@ -97,6 +107,15 @@ pub(crate) struct Notes;
 
 impl<E> Join<View<E>> for Notes {
     ghost both = { noted };
+
+    ghost spent = { gone };
+}
+
+/// The right to draw numbers.
+pub(crate) struct Returns;
+
+impl<E> Join<View<E>> for Returns {
+    ghost both = { returned };
 
     ghost spent = { gone };
 }

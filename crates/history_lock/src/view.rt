@@ -11,11 +11,20 @@ pub enum Stage {
     Gone,
 }
 
+/// Whether a pass draws numbers: it alone, with others, or never.
+#[derive(Clone, Copy, Debug, PartialEq, Eq)]
+pub enum Drawing {
+    Alone,
+    Shared,
+    Never,
+}
+
 /// `number` is its own where `numbered`, and else that of the pass that it is a copy of. `met` are the numbers of the
 /// passes that it took in, each with the length of the list that that one had seen. `seen` is the list that it has
-/// seen; of the last join, `mine` is the list that it had seen before and `heard` the shorter of both lists. `count` is
-/// a count of drawn numbers that it has read, and `given` the greatest number that a split gave. `start`, `pair` and
-/// `most` are the list and the pair of the value at the opening and the number of callers, which no step changes.
+/// seen; of the last join, `mine` is the list that it had seen before and `heard` the shorter of both lists. `drawing`
+/// says whether it draws numbers, `count` is a count of drawn numbers that it has read, and `given` the greatest number
+/// that a split gave. `start`, `pair` and `most` are the list and the pair of the value at the opening and the number of
+/// callers, which no step changes.
 pub struct View<E> {
     pub stage: Stage,
     pub numbered: bool,
@@ -24,6 +33,7 @@ pub struct View<E> {
     pub seen: LinkedList<E>,
     pub mine: LinkedList<E>,
     pub heard: LinkedList<E>,
+    pub drawing: Drawing,
     pub count: u64,
     pub given: Option<u64>,
     pub start: LinkedList<E>,

@@ -56,6 +56,22 @@ fn three_callers_have_three_numbers(rt: HostRuntime) -> Result<(), Fail> {
 }
 
 #[test]
+fn a_lent_pass_gives_no_pass(rt: HostRuntime) -> Result<(), Fail> {
+    let (lock, mut pass) = open(rt.alloc(), Vec::new(rt.alloc()), 3)?;
+    let Ok(mut lent) = lock.lend(&rt, &mut pass) else {
+        panic!(rt; "a pass is lent")
+    };
+    let refused = lock.split(&rt, &mut lent).is_err() && lock.lend(&rt, &mut lent).is_err();
+    let Ok(further) = lock.split(&rt, &mut pass) else {
+        panic!(rt; "a number is left")
+    };
+    let numbers = (pass.number(), lent.number(), further.number());
+    let book = lock.close(&rt, pass);
+    assert!(rt; refused && numbers == (0, 1, 2) && book.length() == 0);
+    Ok(())
+}
+
+#[test]
 fn notes_at_the_opening_come_first(rt: HostRuntime) -> Result<(), Fail> {
     let old = vec![in rt.alloc();
         Note {

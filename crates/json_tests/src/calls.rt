@@ -116,6 +116,25 @@ fn add_call(line: &mut Line, call: &Call) {
             add_start(line, "ClearMany", id);
             line.value(&ranges.as_slice());
         }
+        Call::ReadFiltered {
+            id,
+            data_filters,
+            major_dimension,
+            value_render_option,
+        } => {
+            add_start(line, "ReadFiltered", id);
+            line.value(&data_filters.as_slice());
+            line.value(major_dimension);
+            line.value(value_render_option);
+        }
+        Call::Item { id, metadata_id } => {
+            add_start(line, "Item", id);
+            line.value(metadata_id);
+        }
+        Call::Search { id, data_filters } => {
+            add_start(line, "Search", id);
+            line.value(&data_filters.as_slice());
+        }
     }
 }
 

@@ -16,7 +16,11 @@ mod common;
 #[cfg(test)]
 mod creations;
 #[cfg(test)]
+mod data_filters;
+#[cfg(test)]
 mod filters;
+#[cfg(test)]
+mod found;
 #[cfg(test)]
 mod lines;
 #[cfg(test)]
@@ -27,6 +31,8 @@ mod protections;
 mod ranges;
 #[cfg(test)]
 mod refusals;
+#[cfg(test)]
+mod sheet_lists;
 #[cfg(test)]
 mod sheets;
 #[cfg(test)]

@@ -65,9 +65,11 @@ fn new_spreadsheets_are_answered(rt: HostRuntime) {
     let alloc = rt.alloc();
     let mut sheets = Vec::new(alloc);
     let _ = sheets.push(ShownSheet {
+        basic_filter: None,
         data: None,
         merges: None,
         properties: properties(alloc, 0, "Sheet1", false),
+        protected_ranges: None,
     });
     let created = Answer::Create(spreadsheet(alloc, sheets));
     let wanted =
@@ -80,9 +82,11 @@ fn spreadsheets_are_shown(rt: HostRuntime) {
     let alloc = rt.alloc();
     let mut sheets = Vec::new(alloc);
     let _ = sheets.push(ShownSheet {
+        basic_filter: None,
         data: None,
         merges: Some(areas(alloc)),
         properties: properties(alloc, 1, "x", true),
+        protected_ranges: None,
     });
     let shown = Answer::Get(spreadsheet(alloc, sheets));
     let wanted =
@@ -95,14 +99,18 @@ fn rows_of_sheets_are_shown(rt: HostRuntime) {
     let alloc = rt.alloc();
     let mut sheets = Vec::new(alloc);
     let _ = sheets.push(ShownSheet {
+        basic_filter: None,
         data: Some(grid(alloc, &[])),
         merges: None,
         properties: properties(alloc, 0, "none", false),
+        protected_ranges: None,
     });
     let _ = sheets.push(ShownSheet {
+        basic_filter: None,
         data: Some(grid(alloc, &[false, true, false, true])),
         merges: Some(Items::of(Vec::new(alloc))),
         properties: properties(alloc, 1, "two", false),
+        protected_ranges: None,
     });
     let shown = Answer::Get(spreadsheet(alloc, sheets));
     let wanted =

@@ -5,7 +5,7 @@ use std::alloc::Global;
 const VALUES: &str = "/v4/spreadsheets/b1/values";
 
 /// Methods, what their targets end in, bodies, and what they are.
-static REQUESTS: [(&str, &str, &str, &str); 66] = [
+static REQUESTS: [(&str, &str, &str, &str); 65] = [
     ("GET", "/A1", "", "Read b1 A1 None None"),
     (
         "GET",
@@ -311,7 +311,6 @@ static REQUESTS: [(&str, &str, &str, &str); 66] = [
     ("POST", ":batchClear", "{\"ranges\":[]}", "EmptyBatch"),
     ("POST", ":batchClear", "{}", "BadBody"),
     ("POST", ":batchClear", "{\"ranges\":\"A1\"}", "BadBody"),
-    ("POST", ":batchGetByDataFilter", "{}", "NotRead"),
 ];
 
 /// Whether a request is what the table says that it is.

@@ -8,7 +8,9 @@ use crate::common::{Ran, calls, check, words_of};
 use crate::creations::{APPENDED_ROWS, CREATED};
 use crate::deletions::DELETED_SHEETS;
 use crate::lines::{COLUMNS, INSERTED_AND_DELETED, LINES, MOVED};
-use crate::names::{BROKEN_RANGES, NAMED, NAMES_OF_FORMULAS, RANGES_LISTED, TOO_MANY};
+use crate::names::{
+    BROKEN_RANGES, NAMED, NAMES_FOLLOWED, NAMES_OF_FORMULAS, RANGES_LISTED, TOO_MANY,
+};
 use crate::rows::{
     BAD_REQUEST, CHANGES, CONVERSATIONS, Conversation, Exchange, FORMULAS, LIMITS, LISTS,
     LONG_HEADS, LOOKS, LongHead, NO_CALLS, OK, RANGES, TYPED, USERS, WRITES, WRITES_TO_LISTS,
@@ -277,6 +279,13 @@ fn renames_in_formulas(rt: HostRuntime) {
 #[test]
 fn lists_named_ranges(rt: HostRuntime) {
     for row in &RANGES_LISTED {
+        check(&rt, &row.3, is_answered(&rt, row));
+    }
+}
+
+#[test]
+fn follows_named_ranges(rt: HostRuntime) {
+    for row in &NAMES_FOLLOWED {
         check(&rt, &row.3, is_answered(&rt, row));
     }
 }

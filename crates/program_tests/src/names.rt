@@ -465,6 +465,71 @@ pub(crate) static RANGES_LISTED: [Exchange; 8] = [
     ),
 ];
 
+/// What becomes of a named range where the formula with its name is on another sheet, where a move tears its lines, where
+/// its area goes past the grid, and which id the next one gets behind one that was given.
+pub(crate) static NAMES_FOLLOWED: [Exchange; 4] = [
+    (
+        &[
+            (
+                "POST /v4/spreadsheets/book1:batchUpdate",
+                "Content-Length: 163\r\n",
+                "{\"requests\":[{\"addSheet\":{}},{\"addNamedRange\":{\"namedRange\":{\"name\":\"rate\",\"range\":{\"startRowIndex\":0,\"endRowIndex\":1,\"startColumnIndex\":0,\"endColumnIndex\":1}}}}]}",
+            ),
+            (
+                "PUT /v4/spreadsheets/book1/values/Sheet2!A1?valueInputOption=USER_ENTERED",
+                "Content-Length: 22\r\n",
+                "{\"values\":[[\"=rate\"]]}",
+            ),
+            (
+                "POST /v4/spreadsheets/book1:batchUpdate",
+                "Content-Length: 102\r\n",
+                "{\"requests\":[{\"updateNamedRange\":{\"namedRange\":{\"namedRangeId\":\"nr1\",\"name\":\"Tax\"},\"fields\":\"name\"}}]}",
+            ),
+            (
+                "GET /v4/spreadsheets/book1/values/Sheet2!A1?valueRenderOption=FORMULA",
+                "",
+                "",
+            ),
+        ],
+        OK,
+        "",
+        "{\"majorDimension\":\"ROWS\",\"range\":\"Sheet2!A1\",\"values\":[[\"=Tax\"]]}",
+    ),
+    (
+        &[
+            (
+                "POST /v4/spreadsheets/book1:batchUpdate",
+                "Content-Length: 256\r\n",
+                "{\"requests\":[{\"addNamedRange\":{\"namedRange\":{\"name\":\"a\",\"range\":{\"startRowIndex\":1,\"endRowIndex\":3,\"startColumnIndex\":1,\"endColumnIndex\":2}}}},{\"moveDimension\":{\"source\":{\"sheetId\":0,\"dimension\":\"ROWS\",\"startIndex\":1,\"endIndex\":2},\"destinationIndex\":10}}]}",
+            ),
+            ("GET /v4/spreadsheets/book1", "", ""),
+        ],
+        OK,
+        "",
+        "{\"namedRanges\":[{\"name\":\"a\",\"namedRangeId\":\"nr1\",\"range\":{\"endColumnIndex\":2,\"endRowIndex\":2,\"sheetId\":0,\"startColumnIndex\":1,\"startRowIndex\":1}}],\"properties\":{\"title\":\"book1\"},\"sheets\":[{\"properties\":{\"gridProperties\":{\"columnCount\":26,\"rowCount\":1000},\"index\":0,\"sheetId\":0,\"sheetType\":\"GRID\",\"title\":\"Sheet1\"}}],\"spreadsheetId\":\"book1\"}",
+    ),
+    (
+        &[(
+            "POST /v4/spreadsheets/book1:batchUpdate",
+            "Content-Length: 149\r\n",
+            "{\"requests\":[{\"addNamedRange\":{\"namedRange\":{\"name\":\"a\",\"range\":{\"startRowIndex\":998,\"endRowIndex\":2000,\"startColumnIndex\":0,\"endColumnIndex\":1}}}}]}",
+        )],
+        OK,
+        "",
+        "{\"replies\":[{\"addNamedRange\":{\"namedRange\":{\"name\":\"a\",\"namedRangeId\":\"nr1\",\"range\":{\"endColumnIndex\":1,\"endRowIndex\":1000,\"sheetId\":0,\"startColumnIndex\":0,\"startRowIndex\":998}}}}],\"spreadsheetId\":\"book1\"}",
+    ),
+    (
+        &[(
+            "POST /v4/spreadsheets/book1:batchUpdate",
+            "Content-Length: 295\r\n",
+            "{\"requests\":[{\"addNamedRange\":{\"namedRange\":{\"namedRangeId\":\"nr1\",\"name\":\"a\",\"range\":{\"startRowIndex\":1,\"endRowIndex\":3,\"startColumnIndex\":1,\"endColumnIndex\":2}}}},{\"addNamedRange\":{\"namedRange\":{\"name\":\"b\",\"range\":{\"startRowIndex\":1,\"endRowIndex\":3,\"startColumnIndex\":1,\"endColumnIndex\":2}}}}]}",
+        )],
+        OK,
+        "",
+        "{\"replies\":[{\"addNamedRange\":{\"namedRange\":{\"name\":\"a\",\"namedRangeId\":\"nr1\",\"range\":{\"endColumnIndex\":2,\"endRowIndex\":3,\"sheetId\":0,\"startColumnIndex\":1,\"startRowIndex\":1}}}},{\"addNamedRange\":{\"namedRange\":{\"name\":\"b\",\"namedRangeId\":\"nr2\",\"range\":{\"endColumnIndex\":2,\"endRowIndex\":3,\"sheetId\":0,\"startColumnIndex\":1,\"startRowIndex\":1}}}}],\"spreadsheetId\":\"book1\"}",
+    ),
+];
+
 /// Requests for named ranges that break a rule, each with the first that it breaks.
 pub(crate) static BROKEN_RANGES: [Exchange; 11] = [
     (

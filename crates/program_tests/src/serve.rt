@@ -52,38 +52,11 @@ static TOLD: &[u8] = b"accepted 2\ncells 2\nhistory 201\n";
 /// What an empty history comes to.
 static NOTHING: &[u8] = b"accepted 0\ncells 0\nhistory 8\n";
 
-/// A link with these pieces.
-fn link(
-    alloc: Global,
-    pieces: &[Piece],
-    own: &Arc<AtomicU64>,
-    other: &Arc<AtomicU64>,
-) -> Result<TurnLink, AllocError> {
-    let mut pieces = Vec::from_slice(alloc, pieces)?;
-    pieces.reverse();
-    Ok(TurnLink::new(
-        pieces,
-        Vec::new(alloc),
-        Arc::try_clone(own)?,
-        Arc::try_clone(other)?,
-    ))
-}
-
-/// Doors with two links, each of which waits for the other.
-fn two_doors(alloc: Global) -> Result<TurnDoors, AllocError> {
-    let first = Arc::new(alloc, AtomicU64::new(0))?;
-    let second = Arc::new(alloc, AtomicU64::new(0))?;
-    let mut coming = Vec::new(alloc);
-    coming.push(link(alloc, &SECOND, &second, &first)?)?;
-    coming.push(link(alloc, &FIRST, &first, &second)?)?;
-    Ok(TurnDoors::new(coming, Vec::new(alloc)))
-}
-
 /// Doors with one link that holds nothing.
 fn one_door(alloc: Global) -> Result<TurnDoors, AllocError> {
     let count = Arc::new(alloc, AtomicU64::new(0))?;
     let mut coming = Vec::new(alloc);
-    coming.push(link(alloc, &[], &count, &count)?)?;
+    coming.push(TurnLink::new(alloc, &[], &count, &count)?)?;
     Ok(TurnDoors::new(coming, Vec::new(alloc)))
 }
 
@@ -129,7 +102,7 @@ fn is_back(back: &[Visitor], number: u32, ended: Ended, said: &[u8]) -> bool {
 
 #[test]
 fn serves_two_connections_beside_one_another(rt: HostRuntime) -> Result<(), Fail> {
-    let mut doors = two_doors(rt.alloc())?;
+    let mut doors = TurnDoors::of_two(rt.alloc(), &FIRST, &SECOND)?;
     let ran = serve(&rt, &mut doors, "2", 0, 0);
     check(&rt, &"told", ran.is(0, TOLD, b""));
     check(

@@ -1,14 +1,16 @@
 -- Connections under way and over, in the order in which they were accepted.
-use Rattle.std.proofs.Common.{◌≡◌, inl, ℕ, zero, suc, ◌+◌, List, [], ◌∷◌, ◌++◌, map, length, refl, sym, ap, subst, ◌∙◌, arith}
+use Rattle.std.proofs.Common.{◌≡◌, ◌⊎◌, inl, inr, ℕ, zero, suc, ◌+◌, List, [], ◌∷◌, ◌++◌, map, length, refl, sym, ap, subst, ◌∙◌, arith}
 use Rattle.std.specs.Prelude.{Some, None, All, Bool, ◌≢◌, drop, if◌then◌else◌}
-use Rattle.std.specs.List.{slice_get, flat_map}
+use Rattle.std.specs.List.{slice_get, flat_map, Contains}
 use Rattle.std.proofs.lemmas.List.{append-nil}
 use Rattle.std.proofs.lemmas.Bool.{eq-eqb, ne_eqb}
 use Rattle.std.proofs.lemmas.Grind.{flat_map-append}
-use Rattle.std.proofs.lemmas.List.Elements.{All-nil, All-cons, All-head, All-tail}
+use Rattle.std.proofs.lemmas.List.Elements.{All-nil, All-cons, All-head, All-tail, Contains-append_right}
+use mathlib.Core.Logic.{dite}
+use native.Mathlib.Decide.{ℕ_discrete}
 use Rattle.desk.specs.declared.entry.Noted.{Noted}
 use Rattle.connections.specs.Doors.{Ending, Connection, came_back, IsAway}
-use Rattle.serving.specs.Serving.{Arrival, Visit, Course, under_way, over, start_of, shown_course, Begun, Waiting, thread_of, threads_of, OfAnyTwo, LeavesApart, CoursesApart, AreApart, connection_of, visits_of, added_by, items_of}
+use Rattle.serving.specs.Serving.{Arrival, Visit, Course, under_way, over, start_of, shown_course, Begun, Waiting, thread_of, threads_of, OfAnyTwo, LeavesApart, CoursesApart, AreApart, connection_of, visits_of, added_by, items_of, caller_in, visitor}
 
 -- ---- one of them ends
 
@@ -27,6 +29,7 @@ pub record IsFoundAt {E K W : Type 0} (begun : Begun E K W) (number : ℕ) (cour
   pub at : slice_get courses place ≡ Some (under_way thread.arrival)
   pub desk_is : thread.desk ≡ begun.desk
   pub users_is : thread.users ≡ begun.users
+  pub count_is : thread.count ≡ suc thread.arrival.caller
   pub others : (after : List Noted) (ending : Ending)
       → threads_of begun number (finished place after ending courses) ≡ threads
 
@@ -45,6 +48,7 @@ module _ {E K W : Type 0} (begun : Begun E K W) where
           at = at.at;
           desk_is = at.desk_is;
           users_is = at.users_is;
+          count_is = at.count_is;
           others = at.others;
         },
       )
@@ -57,6 +61,8 @@ module _ {E K W : Type 0} (begun : Begun E K W) where
           at = ap (λ (v : Waiting E K W). Some (under_way v.arrival)) first;
           desk_is = sym (ap (λ (v : Waiting E K W). v.desk) first);
           users_is = sym (ap (λ (v : Waiting E K W). v.users) first);
+          count_is = sym (ap (λ (v : Waiting E K W). v.count) first)
+              ∙ ap (λ (v : Waiting E K W). suc v.arrival.caller) first;
           others = λ after ending. rest;
         },
       )
@@ -72,6 +78,7 @@ module _ {E K W : Type 0} (begun : Begun E K W) where
           at = at.at;
           desk_is = at.desk_is;
           users_is = at.users_is;
+          count_is = at.count_is;
           others = λ after ending. ap (λ (l : List (Waiting E K W)). this ∷ l) (at.others after ending)
               ∙ ap (λ (v : Waiting E K W). v ∷ (xs ++ ys)) first;
         },
@@ -123,6 +130,33 @@ back (under_way start ∷ courses) zero arrival after ending at = refl
 back (over visit ∷ courses) zero arrival after ending at = absurd (cc)
 back (course ∷ courses) (suc place) arrival after ending at =
     ap (λ (l : List Connection). shown_course course ∷ l) (back courses place arrival after ending at)
+
+-- the caller of this number has a visit, or added nothing in any
+pub visited : (number : ℕ) (visits : List Visit) → Contains (map visitor visits) number
+    ⊎ (flat_map (added_by number) visits ≡ [])
+visited number [] = inr refl
+visited number (visit ∷ visits) =
+    dite (ℕ_discrete (visitor visit) number)
+    (λ (same : visitor visit ≡ number). inl (0, omega arith, same))
+    (λ (differs : visitor visit ≢ number). elim (visited number visits) [
+      | inl there ↦ inl (Contains-append_right (visitor visit ∷ []) (map visitor visits) number there)
+      | inr none ↦ inr (ap (λ (b : Bool).
+          (if b then items_of number (drop (length visit.arrival.before) visit.after) else [])
+          ++ flat_map (added_by number) visits) (ne_eqb (visitor visit) number differs) ∙ none)
+    ])
+
+-- the callers are the same
+pub same_callers : (courses : List Course) (place : ℕ) (after : List Noted) (ending : Ending)
+    → map caller_in (finished place after ending courses) ≡ map caller_in courses
+same_callers [] place after ending = refl
+same_callers (under_way start ∷ courses) zero after ending = refl
+same_callers (over visit ∷ courses) zero after ending = refl
+same_callers (course ∷ courses) (suc place) after ending =
+    ap (λ l. caller_in course ∷ l) (same_callers courses place after ending)
+
+pub visitors_over : (visits : List Visit) → map caller_in (map over visits) ≡ map visitor visits
+visitors_over [] = refl
+visitors_over (visit ∷ visits) = ap (λ l. visitor visit ∷ l) (visitors_over visits)
 
 pub as_many : (courses : List Course) (place : ℕ) (after : List Noted) (ending : Ending)
     → length (finished place after ending courses) ≡ length courses

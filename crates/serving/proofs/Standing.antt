@@ -1,14 +1,19 @@
 -- Where accepting stands, step by step.
-use Rattle.std.proofs.Common.{◌≡◌, inl, inr, ℕ, zero, suc, ◌+◌, ◌<◌, ◌≤◌, Bool, List, [], ◌∷◌, ◌++◌, map, length, take, drop, slice_index_or, refl, sym, ap, subst, ◌∙◌, arith}
+use Rattle.std.proofs.Common.{◌≡◌, ◌⊎◌, inl, inr, ℕ, zero, suc, max, ◌+◌, ◌<◌, ◌≤◌, Bool, List, [], ◌∷◌, ◌++◌, map, length, take, drop, slice_index_or, refl, sym, ap, subst, ◌∙◌, arith}
 use Rattle.std.specs.Prelude.{Option, Some, None, IfSome, All, ◌≢◌, IsTrue}
 use Rattle.std.specs.Option.{option_map}
 use Rattle.std.specs.List.{Contains, flat_map}
+use Rattle.std.proofs.Math.Nat.{le-max_left, max-le}
+use Rattle.std.proofs.lemmas.Bool.{cases_lt}
+use mathlib.Core.Logic.{dite}
+use native.Mathlib.Decide.{ℕ_discrete}
 use Rattle.std.proofs.lemmas.List.{append-nil}
 use Rattle.cell_value.specs.FaultCount.{last_count, Rose}
 use Rattle.sheets_http.specs.Outside.{StaysSteady}
 use Rattle.std.proofs.lemmas.List.Elements.{All-nil, All-cons, All-head, All-tail, All-weaker, All-contains, Contains-append_left, Contains-append_right}
-use Rattle.history_lock.specs.History.{StartsWith, NoneOf, AreDone}
-use Rattle.history_lock.specs.Passes.{seen_by, number_of, count_of, met_by}
+use Rattle.history_lock.specs.History.{StartsWith, NoneOf, AreSilent}
+use Rattle.history_lock.specs.declared.view.Drawing.TheVariants.{Alone}
+use Rattle.history_lock.specs.Passes.{seen_by, number_of, count_of, drawing_of, met_by}
 use Rattle.history_lock.specs.declared.pass.Pass.{Pass}
 use Rattle.desk.specs.declared.desk.Desk.{Desk}
 use Rattle.desk.specs.declared.entry.Noted.{Noted}
@@ -18,9 +23,9 @@ use Rattle.connections.specs.Calls.{UserTable}
 use Rattle.connections.specs.Doors.{LinkSeen, IsFresh, Ending, Connection, Shown, IsAway, came_back, after_accept, after_refusal, after_back}
 use Rattle.serving.specs.declared.accepting.Served.{Served}
 use Rattle.serving.specs.declared.accepting.Served.TheVariants as served
-use Rattle.serving.specs.Serving.{AnswersAt, Arrival, Visit, IsAnother, WasServed, OfAnyTwo, HasAccepted, asked, showing, HaveTalked, Begun, Waiting, Accepting, arrival_of, IsTalked, HasMet, Course, under_way, over, shown_course, thread_of, threads_of, IsGiven, Fits, CoursesApart, StandsAt, Stands, HasAsked, HaveAllTalked, visits_of, items_of, added_by}
-use Rattle.serving.proofs.Histories.{starts_whole, starts_through, items_grown, items_same, nothing_behind}
-use Rattle.serving.proofs.Courses.{finished, found, one_thread_more, no_thread_more, away, back, as_many, last_away, last_back, at_place, each_finished, apart_finished, two_more, one_more_holds, all_over, shown_over, count_over, apart_over, no_visit_more, added_finished, added_more}
+use Rattle.serving.specs.Serving.{AnswersAt, Arrival, Visit, IsAnother, WasServed, OfAnyTwo, HasAccepted, asked, showing, HaveTalked, Begun, Waiting, Accepting, arrival_of, IsTalked, HasMet, Course, under_way, over, shown_course, thread_of, threads_of, IsGiven, Fits, CoursesApart, AcceptsSo, Stands, HasAsked, HaveAllTalked, visits_of, items_of, added_by, visitor, HasVisitor, caller_in, AreAmong}
+use Rattle.serving.proofs.Histories.{starts_whole, starts_through, items_grown, items_same, nothing_behind, all_behind, none_from}
+use Rattle.serving.proofs.Courses.{finished, found, one_thread_more, no_thread_more, away, back, as_many, last_away, last_back, at_place, each_finished, apart_finished, two_more, one_more_holds, all_over, shown_over, count_over, apart_over, no_visit_more, added_finished, added_more, same_callers, visitors_over, visited}
 
 -- ---- what is shown after two calls of the doors
 
@@ -72,6 +77,7 @@ record IsLater (pass pass' : Pass Noted) : Type 0 where
 
 -- it has seen and taken in the same, and knows of as many numbers or more
 pub record HasRecounted (pass pass' : Pass Noted) : Type 0 where
+  pub drawing : drawing_of pass' ≡ drawing_of pass
   pub seen : seen_by pass' ≡ seen_by pass
   pub count : count_of pass ≤ count_of pass'
   pub met : met_by pass' ≡ met_by pass
@@ -87,10 +93,52 @@ later_met : {E K W : Type 0} (desk : Desk E K W) (pass other met : Pass Noted) �
     → IsLater pass met
 later_met desk pass other met has = record {
   seen = has.mine;
-  count = has.count;
+  count = subst (λ n. count_of pass ≤ n) (sym has.count) (le-max_left (count_of pass) (count_of other));
   met = λ m is. subst (λ (l : List (ℕ × ℕ)). Contains l m) (sym has.met_is)
       (Contains-append_left (met_by pass) ((number_of other, length (seen_by other)) ∷ met_by other) m is);
 }
+
+-- a number more, which is the count, is among these and it
+among_more : (from count : ℕ) (numbers : List ℕ) (n last : ℕ) → AreAmong from count numbers → last ≡ count → from ≤ n
+    → n < last + 1 → Contains (numbers ++ last ∷ []) n
+among_more from count numbers n last among is le lt = elim (cases_lt n count) [
+  | inl early ↦ Contains-append_left numbers (last ∷ []) n (among n le early)
+  | inr late ↦ Contains-append_right numbers (last ∷ []) n (0, omega arith, omega arith)
+]
+
+-- an item is a connection's, or from another than the first caller that had a number before
+one_visited : (number from count : ℕ) (visits : List Visit) (item : Noted) → AreAmong from count (map visitor visits)
+    → caller_of item < count → Contains (map visitor visits) number ⊎ (caller_of item ≢ number)
+    → HasVisitor number from visits item
+one_visited number from count visits item among lt own = elim (cases_lt (caller_of item) from) [
+  | inl early ↦
+      dite (ℕ_discrete (caller_of item) number)
+      (λ (same : caller_of item ≡ number). elim own [
+        | inl there ↦ inl (subst (Contains (map visitor visits)) (sym same) there)
+        | inr else ↦ absurd (else same)
+      ])
+      (λ (else : caller_of item ≢ number). inr (early, else))
+  | inr late ↦ inl (among (caller_of item) late lt)
+]
+
+each_visited : (number from count : ℕ) (visits : List Visit) (items : List Noted)
+    → AreAmong from count (map visitor visits) → All (λ item. caller_of item < count) items
+    → Contains (map visitor visits) number ⊎ NoneOf caller_of number items
+    → All (HasVisitor number from visits) items
+each_visited number from count visits [] among low own = All-nil (HasVisitor number from visits)
+each_visited number from count visits (item ∷ items) among low own =
+    All-cons (HasVisitor number from visits) item items
+    (one_visited number from count visits item among
+    (All-head (λ item. caller_of item < count) item items low)
+    (elim own [
+      | inl there ↦ inl there
+      | inr none ↦ inr (All-head (λ (i : Noted). caller_of i ≢ number) item items none)
+    ]))
+    (each_visited number from count visits items among (All-tail (λ item. caller_of item < count) item items low)
+    (elim own [
+      | inl there ↦ inl there
+      | inr none ↦ inr (All-tail (λ (i : Noted). caller_of i ≢ number) item items none)
+    ]))
 
 module _ {E K W : Type 0} (answers : AnswersAt E K W) (begun : Begun E K W) where
   given_later : (count count' : ℕ) (arrival : Arrival) → count ≤ count' → IsGiven begun count arrival
@@ -147,17 +195,21 @@ module _ {E K W : Type 0} (answers : AnswersAt E K W) (begun : Begun E K W) wher
       -- another thread's connection is back
       pub comes_back : (met other : Pass Noted) (threads' xs ys : List (Waiting E K W)) (w : Waiting E K W)
           (shown' : Option Shown) (ending : Ending) → threads ≡ xs ++ w ∷ ys → threads' ≡ xs ++ ys
-          → IsTalked answers w.desk w.users w.arrival ending other → HasMet begun.desk pass other met
+          → IsTalked answers w.desk w.users w.arrival w.count ending other → HasMet begun.desk pass other met
           → shown' ≡ option_map (after_back w.number ending) shown
-          → StandsAt answers begun pass threads accepted end shown
-          → StandsAt answers begun met threads' accepted end shown'
+          → AcceptsSo answers begun pass threads accepted end shown
+          → AcceptsSo answers begun met threads' accepted end shown'
       comes_back met other threads' xs ys w shown' ending are are' talked has shows s =
           let (place, at) = found begun 0 s.courses xs w ys (sym s.threads_are ∙ are) in
           let after = seen_by other in
           let number : w.number ≡ place = at.number_is ∙ omega arith in
-          let talked' : IsTalked answers begun.desk begun.users w.arrival ending other =
-          subst (λ (u : UserTable). IsTalked answers begun.desk u w.arrival ending other) at.users_is
-          (subst (λ (d : Desk E K W). IsTalked answers d w.users w.arrival ending other) at.desk_is talked) in
+          let talked' : IsTalked answers begun.desk begun.users w.arrival w.count ending other =
+          subst (λ (u : UserTable). IsTalked answers begun.desk u w.arrival w.count ending other) at.users_is
+          (subst (λ (d : Desk E K W). IsTalked answers d w.users w.arrival w.count ending other) at.desk_is talked) in
+          let before : Fits answers begun pass (under_way w.arrival) =
+          at_place (Fits answers begun pass) s.courses place (under_way w.arrival) at.at s.each in
+          let known : count_of other ≤ count_of pass = omega (arith, talked'.count_is, at.count_is, before.1.below) in
+          let no_more : max (count_of pass) (count_of other) ≤ count_of pass = max-le (omega arith) known in
           let fits : All (Fits answers begun met) s.courses =
           all_later pass met s.courses (later_met begun.desk pass other met has) s.each in
           let this : Fits answers begun met (under_way w.arrival) =
@@ -171,6 +223,10 @@ module _ {E K W : Type 0} (answers : AnswersAt E K W) (begun : Begun E K W) wher
             courses = finished place after ending s.courses;
             pass_is = has.pass_is;
             number_is = has.number_is ∙ s.number_is;
+            drawing_is = has.drawing_is ∙ s.drawing_is;
+            callers = λ alone number from below.
+                subst (λ l. Contains l number) (sym (same_callers s.courses place after ending))
+                (s.callers alone number from (omega (arith, below, has.count, no_more)));
             sees = starts_through (seen_by met) (seen_by pass) (seen_by begun.pass) has.mine s.sees;
             own = items_same (number_of begun.pass) (seen_by begun.pass) (seen_by pass) (seen_by met) s.sees has.mine
                 (subst (λ (n : ℕ). NoneOf caller_of n (drop (length (seen_by pass)) (seen_by met))) s.number_is has.own)
@@ -198,7 +254,7 @@ module _ {E K W : Type 0} (answers : AnswersAt E K W) (begun : Begun E K W) wher
 
       -- until then it is away
       pub is_away : (xs ys : List (Waiting E K W)) (w : Waiting E K W) → threads ≡ xs ++ w ∷ ys
-          → StandsAt answers begun pass threads accepted end shown
+          → AcceptsSo answers begun pass threads accepted end shown
           → IfSome shown (λ s. IsAway w.number s.connections)
       is_away xs ys w are s =
           let (place, at) = found begun 0 s.courses xs w ys (sym s.threads_are ∙ are) in
@@ -210,11 +266,14 @@ module _ {E K W : Type 0} (answers : AnswersAt E K W) (begun : Begun E K W) wher
   -- a pass that has seen the same, and knows of more numbers
   pub recounts : (threads : List (Waiting E K W)) (accepted : ℕ) (end : Served) (shown : Option Shown)
       (pass pass' : Pass Noted) → IsPass begun.desk pass' → number_of pass' ≡ number_of pass → HasRecounted pass pass'
-      → StandsAt answers begun pass threads accepted end shown → StandsAt answers begun pass' threads accepted end shown
-  recounts threads accepted end shown pass pass' is number recounted s = record {
+      → (drawing_of pass ≡ Alone → count_of pass' ≡ count_of pass)
+      → AcceptsSo answers begun pass threads accepted end shown → AcceptsSo answers begun pass' threads accepted end shown
+  recounts threads accepted end shown pass pass' is number recounted none s = record {
     courses = s.courses;
     pass_is = is;
     number_is = number ∙ s.number_is;
+    drawing_is = recounted.drawing ∙ s.drawing_is;
+    callers = λ alone n from below. s.callers alone n from (omega (arith, below, none (s.drawing_is ∙ alone)));
     sees = subst (λ (l : List Noted). StartsWith l (seen_by begun.pass)) (sym recounted.seen) s.sees;
     own = ap (λ (l : List Noted). items_of (number_of begun.pass) (drop (length (seen_by begun.pass)) l)) recounted.seen
         ∙ s.own;
@@ -228,11 +287,13 @@ module _ {E K W : Type 0} (answers : AnswersAt E K W) (begun : Begun E K W) wher
   -- nothing was accepted yet
   pub begins : (pass : Pass Noted) (threads : List (Waiting E K W)) (shown : Option Shown) → IsPass begun.desk pass
       → begun.pass ≡ pass → threads ≡ [] → begun.shown ≡ shown → IfSome shown (λ s. s.connections ≡ [])
-      → StandsAt answers begun pass threads 0 served.All shown
+      → AcceptsSo answers begun pass threads 0 served.All shown
   begins pass threads shown is first none same fresh = record {
     courses = [];
     pass_is = is;
     number_is = ap (λ (p : Pass Noted). number_of p) (sym first);
+    drawing_is = ap (λ (p : Pass Noted). drawing_of p) (sym first);
+    callers = λ _ n from below. absurd (omega (arith, from, below, ap (λ (p : Pass Noted). count_of p) first));
     sees = subst (λ (p : Pass Noted). StartsWith (seen_by pass) (seen_by p)) (sym first) (starts_whole (seen_by pass));
     own = ap (λ (p : Pass Noted). items_of (number_of begun.pass) (drop (length (seen_by p)) (seen_by pass))) first
         ∙ nothing_behind (number_of begun.pass) (seen_by pass);
@@ -251,7 +312,7 @@ module _ {E K W : Type 0} (answers : AnswersAt E K W) (begun : Begun E K W) wher
   -- ---- a further connection
 
   module _ (threads : List (Waiting E K W)) (accepted : ℕ) (shown before : Option Shown) (pass : Pass Noted)
-      (link : LinkSeen) (fresh : IsFresh link) (s : StandsAt answers begun pass threads accepted served.All before)
+      (link : LinkSeen) (fresh : IsFresh link) (s : AcceptsSo answers begun pass threads accepted served.All before)
       (shows : shown ≡ option_map (after_accept link.left) before) where
     -- it is shown behind the others
     shown_newcomer : shown ≡ option_map (showing (suc (length s.courses))
@@ -275,11 +336,12 @@ module _ {E K W : Type 0} (answers : AnswersAt E K W) (begun : Begun E K W) wher
     -- a thread serves it, with a pass of a new number
     pub starts : (pass' own : Pass Noted) (threads' : List (Waiting E K W)) → IsPass begun.desk pass'
         → number_of pass' ≡ number_of pass → HasRecounted pass pass'
-        → seen_by own ≡ seen_by pass → count_of pass ≤ number_of own → count_of pass' ≡ number_of own + 1
+        → seen_by own ≡ seen_by pass → count_of pass ≤ number_of own
+        → (drawing_of pass ≡ Alone → number_of own ≡ count_of pass) → count_of pass' ≡ number_of own + 1
         → IsAnother begun.desk (number_of pass) (arrival_of own link)
         → threads' ≡ threads ++ thread_of begun accepted (arrival_of own link) ∷ []
-        → StandsAt answers begun pass' threads' (accepted + 1) served.All shown
-    starts pass' own threads' is number_same recounted own_same next count another are =
+        → AcceptsSo answers begun pass' threads' (accepted + 1) served.All shown
+    starts pass' own threads' is number_same recounted own_same next exact count another are =
         let arrival = arrival_of own link in
         let first : StartsWith (seen_by own) (seen_by begun.pass) =
         subst (λ (l : List Noted). StartsWith l (seen_by begun.pass)) (sym own_same) s.sees in
@@ -289,6 +351,11 @@ module _ {E K W : Type 0} (answers : AnswersAt E K W) (begun : Begun E K W) wher
           courses = s.courses ++ under_way arrival ∷ [];
           pass_is = is;
           number_is = number_same ∙ s.number_is;
+          drawing_is = recounted.drawing ∙ s.drawing_is;
+          callers = λ alone n from below.
+              subst (λ l. Contains l n) (snoc_map caller_in s.courses (under_way arrival))
+              (among_more (count_of begun.pass) (count_of pass) (map caller_in s.courses) n (number_of own)
+              (s.callers alone) (exact (s.drawing_is ∙ alone)) from (omega (arith, below, count)));
           sees = subst (λ (l : List Noted). StartsWith l (seen_by begun.pass)) (sym recounted.seen) s.sees;
           own = ap (λ (l : List Noted). items_of (number_of begun.pass) (drop (length (seen_by begun.pass)) l))
               recounted.seen ∙ s.own
@@ -322,15 +389,21 @@ module _ {E K W : Type 0} (answers : AnswersAt E K W) (begun : Begun E K W) wher
 
     -- it was served with the first pass, and is back
     pub served_here : (pass' : Pass Noted) (shown' : Option Shown) (ending : Ending)
-        → IsTalked answers begun.desk begun.users (arrival_of pass link) ending pass' → count_of pass' ≡ count_of pass
+        → IsTalked answers begun.desk begun.users (arrival_of pass link) (count_of pass) ending pass'
+        → drawing_of pass' ≡ drawing_of pass
         → met_by pass' ≡ met_by pass → shown' ≡ option_map (after_back accepted ending) shown
-        → StandsAt answers begun pass' threads (accepted + 1) served.All shown'
-    served_here pass' shown' ending talked count met shows' =
+        → AcceptsSo answers begun pass' threads (accepted + 1) served.All shown'
+    served_here pass' shown' ending talked drawing met shows' =
         let visit : Visit = record { arrival = arrival_of pass link; after = seen_by pass'; ending = ending } in
         record {
           courses = s.courses ++ over visit ∷ [];
           pass_is = talked.pass_is;
           number_is = talked.number_is ∙ s.number_is;
+          drawing_is = drawing ∙ s.drawing_is;
+          callers = λ alone n from below.
+              subst (λ l. Contains l n) (snoc_map caller_in s.courses (over visit))
+              (Contains-append_left (map caller_in s.courses) (caller_in (over visit) ∷ []) n
+              (s.callers alone n from (omega (arith, below, talked.count_is))));
           sees = starts_through (seen_by pass') (seen_by pass) (seen_by begun.pass) talked.visit.grows s.sees;
           own = items_grown (number_of begun.pass) (seen_by begun.pass) (seen_by pass) (seen_by pass') s.sees
               talked.visit.grows
@@ -341,7 +414,7 @@ module _ {E K W : Type 0} (answers : AnswersAt E K W) (begun : Begun E K W) wher
               (all_later pass pass' s.courses
               (record {
                 seen = talked.visit.grows;
-                count = omega (arith, count);
+                count = omega (arith, talked.count_is);
                 met = λ m has. subst (λ (l : List (ℕ × ℕ)). Contains l m) (sym met) has;
               }) s.each)
               (record { fresh = fresh; begins = s.sees }, talked.visit, starts_whole (seen_by pass'), inl s.number_is);
@@ -368,12 +441,14 @@ module _ {E K W : Type 0} (answers : AnswersAt E K W) (begun : Begun E K W) wher
 
   -- the doors failed
   pub fails : (threads : List (Waiting E K W)) (accepted : ℕ) (shown shown' : Option Shown) (pass : Pass Noted)
-      → shown' ≡ option_map after_refusal shown → StandsAt answers begun pass threads accepted served.All shown
-      → StandsAt answers begun pass threads accepted served.DoorFault shown'
+      → shown' ≡ option_map after_refusal shown → AcceptsSo answers begun pass threads accepted served.All shown
+      → AcceptsSo answers begun pass threads accepted served.DoorFault shown'
   fails threads accepted shown shown' pass shows s = record {
     courses = s.courses;
     pass_is = s.pass_is;
     number_is = s.number_is;
+    drawing_is = s.drawing_is;
+    callers = s.callers;
     sees = s.sees;
     own = s.own;
     each = s.each;
@@ -387,7 +462,7 @@ module _ {E K W : Type 0} (answers : AnswersAt E K W) (begun : Begun E K W) wher
   -- ---- at the end
 
   module _ (pass : Pass Noted) (told : List Noted) (begins : StartsWith told (seen_by pass))
-      (done : AreDone caller_of (met_by pass) told) where
+      (done : AreSilent caller_of (met_by pass) told) where
     -- what fits a connection that is over
     fits_over : (visit : Visit) → Fits answers begun pass (over visit)
         → WasServed answers begun.desk begun.users (number_of begun.pass) (seen_by begun.pass) told visit
@@ -418,29 +493,60 @@ module _ {E K W : Type 0} (answers : AnswersAt E K W) (begun : Begun E K W) wher
     -- where no thread is left, all have talked
     pub ends : (limit : ℕ) (end : Served) (shown : Option Shown)
         → NoneOf caller_of (number_of pass) (drop (length (seen_by pass)) told)
-        → HaveAllTalked answers begun pass limit end shown
-        → HaveTalked answers begun.desk begun.users (number_of begun.pass) (seen_by begun.pass) told limit end
-        begun.shown shown
+        → (all : HaveAllTalked answers begun pass limit end shown)
+        → (talked : HaveTalked answers begun.desk begun.users (number_of begun.pass) (seen_by begun.pass) told limit end
+        begun.shown shown) × (talked.visits ≡ visits_of all.stands.courses)
     ends limit end shown not_own all =
         let s = all.stands in
         let visits = visits_of s.courses in
         let over_all : s.courses ≡ map over visits = all_over begun 0 s.courses
         (sym (ap (λ (l : List (Waiting E K W)). length l) s.threads_are)) in
         let count : length s.courses ≡ length visits =
-        ap (λ (l : List Course). length l) over_all ∙ count_over visits in
-        record {
-          visits = visits;
-          each = all_served visits (subst (λ (l : List Course). All (Fits answers begun pass) l) over_all s.each);
-          apart = apart_over visits (subst (λ (l : List Course). OfAnyTwo CoursesApart l) over_all s.apart);
-          sees = starts_through told (seen_by pass) (seen_by begun.pass) begins s.sees;
-          own = items_same (number_of begun.pass) (seen_by begun.pass) (seen_by pass) told s.sees begins
-              (subst (λ (n : ℕ). NoneOf caller_of n (drop (length (seen_by pass)) told)) s.number_is not_own) ∙ s.own;
-          accepted = subst (λ (n : ℕ). HasAccepted limit end n) (s.accepted_is ∙ count) all.counts;
-          shown_is = s.shown_is ∙ ap (λ (h : Shown → Shown). option_map h begun.shown)
-              (ap (λ (n : ℕ). showing (asked end n) (map shown_course s.courses)) count
-              ∙ ap (λ (l : List Connection). showing (asked end (length visits)) l)
-              (ap (λ (l : List Course). map shown_course l) over_all ∙ shown_over visits));
-        }
+        ap (λ (l : List Course). length l) over_all ∙ count_over visits in (
+          record {
+            visits = visits;
+            each = all_served visits (subst (λ (l : List Course). All (Fits answers begun pass) l) over_all s.each);
+            apart = apart_over visits (subst (λ (l : List Course). OfAnyTwo CoursesApart l) over_all s.apart);
+            sees = starts_through told (seen_by pass) (seen_by begun.pass) begins s.sees;
+            own = items_same (number_of begun.pass) (seen_by begun.pass) (seen_by pass) told s.sees begins
+                (subst (λ (n : ℕ). NoneOf caller_of n (drop (length (seen_by pass)) told)) s.number_is not_own) ∙ s.own;
+            accepted = subst (λ (n : ℕ). HasAccepted limit end n) (s.accepted_is ∙ count) all.counts;
+            shown_is = s.shown_is ∙ ap (λ (h : Shown → Shown). option_map h begun.shown)
+                (ap (λ (n : ℕ). showing (asked end n) (map shown_course s.courses)) count
+                ∙ ap (λ (l : List Connection). showing (asked end (length visits)) l)
+                (ap (λ (l : List Course). map shown_course l) over_all ∙ shown_over visits));
+          },
+          refl,
+        )
+
+    -- where nobody else drew numbers, each further item is a connection's, or from one that had a number before
+    pub visitors_alone : (limit : ℕ) (end : Served) (shown : Option Shown) (start : List Noted)
+        → StartsWith (seen_by begun.pass) start
+        → (drawing_of pass ≡ Alone → All (λ item. caller_of item < count_of pass) (drop (length start) told))
+        → (talked : HaveTalked answers begun.desk begun.users (number_of begun.pass) (seen_by begun.pass) told limit
+        end begun.shown shown) → (all : HaveAllTalked answers begun pass limit end shown)
+        → talked.visits ≡ visits_of all.stands.courses → drawing_of begun.pass ≡ Alone
+        → All (HasVisitor (number_of begun.pass) (count_of begun.pass) talked.visits)
+        (drop (length (seen_by begun.pass)) told)
+    visitors_alone limit end shown start opened below talked all visits_are alone =
+        let s = all.stands in
+        let number = number_of begun.pass in
+        let visits = talked.visits in
+        let over_all : s.courses ≡ map over (visits_of s.courses) = all_over begun 0 s.courses
+        (sym (ap (λ (l : List (Waiting E K W)). length l) s.threads_are)) in
+        let callers : map caller_in s.courses ≡ map visitor visits =
+        ap (λ (l : List Course). map caller_in l) over_all ∙ visitors_over (visits_of s.courses)
+        ∙ ap (λ (l : List Visit). map visitor l) (sym visits_are) in
+        let further = drop (length (seen_by begun.pass)) told in
+        let low : All (λ item. caller_of item < count_of pass) further =
+        all_behind (λ item. caller_of item < count_of pass) start (seen_by begun.pass) told opened
+        (below (s.drawing_is ∙ alone)) in
+        each_visited number (count_of begun.pass) (count_of pass) visits further
+        (subst (AreAmong (count_of begun.pass) (count_of pass)) callers (s.callers alone)) low
+        (elim (visited number visits) [
+          | inl there ↦ inl there
+          | inr none ↦ inr (none_from number further (talked.own ∙ none))
+        ])
 
 -- ---- the same, of who accepts
 
@@ -456,9 +562,12 @@ pub record HasSplit {E K W : Type 0} (desk : Desk E K W) (pass pass' own : Pass 
   pub pass_is : IsPass desk pass'
   pub seen : seen_by pass' ≡ seen_by pass
   pub number : number_of pass' ≡ number_of pass
+  pub drawing : drawing_of pass' ≡ drawing_of pass
   pub own_seen : seen_by own ≡ seen_by pass
   pub next : count_of pass ≤ number_of own
+  pub exact : drawing_of pass ≡ Alone → number_of own ≡ count_of pass
   pub counted : count_of pass' ≡ number_of own + 1
+  pub own_counted : count_of own ≡ number_of own + 1
   pub met : met_by pass' ≡ met_by pass
   pub other : number_of own ≢ number_of pass
   pub unused : NoneOf caller_of (number_of own) (drop (length (list_at desk)) (seen_by own))
@@ -467,16 +576,16 @@ module _ {E K W : Type 0} (answers : AnswersAt E K W) where
   stands_as : (acceptor : Accepting E K W) (begun : Begun E K W) (pass : Pass Noted)
       (threads : List (Waiting E K W)) (accepted : ℕ) (end : Served) (shown : Option Shown)
       → acceptor.begun ≡ begun → acceptor.pass ≡ pass → acceptor.threads ≡ threads → acceptor.accepted ≡ accepted
-      → acceptor.end ≡ end → StandsAt answers begun pass threads accepted end shown → Stands answers acceptor shown
+      → acceptor.end ≡ end → AcceptsSo answers begun pass threads accepted end shown → Stands answers acceptor shown
   stands_as acceptor begun pass threads accepted end shown b p t a e s =
-      subst (λ (x : Begun E K W). StandsAt answers x acceptor.pass acceptor.threads acceptor.accepted acceptor.end
+      subst (λ (x : Begun E K W). AcceptsSo answers x acceptor.pass acceptor.threads acceptor.accepted acceptor.end
       shown)
       (sym b)
-      (subst (λ (x : Pass Noted). StandsAt answers begun x acceptor.threads acceptor.accepted acceptor.end shown)
+      (subst (λ (x : Pass Noted). AcceptsSo answers begun x acceptor.threads acceptor.accepted acceptor.end shown)
       (sym p)
-      (subst (λ (x : List (Waiting E K W)). StandsAt answers begun pass x acceptor.accepted acceptor.end shown) (sym t)
-      (subst (λ (x : ℕ). StandsAt answers begun pass threads x acceptor.end shown) (sym a)
-      (subst (λ (x : Served). StandsAt answers begun pass threads accepted x shown) (sym e) s))))
+      (subst (λ (x : List (Waiting E K W)). AcceptsSo answers begun pass x acceptor.accepted acceptor.end shown) (sym t)
+      (subst (λ (x : ℕ). AcceptsSo answers begun pass threads x acceptor.end shown) (sym a)
+      (subst (λ (x : Served). AcceptsSo answers begun pass threads accepted x shown) (sym e) s))))
 
   module _ (acceptor : Accepting E K W) (shown : Option Shown) (at : ℕ) (w : Waiting E K W)
       (s : Stands answers acceptor shown) (lt : at < length acceptor.threads)
@@ -496,7 +605,7 @@ module _ {E K W : Type 0} (answers : AnswersAt E K W) where
 
     -- it is joined
     pub joined : (result : Accepting E K W) (shown' : Option Shown) (n : ℕ) (ending : Ending) (other : Pass Noted)
-        → n ≡ w.number → IsTalked answers w.desk w.users w.arrival ending other → result.begun ≡ acceptor.begun
+        → n ≡ w.number → IsTalked answers w.desk w.users w.arrival w.count ending other → result.begun ≡ acceptor.begun
         → result.accepted ≡ acceptor.accepted → result.end ≡ acceptor.end
         → result.threads ≡ take at acceptor.threads ++ drop (at + 1) acceptor.threads
         → HasMet acceptor.begun.desk acceptor.pass other result.pass
@@ -516,10 +625,10 @@ module _ {E K W : Type 0} (answers : AnswersAt E K W) where
 
   module _ (acceptor : Accepting E K W) (link : LinkSeen) (shown : Option Shown)
       (has : HasAsked answers acceptor link shown) where
-    stands_before : StandsAt answers acceptor.begun acceptor.pass acceptor.threads acceptor.accepted served.All
+    stands_before : AcceptsSo answers acceptor.begun acceptor.pass acceptor.threads acceptor.accepted served.All
         has.before
     stands_before =
-        subst (λ (e : Served). StandsAt answers acceptor.begun acceptor.pass acceptor.threads acceptor.accepted e
+        subst (λ (e : Served). AcceptsSo answers acceptor.begun acceptor.pass acceptor.threads acceptor.accepted e
         has.before) has.end_is has.stands
 
     -- the connection is away
@@ -532,13 +641,14 @@ module _ {E K W : Type 0} (answers : AnswersAt E K W) where
     pub asked_again : (result : Accepting E K W) → result.begun ≡ acceptor.begun → result.accepted ≡ acceptor.accepted
         → result.end ≡ acceptor.end → result.threads ≡ acceptor.threads → IsPass acceptor.begun.desk result.pass
         → number_of result.pass ≡ number_of acceptor.pass → HasRecounted acceptor.pass result.pass
+        → (drawing_of acceptor.pass ≡ Alone → count_of result.pass ≡ count_of acceptor.pass)
         → HasAsked answers result link shown
-    asked_again result begun accepted end threads is number recounted = record {
+    asked_again result begun accepted end threads is number recounted none = record {
       before = has.before;
       stands = stands_as result acceptor.begun result.pass acceptor.threads acceptor.accepted acceptor.end has.before
           begun refl threads accepted end
           (recounts answers acceptor.begun acceptor.threads acceptor.accepted acceptor.end has.before acceptor.pass
-          result.pass is number recounted has.stands);
+          result.pass is number recounted none has.stands);
       end_is = end ∙ has.end_is;
       fresh = has.fresh;
       shown_is = has.shown_is;
@@ -546,35 +656,56 @@ module _ {E K W : Type 0} (answers : AnswersAt E K W) where
 
     -- it was served with the first pass
     pub served_own : (pass' : Pass Noted) (shown' : Option Shown) (ending : Ending)
-        → IsTalked answers acceptor.begun.desk acceptor.begun.users (arrival_of acceptor.pass link) ending pass'
-        → count_of pass' ≡ count_of acceptor.pass → met_by pass' ≡ met_by acceptor.pass
+        → IsTalked answers acceptor.begun.desk acceptor.begun.users (arrival_of acceptor.pass link)
+        (count_of acceptor.pass) ending pass'
+        → drawing_of pass' ≡ drawing_of acceptor.pass → met_by pass' ≡ met_by acceptor.pass
         → shown' ≡ option_map (after_back acceptor.accepted ending) shown
-        → StandsAt answers acceptor.begun pass' acceptor.threads (acceptor.accepted + 1) acceptor.end shown'
-    served_own pass' shown' ending talked count met shows =
-        subst (λ (e : Served). StandsAt answers acceptor.begun pass' acceptor.threads (acceptor.accepted + 1) e shown')
+        → AcceptsSo answers acceptor.begun pass' acceptor.threads (acceptor.accepted + 1) acceptor.end shown'
+    served_own pass' shown' ending talked drawing met shows =
+        subst (λ (e : Served). AcceptsSo answers acceptor.begun pass' acceptor.threads (acceptor.accepted + 1) e shown')
         (sym has.end_is)
         (served_here answers acceptor.begun acceptor.threads acceptor.accepted shown has.before acceptor.pass link
-        has.fresh stands_before has.shown_is pass' shown' ending talked count met shows)
+        has.fresh stands_before has.shown_is pass' shown' ending talked drawing met shows)
 
     module _ (pass' own : Pass Noted) (split : HasSplit acceptor.begun.desk acceptor.pass pass' own) where
+      last_given : count_of own ≡ suc (number_of own)
+      last_given = split.own_counted ∙ omega arith
+
       -- a thread serves it
       pub started : (threads' : List (Waiting E K W)) (w : Waiting E K W) → threads' ≡ acceptor.threads ++ w ∷ []
-          → w ≡ thread_of acceptor.begun acceptor.accepted (arrival_of own link)
-          → StandsAt answers acceptor.begun pass' threads' (acceptor.accepted + 1) acceptor.end shown
+          → w ≡ record {
+            number = acceptor.accepted;
+            arrival = arrival_of own link;
+            count = count_of own;
+            desk = acceptor.begun.desk;
+            users = acceptor.begun.users;
+          }
+          → AcceptsSo answers acceptor.begun pass' threads' (acceptor.accepted + 1) acceptor.end shown
       started threads' w are is =
-          subst (λ (e : Served). StandsAt answers acceptor.begun pass' threads' (acceptor.accepted + 1) e shown)
+          subst (λ (e : Served). AcceptsSo answers acceptor.begun pass' threads' (acceptor.accepted + 1) e shown)
           (sym has.end_is)
           (starts answers acceptor.begun acceptor.threads acceptor.accepted shown has.before acceptor.pass link
           has.fresh
           stands_before has.shown_is pass' own threads' split.pass_is split.number
-          (record { seen = split.seen; count = omega (arith, split.next, split.counted); met = split.met })
-          split.own_seen split.next split.counted
+          (record {
+            drawing = split.drawing;
+            seen = split.seen;
+            count = omega (arith, split.next, split.counted);
+            met = split.met;
+          })
+          split.own_seen split.next split.exact split.counted
           (record { other = split.other; unused = split.unused })
-          (are ∙ ap (λ (v : Waiting E K W). acceptor.threads ++ v ∷ []) is))
+          (are ∙ ap (λ (v : Waiting E K W). acceptor.threads ++ v ∷ []) (is ∙ ap (λ (n : ℕ). record {
+            number = acceptor.accepted;
+            arrival = arrival_of own link;
+            count = n;
+            desk = acceptor.begun.desk;
+            users = acceptor.begun.users;
+          }) last_given)))
 
       -- no thread could be started, and it was served at once
       pub handed_back : (result : Accepting E K W) (shown' : Option Shown) (ending : Ending) (other : Pass Noted)
-          → IsTalked answers acceptor.begun.desk acceptor.begun.users (arrival_of own link) ending other
+          → IsTalked answers acceptor.begun.desk acceptor.begun.users (arrival_of own link) (count_of own) ending other
           → result.begun ≡ acceptor.begun → result.accepted ≡ acceptor.accepted + 1 → result.end ≡ acceptor.end
           → result.threads ≡ acceptor.threads → HasMet acceptor.begun.desk pass' other result.pass
           → shown' ≡ option_map (after_back acceptor.accepted ending) shown → Stands answers result shown'
@@ -585,8 +716,17 @@ module _ {E K W : Type 0} (answers : AnswersAt E K W) where
           (comes_back answers acceptor.begun (acceptor.threads ++ w ∷ [])
           (acceptor.accepted + 1) acceptor.end shown pass'
           result.pass other result.threads acceptor.threads [] w shown' ending refl
-          (threads ∙ sym (append-nil acceptor.threads)) talked met shows
-          (started (acceptor.threads ++ w ∷ []) w refl refl))
+          (threads ∙ sym (append-nil acceptor.threads))
+          (subst (λ (n : ℕ). IsTalked answers acceptor.begun.desk acceptor.begun.users (arrival_of own link) n ending
+          other) last_given talked) met shows
+          (started (acceptor.threads ++ w ∷ []) w refl
+          (ap (λ (n : ℕ). record {
+            number = acceptor.accepted;
+            arrival = arrival_of own link;
+            count = n;
+            desk = acceptor.begun.desk;
+            users = acceptor.begun.users;
+          }) (sym last_given))))
 
   -- the doors failed
   pub failed : (acceptor result : Accepting E K W) (shown shown' : Option Shown) → acceptor.end ≡ served.All
@@ -598,7 +738,7 @@ module _ {E K W : Type 0} (answers : AnswersAt E K W) where
       pass
       threads accepted end
       (fails answers acceptor.begun acceptor.threads acceptor.accepted shown shown' acceptor.pass shows
-      (subst (λ (e : Served). StandsAt answers acceptor.begun acceptor.pass acceptor.threads acceptor.accepted e
+      (subst (λ (e : Served). AcceptsSo answers acceptor.begun acceptor.pass acceptor.threads acceptor.accepted e
       shown) all
       s))
 
@@ -612,11 +752,11 @@ module _ {E K W : Type 0} (answers : AnswersAt E K W) where
       record {
         accepted = accepted;
         counts = subst (λ (e : Served). HasAccepted limit e accepted) (sym (end_is ∙ end'_is)) counts;
-        stands = subst (λ (b : Begun E K W). StandsAt answers b pass [] accepted end shown) same
-            (subst (λ (p : Pass Noted). StandsAt answers acceptor.begun p [] accepted end shown) (sym pass_is)
-            (subst (λ (e : Served). StandsAt answers acceptor.begun acceptor.pass [] accepted e shown) (sym end_is)
-            (subst (λ (n : ℕ). StandsAt answers acceptor.begun acceptor.pass [] n acceptor.end shown) accepted_is
-            (subst (λ (l : List (Waiting E K W)). StandsAt answers acceptor.begun acceptor.pass l acceptor.accepted
+        stands = subst (λ (b : Begun E K W). AcceptsSo answers b pass [] accepted end shown) same
+            (subst (λ (p : Pass Noted). AcceptsSo answers acceptor.begun p [] accepted end shown) (sym pass_is)
+            (subst (λ (e : Served). AcceptsSo answers acceptor.begun acceptor.pass [] accepted e shown) (sym end_is)
+            (subst (λ (n : ℕ). AcceptsSo answers acceptor.begun acceptor.pass [] n acceptor.end shown) accepted_is
+            (subst (λ (l : List (Waiting E K W)). AcceptsSo answers acceptor.begun acceptor.pass l acceptor.accepted
             acceptor.end shown) (no_threads acceptor.threads none) s))));
       }
     where

@@ -1,17 +1,18 @@
 -- Many connections that are served at one desk: what each of them was answered, and what is left of them all.
-use Rattle.std.specs.Prelude.{◌≡◌, ◌≢◌, ◌⊎◌, ℕ, zero, suc, ◌+◌, ◌==◌, ◌<◌, ◌≤◌, List, [], ◌∷◌, ◌++◌, All, map, length, drop, Option, None, Some, IfSome, if◌then◌else◌}
+use Rattle.std.specs.Prelude.{◌≡◌, ◌≢◌, ◌⊎◌, ℕ, zero, suc, ◌+◌, max, ◌==◌, ◌<◌, ◌≤◌, List, [], ◌∷◌, ◌++◌, All, map, length, drop, Option, None, Some, IfSome, if◌then◌else◌}
 use Rattle.std.specs.List.{Contains, filter, flat_map}
 use Rattle.std.specs.Option.{option_map}
 use Rattle.cell_value.specs.Calls.{one_more}
 use Rattle.cell_value.specs.FaultCount.{Rose}
 use Rattle.sheets_http.specs.declared.request.Wire.{Wire}
 use Rattle.history_lock.specs.History.{StartsWith, NoneOf}
-use Rattle.history_lock.specs.Passes.{seen_by, number_of, count_of, met_by}
+use Rattle.history_lock.specs.declared.view.Drawing.TheVariants.{Alone}
+use Rattle.history_lock.specs.Passes.{seen_by, number_of, count_of, drawing_of, met_by}
 use Rattle.history_lock.specs.declared.pass.Pass.{Pass}
 use Rattle.desk.specs.declared.desk.Desk.{Desk}
 use Rattle.desk.specs.declared.entry.Entry.{Entry}
 use Rattle.desk.specs.declared.entry.Noted.{Noted}
-use Rattle.desk.specs.Points.{IsClosed, caller_of}
+use Rattle.desk.specs.Points.{Keeps, caller_of, entries_of, last_counted}
 use Rattle.desk.specs.Desks.{IsPass, pair_at, list_at, callers_at}
 use Rattle.conversation.specs.declared.ended.Ended.TheVariants as how
 use Rattle.conversation.specs.Conversation.{at_moment, IsConversation, EndsAs, LosesFirst}
@@ -144,15 +145,31 @@ pub record HaveTalked {E K W : Type 0} (answers : AnswersAt E K W) (desk : Desk 
   pub accepted : HasAccepted limit end (length visits)
   pub shown_is : shown' ≡ option_map (showing (asked end (length visits)) (map connection_of visits)) shown
 
--- What serving many connections came to, by the pass that was given: the history is that of the list that the desk told
--- when it was closed by this pass, as it was at the end. Items of callers that have no visit aren't spoken of.
+-- who called the desk for a connection
+abbrev pub visitor : Visit → ℕ
+visitor visit = visit.arrival.caller
+
+-- the item is from the caller of one of these connections, or from another than the first caller, whose number was
+-- drawn before the count came to this
+abbrev pub HasVisitor : ℕ → ℕ → List Visit → Noted → Type 0
+HasVisitor number count visits item =
+    Contains (map visitor visits) (caller_of item) ⊎ ((caller_of item < count) × (caller_of item ≢ number))
+
+-- What serving many connections came to, by the pass that was given. The history is the entries of the list that the
+-- desk told when it was closed, and its journal is kept; the keeper's count of faults is that of the list's last mark.
+-- Each item since the opening is from one of the desk's callers. Where the pass alone drew numbers, each that it had
+-- not seen is from the caller of a connection, or from one that had a number before.
 pub record AreServed {E K W : Type 0} (answers : AnswersAt E K W) (desk : Desk E K W)
     (users : UserTable) (pass : Pass Noted) (limit : ℕ) (end : Served) (shown shown' : Option Shown)
     (entries : List Entry) (failures : ℕ) (kept : Option (List ℕ)) : Type 0 where
-  pub last : Pass Noted
-  pub number_is : number_of last ≡ number_of pass
-  pub closed : IsClosed (pair_at desk).1 (callers_at desk) last entries failures kept
-  pub talked : HaveTalked answers desk users (number_of pass) (seen_by pass) closed.told limit end shown shown'
+  pub told : List Noted
+  pub talked : HaveTalked answers desk users (number_of pass) (seen_by pass) told limit end shown shown'
+  pub numbered : All (λ item. caller_of item < callers_at desk) (drop (length (list_at desk)) told)
+  pub visitors : drawing_of pass ≡ Alone
+      → All (HasVisitor (number_of pass) (count_of pass) talked.visits) (drop (length (seen_by pass)) told)
+  pub entries_are : entries ≡ entries_of told
+  pub counted : failures ≡ last_counted (pair_at desk).1 told
+  pub keeps : Keeps kept told
 
 -- ---- while connections are accepted
 
@@ -163,10 +180,12 @@ pub record Begun (E K W : Type 0) : Type 0 where
   pub pass : Pass Noted
   pub shown : Option Shown
 
--- a connection that a thread serves at this desk: its number, counted from 0, and how it was accepted
+-- a connection that a thread serves at this desk: its number, counted from 0, how it was accepted, and the count of
+-- drawn numbers that its pass knows
 pub record Waiting (E K W : Type 0) : Type 0 where
   pub number : ℕ
   pub arrival : Arrival
+  pub count : ℕ
   pub desk : Desk E K W
   pub users : UserTable
 
@@ -183,18 +202,20 @@ pub record Accepting (E K W : Type 0) : Type 0 where
 abbrev pub arrival_of : Pass Noted → LinkSeen → Arrival
 arrival_of pass link = record { caller = number_of pass; before = seen_by pass; link = link }
 
--- what a conversation leaves: its end, and the pass, which is of the desk
+-- what a conversation leaves: its end, and the pass, which is of the desk, and knows of no more numbers than before
 pub record IsTalked {E K W : Type 0} (answers : AnswersAt E K W) (desk : Desk E K W)
-    (users : UserTable) (arrival : Arrival) (ending : Ending) (pass : Pass Noted) : Type 0 where
+    (users : UserTable) (arrival : Arrival) (count : ℕ) (ending : Ending) (pass : Pass Noted) : Type 0 where
   pub pass_is : IsPass desk pass
   pub number_is : number_of pass ≡ arrival.caller
+  pub count_is : count_of pass ≡ count
   pub visit : IsVisit answers desk users arrival (seen_by pass) ending
 
 -- the pass took in another: it has seen what both have seen, and what is new to it isn't its own
 pub record HasMet {E K W : Type 0} (desk : Desk E K W) (pass other met : Pass Noted) : Type 0 where
   pub pass_is : IsPass desk met
   pub number_is : number_of met ≡ number_of pass
-  pub count : count_of pass ≤ count_of met
+  pub drawing_is : drawing_of met ≡ drawing_of pass
+  pub count : count_of met ≡ max (count_of pass) (count_of other)
   pub mine : StartsWith (seen_by met) (seen_by pass)
   pub theirs : StartsWith (seen_by met) (seen_by other)
   pub own : NoneOf caller_of (number_of pass) (drop (length (seen_by pass)) (seen_by met))
@@ -220,10 +241,15 @@ visits_of [] = []
 visits_of (under_way arrival ∷ courses) = visits_of courses
 visits_of (over visit ∷ courses) = visit ∷ visits_of courses
 
--- the thread of a connection with this number
+-- the thread of a connection with this number; its pass was the last that was given then
 abbrev pub thread_of : {E K W : Type 0} → Begun E K W → ℕ → Arrival → Waiting E K W
-thread_of begun number arrival =
-    record { number = number; arrival = arrival; desk = begun.desk; users = begun.users }
+thread_of begun number arrival = record {
+  number = number;
+  arrival = arrival;
+  count = suc arrival.caller;
+  desk = begun.desk;
+  users = begun.users;
+}
 
 -- the threads of those that are under way, numbered from this number on
 abbrev pub threads_of : {E K W : Type 0} → Begun E K W → ℕ → List Course → List (Waiting E K W)
@@ -260,13 +286,25 @@ LeavesApart (over visit) later = (visit.arrival.caller ≢ later.caller) ⊎ Sta
 abbrev pub CoursesApart : Course → Course → Type 0
 CoursesApart course later = LeavesApart course (start_of later)
 
--- where accepting stands: the connections so far, in order
-pub record StandsAt {E K W : Type 0} (answers : AnswersAt E K W) (begun : Begun E K W)
+-- each number from the one count up to the other is among these
+abbrev pub AreAmong : ℕ → ℕ → List ℕ → Type 0
+AreAmong from count numbers = (number : ℕ) → from ≤ number → number < count → Contains numbers number
+
+-- who calls the desk for a connection
+abbrev pub caller_in : Course → ℕ
+caller_in course = (start_of course).caller
+
+-- Where accepting stands: the connections so far, in order. Where nobody else draws numbers, each that was drawn since
+-- is a connection's.
+pub record AcceptsSo {E K W : Type 0} (answers : AnswersAt E K W) (begun : Begun E K W)
     (pass : Pass Noted) (threads : List (Waiting E K W)) (accepted : ℕ) (end : Served) (shown : Option Shown)
     : Type 0 where
   pub courses : List Course
   pub pass_is : IsPass begun.desk pass
   pub number_is : number_of pass ≡ number_of begun.pass
+  pub drawing_is : drawing_of pass ≡ drawing_of begun.pass
+  pub callers : drawing_of begun.pass ≡ Alone
+      → AreAmong (count_of begun.pass) (count_of pass) (map caller_in courses)
   pub sees : StartsWith (seen_by pass) (seen_by begun.pass)
   pub own : items_of (number_of begun.pass) (drop (length (seen_by begun.pass)) (seen_by pass))
       ≡ flat_map (added_by (number_of begun.pass)) (visits_of courses)
@@ -278,14 +316,14 @@ pub record StandsAt {E K W : Type 0} (answers : AnswersAt E K W) (begun : Begun 
 
 abbrev pub Stands : {E K W : Type 0} → AnswersAt E K W → Accepting E K W → Option Shown → Type 0
 Stands answers acceptor shown =
-    StandsAt answers acceptor.begun acceptor.pass acceptor.threads acceptor.accepted acceptor.end shown
+    AcceptsSo answers acceptor.begun acceptor.pass acceptor.threads acceptor.accepted acceptor.end shown
 
 -- no thread is left, and so many connections were accepted as were to be
 pub record HaveAllTalked {E K W : Type 0} (answers : AnswersAt E K W) (begun : Begun E K W) (pass : Pass Noted)
     (limit : ℕ) (end : Served) (shown : Option Shown) : Type 0 where
   pub accepted : ℕ
   pub counts : HasAccepted limit end accepted
-  pub stands : StandsAt answers begun pass [] accepted end shown
+  pub stands : AcceptsSo answers begun pass [] accepted end shown
 
 -- a further connection was accepted, with a link that tells this, and isn't served yet
 pub record HasAsked {E K W : Type 0} (answers : AnswersAt E K W) (acceptor : Accepting E K W)

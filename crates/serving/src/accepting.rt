@@ -2,7 +2,7 @@ ghost use Rattle.std.specs.Prelude.{◌≡◌, ◌+◌, ◌<◌, ◌≤◌, [], 
 ghost use Rattle.std.specs.Option.{option_map};
 ghost use Rattle.cell_value.specs.FaultCount.{last_count, Rose};
 ghost use Rattle.sheets_http.specs.Outside.{StaysSteady};
-ghost use Rattle.history_lock.specs.Passes.{count_of, met_by};
+ghost use Rattle.history_lock.specs.Passes.{count_of, drawing_of, met_by};
 ghost use Rattle.desk.specs.Desks.{IsPass};
 ghost use Rattle.connections.specs.Calls.{IsAnswer};
 ghost use Rattle.connections.specs.Doors.{link_seen, IsAway, after_accept, after_back};
@@ -54,12 +54,13 @@ struct Talking<D: Doors, E: Engine, K: Keeper> {
 impl<D: Doors, E: Engine, K: Keeper> Promise<Talked<D::Rest>> for Talking<D, E, K> {
     ghost use Rattle.connections.specs.Calls.{IsAnswer};
     ghost use Rattle.connections.specs.Doors.{link_seen};
+    ghost use Rattle.history_lock.specs.Passes.{count_of};
     ghost use Rattle.serving.specs.Serving.{IsTalked, arrival_of};
 
     ghost kept_by = { λ promise talked. IsTalked (IsAnswer E.plain K.failures K.steady)
         promise.desk.value promise.users.value
         (arrival_of promise.pass.value (link_seen D.Link.left D.Link.written D.Link.faults D.Link.sink_faults
-        D.Link.sink_shortages promise.link.value))
+        D.Link.sink_shortages promise.link.value)) (count_of promise.pass.value)
         (record { ended = talked.ended; link = D.rest_seen talked.rest }) talked.pass };
 }
 
@@ -73,6 +74,7 @@ struct Started<D: Doors, E: Engine, K: Keeper> {
 
 impl<D: Doors, E: Engine, K: Keeper> Model for Started<D, E, K> {
     ghost use Rattle.connections.specs.Doors.{link_seen};
+    ghost use Rattle.history_lock.specs.Passes.{count_of};
     ghost use Rattle.serving.specs.Serving.{Waiting, arrival_of};
 
     ghost Value = { Waiting E K E.World };
@@ -81,6 +83,7 @@ impl<D: Doors, E: Engine, K: Keeper> Model for Started<D, E, K> {
       number = s.number;
       arrival = arrival_of s.thread.promise.pass.value (link_seen D.Link.left D.Link.written D.Link.faults
           D.Link.sink_faults D.Link.sink_shortages s.thread.promise.link.value);
+      count = count_of s.thread.promise.pass.value;
       desk = s.thread.promise.desk.value;
       users = s.thread.promise.users.value;
     } };
@@ -101,7 +104,7 @@ impl<D: Doors, E: Engine, K: Keeper> Started<D, E, K> {
 
     // Waits for its end.
     fn join<R: Threads>(self, rt: &R) -> Talked<D::Rest>
-        ensures { IsTalked (IsAnswer E.plain K.failures K.steady) self.desk self.users self.arrival
+        ensures { IsTalked (IsAnswer E.plain K.failures K.steady) self.desk self.users self.arrival self.count
             (record { ended = result.ended; link = D.rest_seen result.rest }) result.pass }
     {
         let Started {
@@ -125,8 +128,8 @@ fn talk<R: Wait, D: Doors, E: Engine, K: Keeper>(
     requires { IsPass desk.now pass }
     ensures talked { IsTalked (IsAnswer E.plain K.failures K.steady) desk.now users.now
         (arrival_of pass (link_seen D.Link.left D.Link.written D.Link.faults D.Link.sink_faults D.Link.sink_shortages
-        link)) (record { ended = result.ended; link = D.rest_seen result.rest }) result.pass }
-    ensures count { count_of result.pass ≡ count_of pass }
+        link)) (count_of pass) (record { ended = result.ended; link = D.rest_seen result.rest }) result.pass }
+    ensures drawing { drawing_of result.pass ≡ drawing_of pass }
     ensures met { met_by result.pass ≡ met_by pass }
 {
     let mut link = link;
@@ -171,12 +174,13 @@ where
       number = number;
       arrival = arrival_of pass (link_seen D.Link.left D.Link.written D.Link.faults D.Link.sink_faults
           D.Link.sink_shortages link);
+      count = count_of pass;
       desk = desk.now;
       users = users.now;
     }) }
     ensures talked { IfErr result (λ talked. IsTalked (IsAnswer E.plain K.failures K.steady) desk.now users.now
         (arrival_of pass (link_seen D.Link.left D.Link.written D.Link.faults D.Link.sink_faults D.Link.sink_shortages
-        link)) (record { ended = talked.ended; link = D.rest_seen talked.rest }) talked.pass) }
+        link)) (count_of pass) (record { ended = talked.ended; link = D.rest_seen talked.rest }) talked.pass) }
 {
     let (ended, there) = signal;
     let promise: Talking<D, E, K> = Talking {
@@ -191,8 +195,8 @@ where
             requires { IsPass desk.now pass }
             ensures { IsTalked (IsAnswer E.plain K.failures K.steady) desk.entry.now users.entry.now
                 (arrival_of pass (link_seen D.Link.left D.Link.written D.Link.faults D.Link.sink_faults
-                D.Link.sink_shortages link)) (record { ended = result.ended; link = D.rest_seen result.rest })
-                result.pass }
+                D.Link.sink_shortages link)) (count_of pass)
+                (record { ended = result.ended; link = D.rest_seen result.rest }) result.pass }
         {
             let talked = talk::<R, D, E, K>(rt, alloc, desk, users, pass, link);
             there.store(1, Ordering::SeqCst);
@@ -462,7 +466,7 @@ where
     let Some(signal) = signal(acceptor.alloc) else {
         return acceptor.serve_here(rt, doors, link);
     };
-    let Ok(pass) = acceptor.desk.pass(rt, &mut acceptor.pass) else {
+    let Ok(pass) = acceptor.desk.lend(rt, &mut acceptor.pass) else {
         return acceptor.serve_here(rt, doors, link);
     };
     let number = acceptor.accepted;
@@ -689,9 +693,9 @@ where
     requires pass { IsPass desk pass }
     requires new_doors { IfSome (D.shown doors.old) (λ shown. shown.connections ≡ []) }
 
-    // What each connection was answered, what the doors show of it, and a history that has the calls of each: those of
-    // the given pass and of each that served a connection, and no others of theirs. No clause says that no further pass
-    // made any. What the keeper has is the journal of the history, as at the desk's closing.
+    // What each connection was answered, what the doors show of it, and a history that has the calls of each. Where
+    // the pass alone drew numbers, each entry that it had not seen is from the caller of a connection, or from one that
+    // had a number before. What the keeper has is the journal of the history.
     ensures served { AreServed (IsAnswer E.plain K.failures K.steady) desk users.now pass limit result.0
         (D.shown doors.old) (D.shown doors.new) result.1 (K.failures result.2) (K.kept result.2) }
 

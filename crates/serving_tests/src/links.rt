@@ -5,6 +5,7 @@ use cell_value::Failed;
 use connections::Doors;
 use conversation::Ended;
 use sheets_http::{Duplex, Sink, SinkFault, Source};
+use std::alloc::{AllocError, Global};
 use std::sync::Arc;
 use std::sync::atomic::{AtomicU64, Ordering};
 use std::thread;
@@ -31,23 +32,29 @@ pub struct TurnLink {
 }
 
 impl TurnLink {
-    /// A link with these pieces, of which the last comes first. Each of its writes counts as a response in `own`, and it
-    /// waits for the count of `other`.
+    /// A link with these pieces, in order. Each of its writes counts as a response in `own`, and it waits for the count
+    /// of `other`.
+    ///
+    /// # Errors
+    ///
+    /// [`AllocError`] where memory runs out.
     pub fn new(
-        pieces: Vec<Piece>,
-        written: Vec<u8>,
-        own: Arc<AtomicU64>,
-        other: Arc<AtomicU64>,
-    ) -> TurnLink {
-        TurnLink {
+        alloc: Global,
+        pieces: &[Piece],
+        own: &Arc<AtomicU64>,
+        other: &Arc<AtomicU64>,
+    ) -> Result<TurnLink, AllocError> {
+        let mut pieces = Vec::from_slice(alloc, pieces)?;
+        pieces.reverse();
+        Ok(TurnLink {
             pieces,
             rest: &[],
-            written,
-            own,
-            other,
+            written: Vec::new(alloc),
+            own: Arc::try_clone(own)?,
+            other: Arc::try_clone(other)?,
             faults: 0,
             shortages: 0,
-        }
+        })
     }
 
     /// What was written.
@@ -186,6 +193,24 @@ impl TurnDoors {
             back,
             faults: 0,
         }
+    }
+
+    /// Doors with two links of these pieces, each of which waits for the other.
+    ///
+    /// # Errors
+    ///
+    /// [`AllocError`] where memory runs out.
+    pub fn of_two(
+        alloc: Global,
+        first: &[Piece],
+        second: &[Piece],
+    ) -> Result<TurnDoors, AllocError> {
+        let first_count = Arc::new(alloc, AtomicU64::new(0))?;
+        let second_count = Arc::new(alloc, AtomicU64::new(0))?;
+        let mut coming = Vec::new(alloc);
+        coming.push(TurnLink::new(alloc, second, &second_count, &first_count)?)?;
+        coming.push(TurnLink::new(alloc, first, &first_count, &second_count)?)?;
+        Ok(TurnDoors::new(coming, Vec::new(alloc)))
     }
 
     /// The connections that are back, in the order in which they came back.

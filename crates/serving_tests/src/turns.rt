@@ -58,39 +58,12 @@ static ASKS: [Piece; 1] = [Piece {
 static ASKED: &[u8] =
     b"HTTP/1.1 200 OK\r\nContent-Type: application/json; charset=UTF-8\r\nContent-Length: 0\r\n\r\n";
 
-/// A link with these pieces.
-fn link(
-    alloc: Global,
-    pieces: &[Piece],
-    own: &Arc<AtomicU64>,
-    other: &Arc<AtomicU64>,
-) -> Result<TurnLink, AllocError> {
-    let mut pieces = Vec::from_slice(alloc, pieces)?;
-    pieces.reverse();
-    Ok(TurnLink::new(
-        pieces,
-        Vec::new(alloc),
-        Arc::try_clone(own)?,
-        Arc::try_clone(other)?,
-    ))
-}
-
-/// Doors with two links that wait for one another.
-fn two_doors(alloc: Global) -> Result<TurnDoors, AllocError> {
-    let first = Arc::new(alloc, AtomicU64::new(0))?;
-    let second = Arc::new(alloc, AtomicU64::new(0))?;
-    let mut coming = Vec::new(alloc);
-    coming.push(link(alloc, &SECOND, &second, &first)?)?;
-    coming.push(link(alloc, &FIRST, &first, &second)?)?;
-    Ok(TurnDoors::new(coming, Vec::new(alloc)))
-}
-
 /// Doors with so many links of one request each.
 fn many_doors(alloc: Global, count: u32) -> Result<TurnDoors, AllocError> {
     let counts = Arc::new(alloc, AtomicU64::new(0))?;
     let mut coming = Vec::new(alloc);
     for _ in 0..count {
-        coming.push(link(alloc, &ASKS, &counts, &counts)?)?;
+        coming.push(TurnLink::new(alloc, &ASKS, &counts, &counts)?)?;
     }
     Ok(TurnDoors::new(coming, Vec::new(alloc)))
 }
@@ -107,7 +80,7 @@ fn is_back(back: &[Visitor], number: u32, said: &[u8]) -> bool {
 #[test]
 fn two_connections_are_served_beside_one_another(rt: HostRuntime) -> Result<(), Fail> {
     let alloc = rt.alloc();
-    let mut doors = two_doors(alloc)?;
+    let mut doors = TurnDoors::of_two(alloc, &FIRST, &SECOND)?;
     let users = Users::anyone();
     let keeper = SteadyKeeper::new(Vec::new(alloc));
     let Ok((desk, pass)) = Desk::<Appends, SteadyKeeper>::open(alloc, keeper, 1000, 3) else {

@@ -1,18 +1,17 @@
 -- A call makes something of the spreadsheets exactly where it writes and is answered.
-use Rattle.std.proofs.Common.{◌≡◌, ℕ, Bool, true, false, ◌&&◌, List, length, Option, Some, None, Result, Ok, Err, refl, sym, ap, subst, ◌∙◌}
+use Rattle.std.proofs.Common.{◌≡◌, ℕ, Bool, true, false, ◌&&◌, List, length, Option, Some, None, Result, Ok, Err, refl, sym, ap, ◌∙◌}
 use Rattle.std.specs.Prelude.{is_ok, is_some, IsSomeAnd}
 use Rattle.world_model.specs.Book.{PlaceBook}
 use Rattle.world_model.specs.BookChange.{BookChange}
 use Rattle.dimension_ops.specs.World.{book_with}
 use Rattle.dimension_ops.specs.declared.rule.Rule.{Rule}
 use Rattle.sheets_json.specs.declared.answer.Answer.{Answer}
-use Rattle.sheets_json.specs.declared.answer.Answer.TheVariants as answer
 use Rattle.sheets_json.specs.declared.call.Call.{Call}
 use Rattle.sheets_json.specs.declared.call.Call.TheVariants as call
 use Rattle.sheets_json.specs.declared.call.NewSpreadsheet.{NewSpreadsheet}
 use Rattle.json_shapes.specs.Reading.{Reading}
 use Rattle.sheets_json.specs.declared.place.Place.{Place}
-use Rattle.batch_engine.specs.Calls.{IsAnswered, IsAlone, IsMade, AreMade, OnBook, Refusal, alone, answered_at, answered_by, effect_of, effect_on, told_of}
+use Rattle.batch_engine.specs.Calls.{IsAnswered, IsAlone, IsMade, AreMade, Refusal, alone, answered_at, answered_by, effect_of, effect_on, told_of}
 use Rattle.batch_engine.specs.Create.{IsCreateOf, makes_book, unless_broken}
 use Rattle.batch_engine.specs.Effects.{Effect, Becomes, IsNext}
 use Rattle.batch_engine.specs.Effects.Effect.{Nothing, Changes, Makes}
@@ -112,6 +111,9 @@ call_makes caller (call.WriteMany id mode blocks) books told effect is =
     on_book (book_with id books) _ is (λ book made. all_made _ _ _ _ book told effect made)
 call_makes caller (call.ClearMany id ranges) books told effect is =
     on_book (book_with id books) _ is (λ book made. all_made _ _ _ _ book told effect made)
+call_makes caller (call.ReadFiltered id filters dimension render) books told effect is = reads told effect is.1
+call_makes caller (call.Item id item) books told effect is = reads told effect is.1
+call_makes caller (call.Search id filters) books told effect is = reads told effect is.1
 
 -- ---- what comes next
 

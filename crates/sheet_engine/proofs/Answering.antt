@@ -5,14 +5,13 @@ use Rattle.world_model.specs.Book.{PlaceBook}
 use Rattle.world_model.specs.World.{NameWorld, WorldStandsFor}
 use Rattle.dimension_ops.specs.World.{opening_book, opening_world}
 use Rattle.sheets_json.specs.declared.answer.Answer.{Answer}
-use Rattle.sheets_json.specs.declared.call.Call.{Call}
 use Rattle.batch_engine.specs.Calls.{Refusal, told_as}
-use Rattle.batch_engine.specs.Effects.{Effect, Becomes, IsNext, world_after}
+use Rattle.batch_engine.specs.Effects.{IsNext, world_after}
 use Rattle.desk.specs.Steps.{Answers, Outcome, entry_of, user_of}
 use Rattle.desk.specs.declared.engine.Answered.{Answered}
 use Rattle.desk.specs.declared.entry.Ask.{Ask}
 use Rattle.desk.specs.declared.entry.Entry.{Entry}
-use Rattle.sheet_engine.specs.Answers.{IsStep, Makes, as_fault, body_of, is_accepted, outcome_of, status_of, told_by}
+use Rattle.sheet_engine.specs.Answers.{Makes, as_fault, body_of, outcome_of, status_of, told_by}
 use Rattle.sheet_engine.specs.Replay.{Follows, IsAnsweredOn, Plain, ReplaysFrom, Stands, ask_of}
 use Rattle.sheet_engine.specs.declared.fault.Fault.{Fault}
 use Rattle.sheet_engine.proofs.Accepted.{accepted_next, becomes_next}

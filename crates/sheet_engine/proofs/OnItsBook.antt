@@ -1,5 +1,5 @@
 -- The spreadsheet that a call is on is the one of its route.
-use Rattle.std.proofs.Common.{◌≡◌, ◌⊎◌, inl, inr, List, [], ◌∷◌, subst, sym, refl, ap, ◌∙◌, Bool, true, false, ◌&&◌}
+use Rattle.std.proofs.Common.{◌≡◌, ◌⊎◌, inl, inr, List, [], ◌∷◌, subst, sym, refl, ◌∙◌, Bool, true, false, ◌&&◌}
 use Rattle.std.specs.Prelude.{Option, Some, None, is_none, Result, Ok, Err, IfOk}
 use Rattle.std.specs.Option.{IsSome}
 use Rattle.std.proofs.lemmas.Bool.{false≢true}
@@ -63,9 +63,11 @@ module _ (books : List PlaceBook) (route : Route) where
       said (calls.many_written route) _ (λ one. each one.1 (calls.write_many_call route one.0 one.1) (there refl))
   by_verb_on verb.ClearMany body there =
       said (calls.many_cleared route) _ (λ ranges. each ranges (calls.clear_many_call route ranges) (there refl))
-  by_verb_on verb.ReadFiltered body there = tt
-  by_verb_on verb.Item body there = tt
-  by_verb_on verb.Search body there = tt
+  by_verb_on verb.ReadFiltered body there =
+      said (calls.many_filtered route) _ (λ one. each one.0 (calls.read_filtered_call route one) (there refl))
+  by_verb_on verb.Item body there = bare body (Ok (calls.item_call route)) (there refl)
+  by_verb_on verb.Search body there =
+      said (calls.many_searched route) _ (λ filters. each filters (calls.search_call route filters) (there refl))
 
   -- a call that was read is on the spreadsheet of its route
   pub is_on : (body : List _) (told : Result Call CallFault) → (lacks : Bool) → lacks ≡ lacks_its_book books route

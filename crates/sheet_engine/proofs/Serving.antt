@@ -1,18 +1,17 @@
 -- What is answered is served, and what is accepted has a user and no content coding.
-use Rattle.std.proofs.Common.{◌≡◌, ℕ, Bool, true, false, List, Option, Some, None, MatchOption, Result, Ok, Err, refl, rules, sym, ap, subst, ◌∙◌}
+use Rattle.std.proofs.Common.{◌≡◌, ℕ, Bool, true, false, List, Option, Some, None, MatchOption, Result, Ok, Err, refl, rules, sym, subst}
 use Rattle.std.specs.Prelude.{if◌then◌else◌, not, IsSome, IsTrue, ◌==◌, ⊤}
 use Rattle.std.specs.List.{list_any}
 use Rattle.std.proofs.lemmas.Bool.{false≢true}
 use Rattle.world_model.specs.Book.{PlaceBook}
 use Rattle.dimension_ops.specs.declared.rule.Rule.{Rule}
-use Rattle.dimension_ops.specs.declared.rule.Rule.TheVariants as rule
 use Rattle.sheets_http.specs.declared.routes.Route.{Route}
 use Rattle.sheets_http.specs.declared.routes.RouteFault.{RouteFault}
 use Rattle.sheets_http.specs.declared.routes.RouteFault.TheVariants as unrouted
 use Rattle.sheets_json.specs.declared.answer.Answer.{Answer}
 use Rattle.sheets_json.specs.declared.call.Call.{Call}
 use Rattle.batch_engine.specs.declared.calls.Caller.{Caller}
-use Rattle.desk.specs.Steps.{Outcome, IsServed, served}
+use Rattle.desk.specs.Steps.{IsServed, served}
 use Rattle.desk.specs.declared.entry.Ask.{Ask}
 use Rattle.sheet_engine.specs.Asks.{IsAsked, IsAskedBy, asked_on, asked_for, caller_of, is_served, lacks_its_book, made_by, said_by}
 use Rattle.sheets_json.specs.Calls.{call_of}

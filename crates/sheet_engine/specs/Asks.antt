@@ -62,7 +62,6 @@ abbrev pub said_by : Result Call CallFault → Result Call Fault
 said_by (Ok call) = Ok call
 said_by (Err uncalled.BadBody) = Err fault.BadBody
 said_by (Err uncalled.EmptyBatch) = Err fault.EmptyBatch
-said_by (Err uncalled.NotRead) = Err fault.NoRoute
 said_by (Err uncalled.NoMemory) = Err fault.BadBody
 
 -- the spreadsheet that the call is on isn't there

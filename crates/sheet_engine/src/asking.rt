@@ -95,7 +95,6 @@ fn asked_on(
         Ok(call) => Ok(Ok(call)),
         Err(CallFault::BadBody) => Ok(Err(Fault::BadBody)),
         Err(CallFault::EmptyBatch) => Ok(Err(Fault::EmptyBatch)),
-        Err(CallFault::NotRead) => Ok(Err(Fault::NoRoute)),
         Err(CallFault::NoMemory) => Err(NoMemory),
     }
 }

@@ -1,10 +1,12 @@
 -- The command `serve`: its desk is always available, and what it tells is the history.
-use Rattle.std.proofs.Common.{◌≡◌, ◌≢◌, inl, inr, ℕ, Bool, true, false, List, length, sym, ap}
+use Rattle.std.proofs.Common.{◌≡◌, ◌≢◌, inl, inr, ℕ, Bool, true, false, List, length, drop, sym, ap}
 use Rattle.std.proofs.Common.{subst, ◌∙◌, arith}
-use Rattle.std.specs.Prelude.{Option, Some, IfSome, IsTrue, ◌==◌, ◌&&◌, if◌then◌else◌}
+use Rattle.std.specs.Prelude.{Option, Some, IfSome, All, IsTrue, ◌==◌, ◌&&◌, if◌then◌else◌}
 use Rattle.std.specs.List.{list_any}
+use Rattle.std.proofs.lemmas.List.Elements.{All-weaker}
 use Rattle.cell_value.specs.FaultCount.{Rose}
 use Rattle.history_lock.specs.declared.pass.Pass.{Pass}
+use Rattle.history_lock.specs.Passes.{seen_by, number_of, count_of}
 use Rattle.desk.specs.declared.entry.Ask.{Ask}
 use Rattle.desk.specs.declared.entry.Entry.{Entry}
 use Rattle.desk.specs.declared.entry.Noted.{Noted}
@@ -16,10 +18,10 @@ use Rattle.conversation.specs.Conversation.{Moment}
 use Rattle.connections.specs.Calls.{UserTable, ask_of}
 use Rattle.connections.specs.Doors.{Shown}
 use Rattle.serving.specs.declared.accepting.Served.{Served}
-use Rattle.serving.specs.Serving.{AreServed as AreServedAt}
+use Rattle.serving.specs.Serving.{AreServed as AreServedAt, Visit, HasVisitor}
 use Rattle.sheets_cli.specs.Program.{anyone}
 use Rattle.sheets_cli.specs.Serving.{MemoryDesk, IsAnsweredAt, IsAvailable, IsOpened, Tells, TellsHistory}
-use Rattle.sheets_cli.specs.Serving.{TellsBehind, ServesAll}
+use Rattle.sheets_cli.specs.Serving.{TellsBehind, IsVisited, ServesAll}
 
 never_true : false ≡ true → ⊥
 never_true e = cc
@@ -75,6 +77,20 @@ told_of cells entries calls count bytes written written' shortages shortages' en
           calls_are (subst (λ (n : ℕ). Tells calls count n written written' shortages shortages' end) bytes_are tells);
     }
 
+-- the first pass had number 0, no other number was drawn, and nothing was told
+all_visited : {E W : Type 0} (desk : MemoryDesk E W) (pass : Pass Noted) → IsOpened desk pass → (visits : List Visit)
+    (told : List Noted)
+    → All (HasVisitor (number_of pass) (count_of pass) visits) (drop (length (seen_by pass)) told)
+    → All (IsVisited visits) told
+all_visited desk pass opened visits told all =
+    subst (λ (l : List Noted). All (IsVisited visits) (drop (length l) told)) opened.seen_is
+    (All-weaker (HasVisitor (number_of pass) (count_of pass) visits) (IsVisited visits)
+    (λ item has. elim has [
+      | inl there ↦ there
+      | inr (low, other) ↦ absurd (other (omega (arith, low, opened.drawn_is, opened.number_is)))
+    ])
+    (drop (length (seen_by pass)) told) all)
+
 -- connections were served at a desk, and what is told is told
 pub serves_at : {E W : Type 0} (plain : List Entry → Ask → Outcome → Type 0) (cells : List Entry → ℕ → Type 0)
     (desk : MemoryDesk E W) (pass : Pass Noted) (users : UserTable) (limit : ℕ) (end end' : Served)
@@ -86,6 +102,9 @@ pub serves_at : {E W : Type 0} (plain : List Entry → Ask → Outcome → Type 
     → ServesAll E W plain cells limit before after by
 serves_at plain cells desk pass users limit end end' before after entries kept by law opened users_are end_is served
     told =
+    let these = subst (λ (u : UserTable). AreServedAt (IsAnsweredAt plain) desk u pass limit end' before.state
+    after.state entries 0 (Some kept)) users_are (subst (λ (e : Served). AreServedAt (IsAnsweredAt plain) desk
+    users pass limit e before.state after.state entries 0 (Some kept)) end_is served) in
     record {
       desk = desk;
       pass = pass;
@@ -94,8 +113,7 @@ serves_at plain cells desk pass users limit end end' before after entries kept b
       accepted = end';
       entries = entries;
       kept = kept;
-      served = subst (λ (u : UserTable). AreServedAt (IsAnsweredAt plain) desk u pass limit end' before.state
-          after.state entries 0 (Some kept)) users_are (subst (λ (e : Served). AreServedAt (IsAnsweredAt plain) desk
-          users pass limit e before.state after.state entries 0 (Some kept)) end_is served);
+      served = these;
+      visited = all_visited desk pass opened these.talked.visits these.told (these.visitors opened.alone);
       told = told;
     }

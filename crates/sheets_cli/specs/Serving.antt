@@ -1,11 +1,13 @@
 -- The command `serve`: connections that are served at a desk of their own, and the lines that tell what their history
 -- comes to.
-use Rattle.std.specs.Prelude.{◌≡◌, ◌≢◌, ◌⊎◌, ℕ, true, List, [], ◌++◌, length, codes, Option, Some, Result, Ok, Err}
+use Rattle.std.specs.Prelude.{◌≡◌, ◌≢◌, ◌⊎◌, ℕ, true, List, [], ◌++◌, All, map, length, codes, Option, Some, Result, Ok, Err}
 use Rattle.std.specs.Option.{option_map}
+use Rattle.std.specs.List.{Contains}
 use Rattle.sheets_http.specs.declared.outside.SinkFault.{SinkFault}
 use Rattle.sheets_http.specs.declared.request.Wire.{Wire}
 use Rattle.history_lock.specs.declared.pass.Pass.{Pass}
-use Rattle.history_lock.specs.Passes.{seen_by}
+use Rattle.history_lock.specs.declared.view.Drawing.TheVariants.{Alone}
+use Rattle.history_lock.specs.Passes.{seen_by, number_of, count_of, drawing_of}
 use Rattle.desk.specs.declared.desk.Desk.{Desk}
 use Rattle.desk.specs.declared.entry.Ask.{Ask}
 use Rattle.desk.specs.declared.entry.Entry.{Entry}
@@ -13,6 +15,7 @@ use Rattle.desk.specs.declared.entry.Noted.{Noted}
 use Rattle.desk.specs.declared.state.TheConstants.{LONGEST_JOURNAL}
 use Rattle.desk.specs.Desks.{IsPass, list_at, pair_at, callers_at}
 use Rattle.desk.specs.Journal.{journal_text}
+use Rattle.desk.specs.Points.{caller_of}
 use Rattle.desk.specs.Steps.{Outcome}
 use Rattle.conversation.specs.declared.ended.Ended.{Ended}
 use Rattle.conversation.specs.declared.ended.Ended.TheVariants.{End, ReadFault, NoMemory}
@@ -22,7 +25,7 @@ use Rattle.connections.specs.Calls.{UserTable, IsAnswer}
 use Rattle.connections.specs.Doors.{Shown, after_open}
 use Rattle.serving.specs.declared.accepting.Served.{Served}
 use Rattle.serving.specs.declared.accepting.Served.TheVariants as served
-use Rattle.serving.specs.Serving.{AreServed}
+use Rattle.serving.specs.Serving.{AreServed, Visit, visitor}
 use Rattle.sheets_cli.specs.declared.serve.TheConstants.{CALLERS}
 use Rattle.sheets_cli.specs.Program.{anyone, count_line}
 
@@ -42,13 +45,16 @@ IsAvailable plain desk =
     (answer : IsAnsweredAt plain desk users caller before wire after response) → answer.reply.status ≢ 503
 
 -- the desk was opened with an empty list, for so many callers, with the limit of a journal, and over a keeper that
--- hadn't failed; the pass is its first one
+-- hadn't failed; the pass is its first one, of number 0, and nobody else draws numbers
 pub record IsOpened {E W : Type 0} (desk : MemoryDesk E W) (pass : Pass Noted) : Type 0 where
   pub list_is : list_at desk ≡ []
   pub pair_is : pair_at desk ≡ (LONGEST_JOURNAL, 0)
   pub callers_are : callers_at desk ≡ CALLERS
   pub pass_is : IsPass desk pass
   pub seen_is : seen_by pass ≡ []
+  pub number_is : number_of pass ≡ 0
+  pub drawn_is : count_of pass ≡ 1
+  pub alone : drawing_of pass ≡ Alone
 
 -- three lines: how many calls were accepted, how many cells there are, and how many bytes the history's journal has
 abbrev pub summary_text : ℕ → ℕ → ℕ → List ℕ
@@ -84,9 +90,14 @@ TellsBehind cells served.All entries written written' shortages shortages' end =
 TellsBehind cells served.DoorFault entries written written' shortages shortages' end =
     (written' ≡ written) × (end ≡ ReadFault)
 
+-- the item is from the caller of one of these connections
+abbrev pub IsVisited : List Visit → Noted → Type 0
+IsVisited visits item = Contains (map visitor visits) (caller_of item)
+
 -- An engine answers as `plain` says, and its worlds have as many cells as `cells` says. At most so many connections
--- came in by open doors and were served at a new desk over it; what is told is the history with which that desk was
--- closed, and its journal is kept. Of a moment the state is what the doors show.
+-- came in by open doors and were served at a new desk over it, whose list has items of their callers alone; what is
+-- told is the history with which that desk was closed, and its journal is kept. Of a moment the state is what the doors
+-- show.
 pub record ServesAll (E W : Type 0) (plain : List Entry → Ask → Outcome → Type 0) (cells : List Entry → ℕ → Type 0)
     (limit : ℕ) (before after : Moment (Option Shown)) (end : Ended) : Type 0 where
   pub desk : MemoryDesk E W
@@ -98,6 +109,7 @@ pub record ServesAll (E W : Type 0) (plain : List Entry → Ask → Outcome → 
   pub kept : List ℕ
   pub served : AreServed (IsAnsweredAt plain) desk anyone pass limit accepted before.state after.state entries 0
       (Some kept)
+  pub visited : All (IsVisited served.talked.visits) served.told
   pub told : TellsBehind cells accepted entries before.written after.written before.shortages after.shortages end
 
 -- the moment at which the doors are opened on the port

@@ -14,6 +14,10 @@ use std::{io, thread};
 /// The errors of Linux that tell that there is no room for another connection: ENOMEM, ENFILE, EMFILE and ENOBUFS.
 const NO_ROOM: [i32; 4] = [12, 23, 24, 105];
 
+/// The errors of Linux by which an `accept` tells of a connection that failed before it was accepted, where they are of
+/// no kind that says so (accept(2)): ENONET, EPROTO, ENOPROTOOPT, EOPNOTSUPP and EHOSTDOWN.
+const GIVEN_UP: [i32; 5] = [64, 71, 92, 95, 112];
+
 /// How many milliseconds `accept` waits for room before it looks again.
 const PAUSE: u64 = 10;
 
@@ -110,7 +114,7 @@ fn next_stream<R: Clock>(rt: &R, listener: &Option<TcpListener>) -> io::Result<T
         match listener.accept() {
             Ok((stream, _)) => return Ok(stream),
             Err(error) if lacks_room(&error) => thread::sleep(rt, Duration::from_millis(PAUSE)),
-            Err(error) if is_given_up(error.kind()) => {}
+            Err(error) if is_given_up(&error) => {}
             Err(error) => return Err(error),
         }
     }
@@ -119,22 +123,28 @@ fn next_stream<R: Clock>(rt: &R, listener: &Option<TcpListener>) -> io::Result<T
 
 /// Whether the system has no room for another connection.
 fn lacks_room(error: &Error) -> bool {
+    has_code(error, &NO_ROOM)
+}
+
+/// Whether the error is one of the system's with one of these codes.
+fn has_code(error: &Error, codes: &[i32]) -> bool {
     error
         .raw_os_error()
-        .is_some_and(|code| NO_ROOM.contains(&code))
+        .is_some_and(|code| codes.contains(&code))
 }
 
 /// Whether an `accept` tells so of a connection that failed before it was accepted.
-fn is_given_up(kind: ErrorKind) -> bool {
-    matches!(
-        kind,
+fn is_given_up(error: &Error) -> bool {
+    let has_kind = matches!(
+        error.kind(),
         ErrorKind::ConnectionAborted
             | ErrorKind::ConnectionReset
             | ErrorKind::NetworkDown
             | ErrorKind::NetworkUnreachable
             | ErrorKind::HostUnreachable
             | ErrorKind::Interrupted
-    )
+    );
+    has_kind || has_code(error, &GIVEN_UP)
 }
 
 /// Ends what is written to a stream, and drops what is still read from it.

@@ -11,7 +11,7 @@ use Rattle.httparse.specs.Spans.{RequestOverflows}
 use Rattle.sheets_http.specs.Heads.{ends_with_empty_line, line_feeds, IsNoHead}
 use Rattle.sheets_http.specs.declared.summary.HeadSummary.{HeadSummary}
 use Rattle.sheets_http.specs.declared.summary.HeadError.{HeadError}
-use Rattle.sheets_http.specs.HeadReading.{IsHeadText, field_limit, SummaryOf, ReadsHead, of_head_text}
+use Rattle.sheets_http.specs.HeadReading.{IsHeadText, SummaryOf, ReadsHead, of_head_text}
 use Rattle.sheets_http.proofs.HeadLemmas.{line_feeds-append}
 
 -- ---- where it ends
@@ -131,14 +131,14 @@ head_is_all text h rest b reads =
         ]
 
 -- there is room for its fields: where they overflow, it is no head
-pub overflow_is_no_head : (text : List ℕ) (room : ℕ) → room ≡ field_limit → IsHeadText text → RequestOverflows room text
+pub overflow_is_no_head : (text : List ℕ) (room : ℕ) → line_feeds text ≤ room + 2 → RequestOverflows room text
     → IsNoHead text
-overflow_is_no_head text room size b overflows h reads =
+overflow_is_no_head text room few overflows h reads =
     let many : room < length h.fields =
     overflows [] h [] (reads.0, append-nil text ∙ reads.1) in
     let lines : line_feeds text ≡ line_feeds (print_request h) =
     ap line_feeds (reads.1 ∙ append-nil (print_request h)) in
-    absurd (omega (arith, printed_lines h, b.few))
+    absurd (omega (arith, printed_lines h, few))
 
 -- what the parser holds of a text is a head of the grammar, and its summary is the head's
 pub parsed_head : (text : List ℕ) (r : Request) (len : ℕ) (method target : List ℕ) (minor : ℕ)

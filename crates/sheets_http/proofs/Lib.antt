@@ -11,4 +11,5 @@ pub mod LawLemmas
 pub mod PartLemmas
 pub mod RouteLemmas
 pub mod QueryLemmas
+pub mod SplitLemmas
 pub mod OneCall

@@ -1,8 +1,10 @@
 -- Lists cut in two and put together again.
-use Rattle.std.proofs.Common.{◌≡◌, ℕ, zero, suc, ◌+◌, ◌-◌, ◌≤◌, Bool, ◌||◌, List, [], ◌∷◌, ◌++◌, map, length, take, drop, refl, sym, ap, ◌∙◌, arith}
-use Rattle.std.proofs.Math.Seq.{take-append-add}
-use Rattle.std.proofs.lemmas.List.{take_at, take_all, take-take, take-append-le, drop_at, drop-drop, take-append-drop, length-append, length-take-le, take_rest}
-use Rattle.std.specs.List.{list_any}
+use Rattle.std.proofs.Common.{◌≡◌, ℕ, zero, suc, ◌+◌, ◌-◌, ◌≤◌, Bool, ◌||◌, List, [], ◌∷◌, ◌++◌, map, length, take, drop, refl, sym, ap, ◌∙◌, arith, append_assoc}
+use Rattle.std.proofs.Math.Seq.{take-add}
+use Rattle.std.proofs.lemmas.List.{take_at, take-take, drop-drop, take-append-drop, length-drop, length-take-le, take_rest}
+use Rattle.std.proofs.lemmas.Slice.{between_is}
+use Rattle.std.specs.Prelude.{slice_range}
+use Rattle.std.specs.List.{list_any, copy_within}
 
 -- some image passes where some element's image does
 pub list_any-map : {X Y : Type 0} (p : Y → Bool) (f : X → Y) (xs : List X)
@@ -45,25 +47,35 @@ copied_then_rest s source copied buffer start count same few copy =
     let few' : count ≤ length (drop start s) = rw (← whole, ← same) few in
     rw (copy, same, whole) (copied_front s buffer start count few')
 
--- a list that was filled up to have room, and grew by the first items of what was read behind it
-pub grown : (old filled all pad read post more after : List ℕ) (held room count size : ℕ) → held ≡ length old
-    → filled ≡ all → all ≡ take room old ++ pad → held ≤ room → count ≤ length read → held + count ≤ size
-    → after ≡ take (held + count) (take size ((take held filled ++ (read ++ post)) ++ more))
-    → after ≡ old ++ take count read
-grown old filled all pad read post more after held room count size long same is_filled low few fits is =
-    let front : take held filled ≡ old =
-    ap (take held) (same ∙ is_filled ∙ ap (λ (t : List ℕ). t ++ pad) (take_all room old (omega (arith, long, low))))
-    ∙ take_at old pad held (sym long) in
-    let within : held + count ≤ length (old ++ (read ++ post)) =
-    omega (arith, length-append old (read ++ post), length-append read post) in
-    is
-    ∙ take-take (held + count) size ((take held filled ++ (read ++ post)) ++ more) fits
-    ∙ ap (λ (t : List ℕ). take (held + count) ((t ++ (read ++ post)) ++ more)) front
-    ∙ take-append-le (held + count) (old ++ (read ++ post)) more within
-    ∙ ap (λ n. take (n + count) (old ++ (read ++ post))) long
-    ∙ take-append-add old (read ++ post) count
-    ∙ ap (λ (t : List ℕ). old ++ t) (take-append-le count read post few)
+-- a part of a list that was lent
+pub lent_part : (lent bytes : List ℕ) (start end : ℕ) → lent ≡ bytes
+    → take (end - start) (drop start lent) ≡ drop start (take end bytes)
+lent_part lent bytes start end same =
+    between_is lent start end ∙ ap (λ (t : List ℕ). drop start (take end t)) same
 
--- what it grew by
-pub grown_by : (old after t : List ℕ) → after ≡ old ++ t → drop (length old) after ≡ t
-grown_by old after t is = ap (drop (length old)) is ∙ drop_at old t (length old) refl
+-- what stands in front stays where something is put behind it
+pub front_stays : (held size : ℕ) (all behind more : List ℕ) → held ≤ length all → held ≤ size
+    → take held (take size ((take held all ++ behind) ++ more)) ≡ take held all
+front_stays held size all behind more within low =
+    take-take held size ((take held all ++ behind) ++ more) low
+    ∙ ap (take held) (append_assoc (take held all) behind more)
+    ∙ take_at (take held all) (behind ++ more) held (length-take-le held all within)
+
+-- and what was put there stands behind it
+pub front_and_behind : (old now : List ℕ) (held count : ℕ) → take held now ≡ take held old
+    → take (held + count) now ≡ take held old ++ slice_range now held (held + count)
+front_and_behind old now held count front =
+    let behind : count ≡ held + count - held = omega arith in
+    take-add held count now
+    ∙ ap (λ (t : List ℕ). t ++ take count (drop held now)) front
+    ∙ ap (λ n. take held old ++ take n (drop held now)) behind
+
+-- a part that was moved to the front of its list
+pub moved_to_front : (bytes moved : List ℕ) (start end : ℕ) → end ≤ length bytes
+    → moved ≡ copy_within bytes start end 0 → take (end - start) moved ≡ drop start (take end bytes)
+moved_to_front bytes moved start end within is =
+    let long : length (take (end - start) (drop start bytes)) ≡ end - start =
+    length-take-le (end - start) (drop start bytes) (omega (arith, length-drop start bytes)) in
+    ap (take (end - start)) is
+    ∙ take_at (take (end - start) (drop start bytes)) (drop (0 + (end - start)) bytes) (end - start) long
+    ∙ between_is bytes start end

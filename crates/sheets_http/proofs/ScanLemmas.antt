@@ -12,7 +12,7 @@ use Rattle.sheets_http.specs.declared.scan.HeadScan.{HeadScan}
 use Rattle.sheets_http.specs.declared.summary.HeadSummary.{HeadSummary}
 use Rattle.sheets_http.specs.declared.summary.HeadError.TheVariants as error
 use Rattle.sheets_http.specs.declared.scanned.Scanned.TheVariants as scanned
-use Rattle.sheets_http.specs.Heads.{skip_breaks, is_too_long, head_state, SettledAt, IsUnsettled, IsNoHead}
+use Rattle.sheets_http.specs.Heads.{skip_breaks, line_feeds, is_too_long, head_state, SettledAt, IsUnsettled, IsNoHead}
 use Rattle.sheets_http.specs.Scanning.{IsScan}
 use Rattle.sheets_http.specs.HeadReading.{IsHeadText, ReadsHead, of_head_text, of_other_text}
 use Rattle.sheets_http.specs.Framing.{refused_message, of_head, of_no_head, BeginsWith, whole_head}
@@ -72,6 +72,11 @@ seen_is_head_text scan bytes l =
           rw (take-take m size head (omega (arith, inside))) (l.no_end m (omega (arith, inside, l.ordered)));
       few = rw (← text_is_cut bytes scan.skipped scan.seen l.ordered l.text, l.text, ← l.feeds) l.few;
     }
+
+-- and has as many lines as line feeds were seen
+pub seen_lines : (scan : HeadScan) (bytes : List ℕ) → IsScan scan bytes
+    → line_feeds (take (scan.seen - scan.skipped) (drop scan.skipped bytes)) ≡ scan.feeds
+seen_lines scan bytes l = rw (← text_is_cut bytes scan.skipped scan.seen l.ordered l.text, l.text) (sym l.feeds)
 
 pub seen_text : (scan : HeadScan) (bytes : List ℕ) (end : ℕ) → IsScan scan bytes → scan.seen ≤ end
     → take (scan.seen - scan.skipped) (drop scan.skipped bytes) ≡ skip_breaks (take scan.seen (take end bytes))

@@ -1,5 +1,5 @@
 -- What reading the text of a head answers.
-use Rattle.std.specs.Prelude.{◌≡◌, ℕ, ◌-◌, ◌<◌, ◌≤◌, false, List, [], length, take, Result, Ok, Err, ⊤}
+use Rattle.std.specs.Prelude.{◌≡◌, ℕ, ◌<◌, ◌≤◌, false, List, [], length, take, Result, Ok, Err, ⊤}
 use Rattle.httparse.specs.Grammar.{RequestHead, ReadsRequest}
 use Rattle.sheets_http.specs.declared.request.HeadFault.TheVariants.{BadHead}
 use Rattle.sheets_http.specs.declared.summary.HeadSummary.{HeadSummary}
@@ -14,10 +14,6 @@ use Rattle.sheets_http.specs.Callers.{user_token, project}
 pub record IsHeadText (text : List ℕ) : Type 0 where
   pub no_end : (m : ℕ) → m < length text → ends_with_empty_line (take m text) ≡ false
   pub few : line_feeds text ≤ line_limit
-
--- there is room for so many fields: with the request line and the empty line, as many as a head has lines
-abbrev pub field_limit : ℕ
-field_limit = line_limit - 2
 
 -- the summary has the parts of a request line and its fields
 pub record IsSummary (method target : List ℕ) (minor : ℕ) (fields : Fields) (summary : HeadSummary) : Type 0 where

@@ -3,7 +3,7 @@ use Rattle.std.specs.Prelude.{ℕ, Bool, true, ◌||◌, ◌&&◌, not, List, []
 use Rattle.std.specs.List.{list_any, list_all}
 use Rattle.std.specs.Str.{bytes_eq}
 use Rattle.std.specs.Str.Lossy.{utf8_lossy}
-use Rattle.form_urlencoded.specs.Form.{raw_pairs, decode}
+use Rattle.form_urlencoded.specs.Form.{raw_pairs, split_pair, decode}
 use Rattle.sheets_http.specs.declared.verb.Verb.{Verb}
 use Rattle.sheets_http.specs.declared.table.Member.TheVariants.{Ranges}
 use Rattle.sheets_http.specs.declared.table.Member.{Member}
@@ -13,9 +13,17 @@ use Rattle.sheets_http.specs.Table.{line, common, name_of, allows}
 abbrev pub form_text : List ℕ → List ℕ
 form_text raw = utf8_lossy (decode raw)
 
+-- a name and a value, decoded
+abbrev pub decoded_pair : List ℕ × List ℕ → List ℕ × List ℕ
+decoded_pair pair = (form_text pair.0, form_text pair.1)
+
+-- the member of a piece: its name and its value stand on the two sides of the first =
+abbrev pub member_of : List ℕ → List ℕ × List ℕ
+member_of piece = decoded_pair (split_pair piece)
+
 -- the members of a query: the pairs between the &, of which an empty piece is none
 abbrev pub members_of : List ℕ → List (List ℕ × List ℕ)
-members_of query = map (λ pair. (form_text pair.0, form_text pair.1)) (raw_pairs query)
+members_of query = map decoded_pair (raw_pairs query)
 
 -- ---- which queries a call takes
 
@@ -29,7 +37,7 @@ is_admitted members given = list_any (λ member. is_named (name_of member) given
 -- the call has such a member, with such a value
 abbrev pub takes_member : Verb → List ℕ × List ℕ → Bool
 takes_member verb given =
-    is_admitted common given || (is_admitted (line verb).required given || is_admitted (line verb).optional given)
+    is_admitted (line verb).required given || (is_admitted (line verb).optional given || is_admitted common given)
 
 -- no name stands twice but that of the ranges
 abbrev pub has_no_name_twice : List (List ℕ × List ℕ) → Bool

@@ -1,4 +1,4 @@
-ghost use Rattle.std.specs.Prelude.{◌≡◌, ◌≢◌, ℕ, ◌+◌, ◌-◌, ◌^◌, ◌<◌, ◌≤◌, List, [], ◌++◌, length, take, drop, vec_len, IfOk, OnOk, OnErr, IfSome};
+ghost use Rattle.std.specs.Prelude.{◌≡◌, ◌≢◌, ℕ, ◌+◌, ◌-◌, ◌^◌, ◌<◌, ◌≤◌, List, [], ◌++◌, length, take, drop, slice_range, vec_len, IfOk, OnOk, OnErr, IfSome};
 ghost use Rattle.std.specs.Option.{option_map};
 ghost use Rattle.cell_value.specs.FaultCount.{Rose};
 ghost use Rattle.sheets_http.specs.Outside.{StaysSteady};
@@ -17,24 +17,28 @@ const PIECE: usize = 8_192;
 
 /// The bytes of a stream that were read and not used yet. Contracts see these, and how many bytes
 /// of the stream were used before them.
+///
+/// They stand from `start` to `end`, and behind them is room.
 #[derive(Debug, Drop)]
 pub struct Buffer {
     bytes: Vec<u8>,
     start: usize,
+    end: usize,
     used: u64,
     scan: HeadScan,
 }
 
 impl Model for Buffer {
-    ghost use Rattle.std.specs.Prelude.{◌≤◌, drop, vec_len};
+    ghost use Rattle.std.specs.Prelude.{◌≤◌, take, drop, vec_len};
     ghost use Rattle.sheets_http.specs.Requests.{Buffered};
     ghost use Rattle.sheets_http.specs.Buffering.{IsReady};
 
     ghost Value = { Buffered };
 
-    ghost view = { λ b. record { pending = drop b.start b.bytes.items; used = b.used } };
+    ghost view = { λ b. record { pending = drop b.start (take b.end b.bytes.items); used = b.used } };
 
-    ghost invariant = { λ b. (b.start ≤ vec_len b.bytes) × IsReady b.scan (drop b.start b.bytes.items) };
+    ghost invariant = { λ b. (b.start ≤ b.end) × (b.end ≤ vec_len b.bytes)
+        × IsReady b.scan (drop b.start (take b.end b.bytes.items)) };
 }
 
 /// Why no more bytes were read.
@@ -56,6 +60,7 @@ impl Buffer {
         Ok(Buffer {
             bytes: Vec::with_capacity(alloc, PIECE)?,
             start: 0,
+            end: 0,
             used: 0,
             scan: HeadScan::START,
         })
@@ -65,7 +70,7 @@ impl Buffer {
     pub(crate) fn pending(&self) -> &[u8]
         ensures { result.now ≡ self.now.pending }
     {
-        &self.bytes[self.start..]
+        &self.bytes[self.start..self.end]
     }
 
     /// How many bytes of the stream were used.
@@ -80,7 +85,12 @@ impl Buffer {
         ensures same { self.new ≡ self.old }
         ensures scanned { IsScanned (take room self.old.pending) result }
     {
-        scan_on(alloc, &mut self.scan, &self.bytes[self.start..], room)
+        scan_on(
+            alloc,
+            &mut self.scan,
+            &self.bytes[self.start..self.end],
+            room,
+        )
     }
 
     /// Uses the first bytes that are held.
@@ -113,7 +123,9 @@ impl Buffer {
         ensures beside { S.beside source.new ≡ S.beside source.old }
     {
         self.compact();
-        read_behind(source, &mut self.bytes)
+        let count = read_behind(source, &mut self.bytes, self.end)?;
+        self.end += count;
+        Ok(count)
     }
 
     /// Moves the bytes that are held to the front.
@@ -121,21 +133,27 @@ impl Buffer {
         ensures { self.new ≡ self.old }
     {
         if self.start > 0 {
-            let count = self.bytes.len() - self.start;
-            self.bytes.copy_within(self.start.., 0);
-            self.bytes.truncate(count);
+            self.bytes.copy_within(self.start..self.end, 0);
+            self.end -= self.start;
             self.start = 0;
         }
     }
 }
 
-/// Reads more bytes behind those that are held, and answers how many.
-fn read_behind<S: Source>(source: &mut S, bytes: &mut Vec<u8>) -> Result<usize, FillError>
-    ensures kept { bytes.new.items ≡ bytes.old.items ++ drop (vec_len bytes.old) bytes.new.items }
-    ensures given { OnOk result (S.left source.old
-        ≡ option_map (λ rest. drop (vec_len bytes.old) bytes.new.items ++ rest) (S.left source.new)) }
-    ensures grown { IfOk result (λ count. vec_len bytes.new ≡ vec_len bytes.old + count) }
-    ensures err { OnErr result (bytes.new.items ≡ bytes.old.items) }
+/// Reads more bytes behind the first `held`, and answers how many.
+fn read_behind<S: Source>(
+    source: &mut S,
+    bytes: &mut Vec<u8>,
+    held: usize,
+) -> Result<usize, FillError>
+    requires { held ≤ vec_len bytes.old }
+    ensures long { held ≤ vec_len bytes.new }
+    ensures grown { IfOk result (λ count. held + count ≤ vec_len bytes.new) }
+    ensures kept { IfOk result (λ count. take (held + count) bytes.new.items
+        ≡ take held bytes.old.items ++ slice_range bytes.new.items held (held + count)) }
+    ensures given { IfOk result (λ count. S.left source.old
+        ≡ option_map (λ rest. slice_range bytes.new.items held (held + count) ++ rest) (S.left source.new)) }
+    ensures err { OnErr result (take held bytes.new.items ≡ take held bytes.old.items) }
     ensures err_left { OnErr result (S.left source.old ≡ S.left source.new) }
     ensures no_more { result ≡ Ok 0 → IfSome (S.left source.new) (λ rest. rest ≡ []) }
     ensures fault { result ≡ Err FillError.Failed → Rose (S.faults source.old) (S.faults source.new) }
@@ -144,18 +162,24 @@ fn read_behind<S: Source>(source: &mut S, bytes: &mut Vec<u8>) -> Result<usize, 
         (S.faults source.new) }
     ensures beside { S.beside source.new ≡ S.beside source.old }
 {
-    let held = bytes.len();
-    let Ok(()) = bytes.resize(held + PIECE, 0) else {
+    let room = held + PIECE;
+    let Ok(()) = make_room(bytes, room) else {
         return Err(FillError::NoMemory);
     };
-    match source.read(&mut bytes[held..]) {
-        Ok(count) => {
-            bytes.truncate(held + count);
-            Ok(count)
-        }
-        Err(_) => {
-            bytes.truncate(held);
-            Err(FillError::Failed)
-        }
+    match source.read(&mut bytes[held..room]) {
+        Ok(count) => Ok(count),
+        Err(_) => Err(FillError::Failed),
     }
+}
+
+/// Makes the bytes as many as `room`, where they are fewer.
+fn make_room(bytes: &mut Vec<u8>, room: usize) -> Result<(), NoMemory>
+    ensures long { OnOk result (room ≤ vec_len bytes.new) }
+    ensures grown { vec_len bytes.old ≤ vec_len bytes.new }
+    ensures kept { take (vec_len bytes.old) bytes.new.items ≡ bytes.old.items }
+{
+    if bytes.len() < room {
+        bytes.resize(room, 0)?;
+    }
+    Ok(())
 }

@@ -17,6 +17,7 @@ mod routing;
 mod scan;
 mod scanned;
 mod sending;
+mod split;
 mod summary;
 mod table;
 mod users;

@@ -1,50 +1,59 @@
 ghost use Rattle.std.specs.Prelude.{◌≡◌, IfOk, IfSome};
 ghost use Rattle.std.specs.List.{list_any, list_all};
 ghost use Rattle.sheets_http.specs.Table.{name_of};
-ghost use Rattle.sheets_http.specs.Queries.{form_text, members_of, is_named, is_admitted, takes_member, has_no_name_twice, has_required, fits_query};
+ghost use Rattle.sheets_http.specs.Queries.{form_text, member_of, members_of, is_named, is_admitted, takes_member, has_no_name_twice, has_required, fits_query};
 
 use crate::Verb;
+use crate::split::split_first;
 use crate::table::{COMMON, Member};
 use cell_value::{Items, NoMemory, Text};
-use form_urlencoded::{decode, raw_pairs};
+use form_urlencoded::decode;
 use memchr::memchr2;
 use std::alloc::Global;
 
 /// The names and the values of a query's members, in order.
-pub(crate) fn members_of(alloc: Global, query: &[u8]) -> Result<Items<(Text, Text)>, NoMemory>
+pub(crate) fn members_of(alloc: Global, query: &str) -> Result<Items<(Text, Text)>, NoMemory>
     ensures { IfOk result (λ members. members ≡ members_of query.now) }
 {
     let mut members = Vec::new(alloc);
-    let mut pairs = raw_pairs(query);
-    while let Some((name, value)) = pairs.next() {
-        let name = form_text(alloc, name)?;
-        let value = form_text(alloc, value)?;
-        members.push((name, value))?;
+    let mut rest = query;
+    while !rest.is_empty() {
+        let (piece, behind) = split_first(rest, b'&');
+        rest = behind;
+        if piece.is_empty() {
+            continue;
+        }
+        members.push(member_of(alloc, piece)?)?;
     }
     Ok(Items::of(members))
 }
 
+/// The name and the value of a member.
+fn member_of(alloc: Global, piece: &str) -> Result<(Text, Text), NoMemory>
+    ensures { IfOk result (λ member. member ≡ member_of piece.now) }
+{
+    let (name, value) = split_first(piece, b'=');
+    Ok((form_text(alloc, name)?, form_text(alloc, value)?))
+}
+
 /// A name or a value, decoded.
-fn form_text(alloc: Global, raw: &[u8]) -> Result<Text, NoMemory>
+fn form_text(alloc: Global, raw: &str) -> Result<Text, NoMemory>
     ensures { IfOk result (λ text. text ≡ form_text raw.now) }
 {
     let text = match plain_text(raw) {
         Some(text) => String::from_str(alloc, text)?,
-        None => decode(alloc, raw)?.into_owned(alloc)?,
+        None => decode(alloc, raw.as_bytes())?.into_owned(alloc)?,
     };
     Ok(Text::of(text))
 }
 
-/// A name or a value that stands for itself, as most do: it is UTF-8, and has no `+` and no `%`.
-fn plain_text(raw: &[u8]) -> Option<&str>
+/// A name or a value that stands for itself, as most do: it has no `+` and no `%`.
+fn plain_text(raw: &str) -> Option<&str>
     ensures { IfSome result (λ text. text.now ≡ form_text raw.now) }
 {
-    if memchr2(b'+', b'%', raw).is_some() {
-        return None;
-    }
-    match str::from_utf8(raw) {
-        Ok(text) => Some(text),
-        Err(_) => None,
+    match memchr2(b'+', b'%', raw.as_bytes()) {
+        Some(_) => None,
+        None => Some(raw),
     }
 }
 
@@ -67,9 +76,9 @@ fn takes_member(verb: Verb, given: &(Text, Text)) -> bool
     ensures { result ≡ takes_member verb given.now }
 {
     let line = verb.line();
-    is_admitted(COMMON, given)
-        || is_admitted(line.required, given)
+    is_admitted(line.required, given)
         || is_admitted(line.optional, given)
+        || is_admitted(COMMON, given)
 }
 
 /// Whether it is one of these, with a value that it may have.

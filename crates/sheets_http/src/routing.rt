@@ -5,6 +5,7 @@ ghost use Rattle.sheets_http.specs.Routes.{FitsSegment, raw_segments, path_of, q
 ghost use Rattle.sheets_http.specs.Routing.{IsPlain, ArePlain, raw_at, FitsOn, FitsCall, FindsCall, RoutesCall};
 
 use crate::query::{fits_query, members_of};
+use crate::split::{split_first, split_once};
 use crate::table::Segment;
 use crate::{Route, RouteFault, Verb};
 use cell_value::{NoMemory, Text};
@@ -62,10 +63,7 @@ fn split_target(target: &str) -> (&str, &str)
     ensures path { result.0.now ≡ path_of target.now }
     ensures query { result.1.now ≡ query_of target.now }
 {
-    match target.split_once('?') {
-        Some((path, query)) => (path, query),
-        None => (target, ""),
-    }
+    split_first(target, b'?')
 }
 
 /// Whether a path has no escape, as most have none.
@@ -120,7 +118,7 @@ fn split_segment(path: &str) -> (&str, Option<&str>)
     ensures { MatchOption result.1 (raw_segments path.now ≡ result.0.now ∷ [])
         (λ rest. raw_segments path.now ≡ result.0.now ∷ raw_segments rest.now) }
 {
-    match path.split_once('/') {
+    match split_once(path, b'/') {
         Some((segment, rest)) => (segment, Some(rest)),
         None => (path, None),
     }
@@ -196,7 +194,7 @@ fn route_call(
     requires plain_last { IsTrue plain → IsPlain fitted.last.now }
     ensures { RoutesCall verb fitted.entry query.now result }
 {
-    let query = members_of(alloc, query.as_bytes())?;
+    let query = members_of(alloc, query)?;
     if !fits_query(verb, query.as_slice()) {
         return Err(RouteFault::BadQuery);
     }

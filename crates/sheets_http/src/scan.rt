@@ -155,7 +155,7 @@ fn ends_with_empty_line(bytes: &[u8]) -> bool
 fn has_end(bytes: &[u8], end: &[u8]) -> bool
     ensures { result ≡ ends_with nat_eq bytes.now end.now }
 {
-    end == &bytes[bytes.len().saturating_sub(end.len())..]
+    bytes.len() >= end.len() && end == &bytes[bytes.len() - end.len()..]
 }
 
 /// Whether a head that isn't whole has too many bytes or lines.

@@ -37,7 +37,7 @@ pub(crate) fn scan_on(
             Ok(Scanned::Growing)
         }
         HeadState::TooLong => Ok(Scanned::Refused(HeadFault::HeadLong)),
-        HeadState::Whole => match read_head(alloc, &bytes[on.skipped..on.seen]) {
+        HeadState::Whole => match read_head(alloc, &bytes[on.skipped..on.seen], on.feeds) {
             Ok(summary) => Ok(Scanned::Head(summary, on.seen)),
             Err(HeadError::Fault(fault)) => Ok(Scanned::Refused(fault)),
             Err(HeadError::NoMemory) => Err(NoMemory),

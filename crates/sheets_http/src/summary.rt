@@ -1,6 +1,7 @@
-ghost use Rattle.std.specs.Prelude.{◌≡◌, map, Ok, IfOk};
+ghost use Rattle.std.specs.Prelude.{◌≡◌, ◌+◌, ◌≤◌, map, length, Ok, IfOk};
 ghost use Rattle.std.specs.Option.{option_copied};
 ghost use Rattle.httparse.specs.Borrowed.{header_parts};
+ghost use Rattle.sheets_http.specs.Heads.{line_feeds};
 ghost use Rattle.sheets_http.specs.HeadReading.{IsHeadText, IsSummary, SummaryOf, ReadsHead};
 ghost use Rattle.sheets_http.specs.BodyLengths.{body_length};
 
@@ -12,9 +13,14 @@ use cell_value::{NoMemory, Text};
 use httparse::{EMPTY_HEADER, Header, Request, Status};
 use std::alloc::Global;
 
-/// How many fields there is room for: with the request line and the empty line, as many as a head
-/// has lines at most.
-const FIELD_LIMIT: usize = LINE_LIMIT - 2;
+/// How many lines a head has besides its fields: the request line and the empty line.
+const OTHER_LINES: usize = 2;
+
+/// How many fields a head has at most.
+const FIELD_LIMIT: usize = LINE_LIMIT - OTHER_LINES;
+
+/// How many fields most heads have at most, for which room is soon made.
+const FEW_FIELDS: usize = 16;
 
 /// What a head says that matters.
 #[derive(Debug, Drop)]
@@ -35,13 +41,38 @@ pub(crate) enum HeadError {
     NoMemory,
 }
 
-/// Reads the text of a head.
-pub(crate) fn read_head(alloc: Global, head: &[u8]) -> Result<HeadSummary, HeadError>
+/// Reads the text of a head of so many lines.
+pub(crate) fn read_head(alloc: Global, head: &[u8], lines: usize) -> Result<HeadSummary, HeadError>
+    requires text { IsHeadText head.now }
+    requires lines { line_feeds head.now ≡ lines }
+    ensures { ReadsHead head.now result }
+{
+    if lines <= FEW_FIELDS + OTHER_LINES {
+        read_fields(alloc, head, &mut [EMPTY_HEADER; FEW_FIELDS])
+    } else {
+        read_many_fields(alloc, head)
+    }
+}
+
+/// The same of any head. Its room is made in a call of its own, which other heads don't pay for.
+fn read_many_fields(alloc: Global, head: &[u8]) -> Result<HeadSummary, HeadError>
     requires { IsHeadText head.now }
     ensures { ReadsHead head.now result }
 {
-    let mut headers = [EMPTY_HEADER; FIELD_LIMIT];
-    let mut request = Request::new(&mut headers);
+    read_fields(alloc, head, &mut [EMPTY_HEADER; FIELD_LIMIT])
+}
+
+/// The same with room for its fields.
+fn read_fields<'a>(
+    alloc: Global,
+    head: &'a [u8],
+    room: &mut [Header<'a>],
+) -> Result<HeadSummary, HeadError>
+    requires text { IsHeadText head.now }
+    requires room { line_feeds head.now ≤ length room.old + 2 }
+    ensures { ReadsHead head.now result }
+{
+    let mut request = Request::new(room);
     match request.parse(head) {
         Ok(Status::Complete(_)) => {
             let method = request.method.unwrap();

@@ -1,9 +1,11 @@
 -- The bodies of calls on several things (Google Sheets API v4 reference, spreadsheets.batchUpdate,
--- spreadsheets.values.batchUpdate and spreadsheets.values.batchClear).
+-- spreadsheets.values.batchUpdate, spreadsheets.values.batchClear, spreadsheets.values.batchGetByDataFilter and
+-- spreadsheets.developerMetadata.search).
 use Rattle.std.specs.Prelude.{ℕ, List, codes, if◌then◌else◌, Option, None, Some, option_map, Result, Ok, Err, ⊤}
 use Rattle.std.specs.Str.{is_utf8}
 use Rattle.serde_json.specs.Data.{Data}
 use Rattle.serde_json.specs.Read.{read as read_text}
+use Rattle.grid_range.specs.declared.axis.Axis.{Axis}
 use Rattle.cell_value.specs.declared.cell.Render.{Render}
 use Rattle.cell_value.specs.declared.entered.Mode.{Mode}
 use Rattle.sheets_json.specs.declared.call.CallFault.{CallFault}
@@ -12,8 +14,11 @@ use Rattle.sheets_json.specs.declared.call.RangeBlock.{RangeBlock}
 use Rattle.json_shapes.specs.Reading.{Reading, Shape}
 use Rattle.json_shapes.specs.Members.{Fields, optional, required, also, making, first_part, object_of}
 use Rattle.json_shapes.specs.Shapes.{text, word, kept, list_of, only_false, anything}
-use Rattle.json_shapes.specs.Words.{mode_named, render_named}
+use Rattle.json_shapes.specs.Words.{dimension_named, mode_named, render_named}
+use Rattle.json_requests.specs.declared.request.DataFilter.{DataFilter}
+use Rattle.json_requests.specs.declared.request.MetadataLookup.{MetadataLookup}
 use Rattle.json_requests.specs.declared.request.Step.{Step}
+use Rattle.json_requests.specs.Metadata.{data_filter, lookup_alone}
 use Rattle.json_requests.specs.Requests.{step_shape}
 use Rattle.sheets_json.specs.ValueRanges.{range_block}
 
@@ -48,6 +53,23 @@ abbrev pub write_many : Fields (Mode × List (Reading RangeBlock))
 write_many members =
     under_mode data_blocks (required (codes "valueInputOption") (word mode_named) members).read
     (required (codes "valueInputOption") (word mode_named) members).left
+
+-- ---- filters of data
+
+-- how the values are shown; how dates are shown changes nothing
+abbrev pub shown_as : Fields (Option Axis × Option Render)
+shown_as =
+    making first_part (also (also
+    (optional (codes "majorDimension") (word dimension_named))
+    (optional (codes "valueRenderOption") (word render_named)))
+    (optional (codes "dateTimeRenderOption") anything))
+
+abbrev pub read_filtered : Fields (List (Reading DataFilter) × (Option Axis × Option Render))
+read_filtered = also (required (codes "dataFilters") (list_of (kept (object_of data_filter)))) shown_as
+
+-- metadata is looked for, so that a filter of cells is unsupported
+abbrev pub search : Fields (List (Reading MetadataLookup))
+search = required (codes "dataFilters") (list_of (kept lookup_alone))
 
 -- ---- a batch
 

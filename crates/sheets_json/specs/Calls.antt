@@ -9,19 +9,22 @@ use Rattle.sheets_http.specs.declared.verb.Verb.{Verb}
 use Rattle.sheets_http.specs.declared.verb.Verb.TheVariants as verb
 use Rattle.sheets_json.specs.declared.call.Call.{Call}
 use Rattle.sheets_json.specs.declared.call.Call.TheVariants as call
+use Rattle.json_requests.specs.declared.request.DataFilter.{DataFilter}
+use Rattle.json_requests.specs.declared.request.MetadataLookup.{MetadataLookup}
 use Rattle.json_requests.specs.declared.request.Step.{Step}
+use Rattle.json_requests.specs.WholeTexts.{index_named}
 use Rattle.sheets_json.specs.declared.call.NewSpreadsheet.{NewSpreadsheet}
 use Rattle.sheets_json.specs.declared.call.ValueRange.{ValueRange}
 use Rattle.sheets_json.specs.declared.call.RangeBlock.{RangeBlock}
 use Rattle.sheets_json.specs.declared.call.CallFault.{CallFault}
-use Rattle.sheets_json.specs.declared.call.CallFault.TheVariants.{BadBody, EmptyBatch, NotRead}
+use Rattle.sheets_json.specs.declared.call.CallFault.TheVariants.{BadBody, EmptyBatch}
 use Rattle.json_shapes.specs.Reading.{Reading}
 use Rattle.json_shapes.specs.Members.{object_of}
 use Rattle.json_shapes.specs.Words.{dimension_named, render_named, mode_named}
 use Rattle.sheets_json.specs.Words.{insert_named, truth_named, query_values, query_word}
 use Rattle.sheets_json.specs.ValueRanges.{value_range}
 use Rattle.sheets_json.specs.Creations.{new_spreadsheet}
-use Rattle.sheets_json.specs.Bodies.{body_as, batch, no_fields, clear_many, write_many}
+use Rattle.sheets_json.specs.Bodies.{body_as, batch, no_fields, clear_many, write_many, read_filtered, search}
 
 -- how texts are taken, which a query of such a call says
 abbrev pub mode_of : Route → Mode
@@ -33,6 +36,10 @@ dimension_of route = query_word dimension_named (codes "majorDimension") route.q
 
 abbrev pub render_of : Route → Option Render
 render_of route = query_word render_named (codes "valueRenderOption") route.query
+
+-- the id of an item of metadata, an index in digits, which the path of such a call says
+abbrev pub item_id_of : Route → ℕ
+item_id_of route = unwrap_or (index_named route.id) 0
 
 -- ---- the calls
 
@@ -67,6 +74,15 @@ write_many_call route mode blocks = call.WriteMany route.book mode blocks
 
 abbrev pub clear_many_call : Route → List (Reading (List ℕ)) → Call
 clear_many_call route ranges = call.ClearMany route.book ranges
+
+abbrev pub read_filtered_call : Route → List (Reading DataFilter) × (Option Axis × Option Render) → Call
+read_filtered_call route said = call.ReadFiltered route.book said.0 said.1.0 said.1.1
+
+abbrev pub item_call : Route → Call
+item_call route = call.Item route.book (item_id_of route)
+
+abbrev pub search_call : Route → List (Reading MetadataLookup) → Call
+search_call route filters = call.Search route.book filters
 
 -- ---- with their bodies
 
@@ -137,6 +153,21 @@ many_cleared route ranges = unless_none ranges (clear_many_call route ranges)
 abbrev pub clear_many_of : Route → List ℕ → Result Call CallFault
 clear_many_of route body = after_body (many_cleared route) (body_as (object_of clear_many) body)
 
+abbrev pub many_filtered : Route → List (Reading DataFilter) × (Option Axis × Option Render) → Result Call CallFault
+many_filtered route said = unless_none said.0 (read_filtered_call route said)
+
+abbrev pub read_filtered_of : Route → List ℕ → Result Call CallFault
+read_filtered_of route body = after_body (many_filtered route) (body_as (object_of read_filtered) body)
+
+abbrev pub item_of : Route → List ℕ → Result Call CallFault
+item_of route body = without_body body (Ok (item_call route))
+
+abbrev pub many_searched : Route → List (Reading MetadataLookup) → Result Call CallFault
+many_searched route filters = unless_none filters (search_call route filters)
+
+abbrev pub search_of : Route → List ℕ → Result Call CallFault
+search_of route body = after_body (many_searched route) (body_as (object_of search) body)
+
 -- ---- all of them
 
 abbrev pub by_verb : Verb → Route → List ℕ → Result Call CallFault
@@ -150,9 +181,9 @@ by_verb verb.Clear route body = clear_of route body
 by_verb verb.ReadMany route body = read_many_of route body
 by_verb verb.WriteMany route body = write_many_of route body
 by_verb verb.ClearMany route body = clear_many_of route body
-by_verb verb.ReadFiltered route body = Err NotRead
-by_verb verb.Item route body = Err NotRead
-by_verb verb.Search route body = Err NotRead
+by_verb verb.ReadFiltered route body = read_filtered_of route body
+by_verb verb.Item route body = item_of route body
+by_verb verb.Search route body = search_of route body
 
 abbrev pub call_of : Route → List ℕ → Result Call CallFault
 call_of route body = by_verb route.verb route body

@@ -10,7 +10,6 @@ use Rattle.sheets_json.specs.declared.place.Place.TheVariants as place
 abbrev pub call_fault_text : CallFault → List ℕ
 call_fault_text call.BadBody = codes "BadBody"
 call_fault_text call.EmptyBatch = codes "EmptyBatch"
-call_fault_text call.NotRead = codes "NotRead"
 call_fault_text call.NoMemory = codes "NoMemory"
 
 -- before it stands the place of the member of a list that breaks a rule

@@ -5,6 +5,9 @@ pub mod Bodies
 pub mod Creations
 pub mod Calls
 pub mod Written
+pub mod Areas
+pub mod Filters
+pub mod Metadata
 pub mod Spreadsheets
 pub mod Answers
 pub mod Refusals

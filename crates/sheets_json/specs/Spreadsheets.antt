@@ -1,48 +1,48 @@
 -- Spreadsheets as JSON values (Google Sheets API v4 reference, Spreadsheet, Sheet, SheetProperties, GridData,
--- DimensionProperties, NamedRange and GridRange), and the responses of spreadsheets.batchUpdate. Members are put
+-- DimensionProperties, NamedRange and ProtectedRange), and the responses of spreadsheets.batchUpdate. Members are put
 -- into an object in the order of their names.
-use Rattle.std.specs.Prelude.{ℕ, List, [], ◌∷◌, codes, Option, None, Some}
+use Rattle.std.specs.Prelude.{ℕ, List, [], ◌∷◌, codes}
 use Rattle.serde_json.specs.Data.{Data, object, Members, no_members, put}
-use Rattle.grid_range.specs.declared.band.Band.{Band}
-use Rattle.grid_range.specs.declared.band.Band.TheVariants.{Whole, From, Span}
-use Rattle.grid_range.specs.declared.area.Area.{Area}
 use Rattle.named_ranges.specs.declared.range.NamedRange.{NamedRange}
 use Rattle.sheets_json.specs.declared.spreadsheet.DimensionProperties.{DimensionProperties}
 use Rattle.sheets_json.specs.declared.spreadsheet.GridData.{GridData}
 use Rattle.sheets_json.specs.declared.spreadsheet.ShownProperties.{ShownProperties}
+use Rattle.sheets_json.specs.declared.spreadsheet.ShownProtection.{ShownProtection}
 use Rattle.sheets_json.specs.declared.spreadsheet.ShownSheet.{ShownSheet}
 use Rattle.sheets_json.specs.declared.spreadsheet.Spreadsheet.{Spreadsheet}
 use Rattle.sheets_json.specs.declared.spreadsheet.Reply.{Reply}
 use Rattle.sheets_json.specs.declared.spreadsheet.Reply.TheVariants as reply
-use Rattle.sheets_json.specs.Written.{text_data, count_data, list_data, put_given, put_true}
+use Rattle.sheets_json.specs.Written.{text_data, truth_data, count_data, list_data, put_given, put_true, put_filled, put_items}
+use Rattle.sheets_json.specs.Areas.{area_data}
+use Rattle.sheets_json.specs.Filters.{filter_data}
+use Rattle.sheets_json.specs.Metadata.{item_data}
 
 -- ---- ranges
-
--- the first line, unless it is all of them
-abbrev pub start_of : Band → Option ℕ
-start_of Whole = None
-start_of (From start) = Some start
-start_of (Span start end) = Some start
-
--- the line behind the last, where it ends before the sheet does
-abbrev pub end_of : Band → Option ℕ
-end_of Whole = None
-end_of (From start) = None
-end_of (Span start end) = Some end
-
-abbrev pub area_data : Area → Data
-area_data area = object (
-    put_given (codes "endColumnIndex") count_data (end_of area.cols) (
-    put_given (codes "endRowIndex") count_data (end_of area.rows) (
-    put (codes "sheetId") (count_data area.sheet) (
-    put_given (codes "startColumnIndex") count_data (start_of area.cols) (
-    put_given (codes "startRowIndex") count_data (start_of area.rows) no_members)))))
 
 abbrev pub named_range_data : NamedRange → Data
 named_range_data named = object (
     put (codes "name") (text_data named.name) (
     put (codes "namedRangeId") (text_data named.id) (
     put (codes "range") (area_data named.area) no_members)))
+
+-- Editors
+abbrev pub editors_data : List (List ℕ) → Data
+editors_data users = object (put (codes "users") (list_data text_data users) no_members)
+
+-- which cells it covers, and who may edit them
+abbrev pub cover_members : ShownProtection → Members
+cover_members protection =
+    put (codes "protectedRangeId") (count_data protection.protected_range_id) (
+    put (codes "range") (area_data protection.range) (
+    put (codes "requestingUserCanEdit") (truth_data protection.requesting_user_can_edit) (
+    put_items (codes "unprotectedRanges") area_data protection.unprotected_ranges (
+    put_true (codes "warningOnly") protection.warning_only no_members))))
+
+-- a description and ranges are said where there are some, and that it only warns where it does
+abbrev pub protection_data : ShownProtection → Data
+protection_data protection = object (
+    put_filled (codes "description") protection.description (
+    put_given (codes "editors") editors_data protection.editors (cover_members protection)))
 
 -- ---- sheets
 
@@ -76,11 +76,17 @@ grid_data grid = object (put (codes "rowMetadata") (list_data row_data grid.row_
 abbrev pub grids_data : GridData → Data
 grids_data grid = list_data grid_data (grid ∷ [])
 
+-- its merged areas, what is known of the sheet itself, and its protected ranges
+abbrev pub own_members : ShownSheet → Members
+own_members sheet =
+    put_given (codes "merges") (list_data area_data) sheet.merges (
+    put (codes "properties") (properties_data sheet.properties) (
+    put_given (codes "protectedRanges") (list_data protection_data) sheet.protected_ranges no_members))
+
 abbrev pub sheet_data : ShownSheet → Data
 sheet_data sheet = object (
-    put_given (codes "data") grids_data sheet.data (
-    put_given (codes "merges") (list_data area_data) sheet.merges (
-    put (codes "properties") (properties_data sheet.properties) no_members)))
+    put_given (codes "basicFilter") filter_data sheet.basic_filter (
+    put_given (codes "data") grids_data sheet.data (own_members sheet)))
 
 -- ---- spreadsheets
 
@@ -106,6 +112,14 @@ reply_data (reply.AddSheet properties) =
     reply_object (codes "addSheet") (codes "properties") (properties_data properties)
 reply_data (reply.AddNamedRange named) =
     reply_object (codes "addNamedRange") (codes "namedRange") (named_range_data named)
+reply_data (reply.AddProtectedRange protection) =
+    reply_object (codes "addProtectedRange") (codes "protectedRange") (protection_data protection)
+reply_data (reply.CreateDeveloperMetadata item) =
+    reply_object (codes "createDeveloperMetadata") (codes "developerMetadata") (item_data item)
+reply_data (reply.UpdateDeveloperMetadata items) =
+    reply_object (codes "updateDeveloperMetadata") (codes "developerMetadata") (list_data item_data items)
+reply_data (reply.DeleteDeveloperMetadata items) =
+    reply_object (codes "deleteDeveloperMetadata") (codes "deletedDeveloperMetadata") (list_data item_data items)
 
 abbrev pub batch_data : List Reply → List ℕ → Data
 batch_data replies id = object (

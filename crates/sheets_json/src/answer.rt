@@ -1,6 +1,8 @@
 use crate::{Reply, Spreadsheet};
 use cell_value::{Cell, Items, Text};
+use dev_metadata::Item;
 use grid_range::Axis;
+use json_requests::DataFilter;
 
 /// A range with what its cells show (Sheets API v4 reference, ValueRange).
 #[derive(Debug, Drop)]
@@ -11,6 +13,24 @@ pub struct ShownRange {
     pub major_dimension: Axis,
     /// What the cells show, if some show something.
     pub values: Option<Items<Items<Cell>>>,
+}
+
+/// A range that a filter finds, with what its cells show (Sheets API v4 reference, MatchedValueRange).
+#[derive(Debug, Drop)]
+pub struct MatchedRange {
+    /// The filter, alone.
+    pub data_filters: Items<DataFilter>,
+    /// The range.
+    pub value_range: ShownRange,
+}
+
+/// An item of metadata that a search finds (Sheets API v4 reference, MatchedDeveloperMetadata).
+#[derive(Debug, Drop)]
+pub struct MatchedMetadata {
+    /// The filters that it meets, in the order of the request.
+    pub data_filters: Items<DataFilter>,
+    /// The item.
+    pub developer_metadata: Item,
 }
 
 /// What a write did (Sheets API v4 reference, UpdateValuesResponse).
@@ -28,7 +48,8 @@ pub struct Update {
     pub updated_rows: u64,
 }
 
-/// What a call is answered (Google Sheets API v4 reference, spreadsheets and spreadsheets.values).
+/// What a call is answered (Google Sheets API v4 reference, spreadsheets, spreadsheets.values and
+/// spreadsheets.developerMetadata).
 #[derive(Debug, Drop)]
 pub enum Answer {
     /// Spreadsheet
@@ -90,5 +111,19 @@ pub enum Answer {
         cleared_ranges: Items<Text>,
         /// The spreadsheet's id.
         spreadsheet_id: Text,
+    },
+    /// BatchGetValuesByDataFilterResponse
+    ReadFiltered {
+        /// The spreadsheet's id.
+        spreadsheet_id: Text,
+        /// The ranges, filter by filter.
+        value_ranges: Items<MatchedRange>,
+    },
+    /// DeveloperMetadata
+    Item(Item),
+    /// SearchDeveloperMetadataResponse
+    Search {
+        /// The items, in order of id, if there are some.
+        matched_developer_metadata: Option<Items<MatchedMetadata>>,
     },
 }

@@ -4,14 +4,16 @@ ghost use Rattle.serde_json.specs.View.{view, members_view};
 ghost use Rattle.serde_json.specs.Errors.{IsMemory};
 ghost use Rattle.json_shapes.specs.Reading.{made};
 ghost use Rattle.json_shapes.specs.Members.{object_of};
-ghost use Rattle.sheets_json.specs.Bodies.{no_fields, clear_many, of_response, data_blocks, with_mode, under_mode, write_many, json_of, or_bad_body, body_as};
+ghost use Rattle.sheets_json.specs.Bodies.{no_fields, clear_many, of_response, data_blocks, with_mode, under_mode, write_many, shown_as, read_filtered, search, json_of, or_bad_body, body_as};
 
 use crate::value_range::RangeBlockMembers;
 use crate::{CallFault, RangeBlock};
 use cell_value::{Items, Mode, NoMemory, Render, Text};
+use grid_range::Axis;
+use json_requests::{DataFilter, DataFilterMembers, LookupAlone, MetadataLookup};
 use json_shapes::{
-    AnyText, Anything, Fields, InputOption, Kept, ListOf, ObjectOf, OnlyFalse, Read, RenderOption,
-    Shape, Word, both, first_part, optional, required,
+    AnyText, Anything, Dimension, Fields, InputOption, Kept, ListOf, ObjectOf, OnlyFalse, Read,
+    RenderOption, Shape, Word, both, first_part, optional, required,
 };
 use serde_json::{Error, Map, Value as Json};
 use std::alloc::Global;
@@ -147,6 +149,72 @@ impl Fields for ResponseMembers {
         )?;
         let dates = optional(alloc, members, "responseDateTimeRenderOption", &Anything)?;
         Ok(both(both(values, render), dates))
+    }
+}
+
+/// How the values of a read are shown.
+type ShownAs = (Option<Axis>, Option<Render>);
+
+/// The members on how the values of a read are shown.
+#[derive(Clone, Copy)]
+struct ShownAsMembers;
+
+impl Fields for ShownAsMembers {
+    type Output = ShownAs;
+
+    ghost fields = { λ _. shown_as };
+
+    fn take(
+        &self,
+        alloc: Global,
+        members: &mut Map<String, Json>,
+    ) -> Result<Read<ShownAs>, NoMemory> {
+        let dimension = optional(alloc, members, "majorDimension", &Word(Dimension))?;
+        let render = optional(alloc, members, "valueRenderOption", &Word(RenderOption))?;
+        let dates = optional(alloc, members, "dateTimeRenderOption", &Anything)?;
+        Ok(first_part(both(both(dimension, render), dates)))
+    }
+}
+
+/// The filters of a read, and how its values are shown.
+pub(crate) type Filtered = (Items<Read<DataFilter>>, ShownAs);
+
+/// The members of a call that reads what filters find.
+#[derive(Clone, Copy)]
+pub(crate) struct ReadFilteredMembers;
+
+impl Fields for ReadFilteredMembers {
+    type Output = Filtered;
+
+    ghost fields = { λ _. read_filtered };
+
+    fn take(
+        &self,
+        alloc: Global,
+        members: &mut Map<String, Json>,
+    ) -> Result<Read<Filtered>, NoMemory> {
+        let filters = ListOf(Kept(ObjectOf(DataFilterMembers)));
+        let filters = required(alloc, members, "dataFilters", &filters)?;
+        let shown = ShownAsMembers.take(alloc, members)?;
+        Ok(both(filters, shown))
+    }
+}
+
+/// The members of a call that searches metadata.
+#[derive(Clone, Copy)]
+pub(crate) struct SearchMembers;
+
+impl Fields for SearchMembers {
+    type Output = Items<Read<MetadataLookup>>;
+
+    ghost fields = { λ _. search };
+
+    fn take(
+        &self,
+        alloc: Global,
+        members: &mut Map<String, Json>,
+    ) -> Result<Read<Items<Read<MetadataLookup>>>, NoMemory> {
+        required(alloc, members, "dataFilters", &ListOf(Kept(LookupAlone)))
     }
 }
 

@@ -1,11 +1,12 @@
 use cell_value::{Block, Items, Mode, NoMemory, Render, SheetProperties, Text};
 use grid_range::Axis;
-use json_requests::Step;
+use json_requests::{DataFilter, MetadataLookup, Step};
 use json_shapes::ShapeFault;
 use std::error::Error;
 use std::fmt;
 
-/// What a request asks for (Google Sheets API v4 reference, spreadsheets and spreadsheets.values).
+/// What a request asks for (Google Sheets API v4 reference, spreadsheets, spreadsheets.values and
+/// spreadsheets.developerMetadata).
 /// What a call says of values, or each of several things, may have a fault, which is told in its
 /// turn.
 #[derive(Debug, Drop)]
@@ -98,6 +99,31 @@ pub enum Call {
         /// The ranges; there is one at least.
         ranges: Items<Result<Text, ShapeFault>>,
     },
+    /// spreadsheets.values.batchGetByDataFilter
+    ReadFiltered {
+        /// The spreadsheet's id.
+        id: Text,
+        /// The filters of what is read; there is one at least.
+        data_filters: Items<Result<DataFilter, ShapeFault>>,
+        /// The dimension of the inner lists.
+        major_dimension: Option<Axis>,
+        /// How the values are shown.
+        value_render_option: Option<Render>,
+    },
+    /// spreadsheets.developerMetadata.get
+    Item {
+        /// The spreadsheet's id.
+        id: Text,
+        /// The item's id.
+        metadata_id: u32,
+    },
+    /// spreadsheets.developerMetadata.search
+    Search {
+        /// The spreadsheet's id.
+        id: Text,
+        /// The look-ups, one of which finds each item that is looked for; there is one at least.
+        data_filters: Items<Result<MetadataLookup, ShapeFault>>,
+    },
 }
 
 /// What is asked of a new spreadsheet (Sheets API v4 reference, Spreadsheet).
@@ -144,8 +170,6 @@ pub enum CallFault {
     BadBody,
     /// The call names nothing to be done.
     EmptyBatch,
-    /// The body of such a call isn't read here.
-    NotRead,
     /// Memory ran out.
     NoMemory,
 }
@@ -160,7 +184,6 @@ impl fmt::Display for CallFault {
         f.write_str(match self {
             CallFault::BadBody => "BadBody",
             CallFault::EmptyBatch => "EmptyBatch",
-            CallFault::NotRead => "NotRead",
             CallFault::NoMemory => "NoMemory",
         })
     }

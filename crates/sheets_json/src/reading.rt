@@ -1,15 +1,18 @@
 ghost use Rattle.std.specs.Prelude.{◌≡◌, ◌⊎◌, Ok, Err, IfOk};
-ghost use Rattle.sheets_json.specs.Calls.{mode_of, dimension_of, render_of, create_of, get_of, many_asked, batch_of, read_of, values_of, write_call, write_of, append_call, append_of, clear_call, clear_with, clear_of, ranges_of, many_read, read_many_of, many_written, write_many_of, many_cleared, clear_many_of, call_of};
+ghost use Rattle.sheets_json.specs.Calls.{mode_of, dimension_of, render_of, create_of, get_of, many_asked, batch_of, read_of, values_of, write_call, write_of, append_call, append_of, clear_call, clear_with, clear_of, ranges_of, many_read, read_many_of, many_written, write_many_of, many_cleared, clear_many_of, item_id_of, many_filtered, read_filtered_of, item_of, many_searched, search_of, call_of};
 
 use crate::batch::BatchMembers;
-use crate::bodies::{ClearManyMembers, NoMembers, WriteManyMembers, read_body};
+use crate::bodies::{
+    ClearManyMembers, Filtered, NoMembers, ReadFilteredMembers, SearchMembers, WriteManyMembers,
+    read_body,
+};
 use crate::creation::NewSpreadsheetMembers;
 use crate::value_range::ValueRangeMembers;
 use crate::words::{InsertOption, TruthWord, query_values, query_word};
 use crate::{Call, CallFault, RangeBlock, ValueRange};
 use cell_value::{Duplicate, Items, Mode, NoMemory, Render, Text};
 use grid_range::Axis;
-use json_requests::Step;
+use json_requests::{MetadataLookup, Step, index_named};
 use json_shapes::{Dimension, InputOption, ObjectOf, RenderOption, ShapeFault};
 use sheets_http::{Route, Verb};
 use std::alloc::Global;
@@ -22,9 +25,8 @@ use std::alloc::Global;
 /// JSON object with just the members that the call has, of which those that say how the others
 /// are taken have one of their words, and those that list what is to be done are lists;
 /// [`CallFault::EmptyBatch`] where such a list, or the list of ranges in the query, is empty;
-/// [`CallFault::NotRead`] for a read by filters of data, a look at an item of developer metadata
-/// and a search for such items; [`CallFault::NoMemory`] only where memory runs out. What else is
-/// wrong with the values of a write is kept in the call.
+/// [`CallFault::NoMemory`] only where memory runs out. What else is wrong with the values of a write
+/// or with a member of such a list is kept in the call.
 pub fn read_call(alloc: Global, route: &Route, body: &[u8]) -> Result<Call, CallFault>
     ensures { (result ≡ call_of route.now body.now) ⊎ (result ≡ Err CallFault.NoMemory) }
 {
@@ -39,7 +41,9 @@ pub fn read_call(alloc: Global, route: &Route, body: &[u8]) -> Result<Call, Call
         Verb::ReadMany => read_many_of(alloc, route, body),
         Verb::WriteMany => write_many_of(alloc, route, body),
         Verb::ClearMany => clear_many_of(alloc, route, body),
-        Verb::ReadFiltered | Verb::Item | Verb::Search => Err(CallFault::NotRead),
+        Verb::ReadFiltered => read_filtered_of(alloc, route, body),
+        Verb::Item => item_of(route, body),
+        Verb::Search => search_of(alloc, route, body),
     }
 }
 
@@ -307,5 +311,77 @@ fn many_cleared(route: &Route, ranges: Items<Result<Text, ShapeFault>>) -> Resul
     Ok(Call::ClearMany {
         id: route.book.duplicate()?,
         ranges,
+    })
+}
+
+/// A read of what filters find.
+fn read_filtered_of(alloc: Global, route: &Route, body: &[u8]) -> Result<Call, CallFault>
+    ensures { (result ≡ read_filtered_of route.now body.now) ⊎ (result ≡ Err CallFault.NoMemory) }
+{
+    match read_body(alloc, &ObjectOf(ReadFilteredMembers), body) {
+        Ok(said) => many_filtered(route, said),
+        Err(fault) => Err(fault),
+    }
+}
+
+/// A read of what these filters find, where there are some.
+fn many_filtered(route: &Route, said: Filtered) -> Result<Call, CallFault>
+    ensures { (result ≡ many_filtered route.now said) ⊎ (result ≡ Err CallFault.NoMemory) }
+{
+    let (data_filters, (major_dimension, value_render_option)) = said;
+    if data_filters.as_slice().is_empty() {
+        return Err(CallFault::EmptyBatch);
+    }
+    Ok(Call::ReadFiltered {
+        id: route.book.duplicate()?,
+        data_filters,
+        major_dimension,
+        value_render_option,
+    })
+}
+
+/// A look at an item of metadata.
+fn item_of(route: &Route, body: &[u8]) -> Result<Call, CallFault>
+    ensures { (result ≡ item_of route.now body.now) ⊎ (result ≡ Err CallFault.NoMemory) }
+{
+    if !body.is_empty() {
+        return Err(CallFault::BadBody);
+    }
+    Ok(Call::Item {
+        id: route.book.duplicate()?,
+        metadata_id: item_id_of(route),
+    })
+}
+
+/// The id of the item.
+fn item_id_of(route: &Route) -> u32
+    ensures { result ≡ item_id_of route.now }
+{
+    index_named(route.id.as_str()).unwrap_or(0)
+}
+
+/// A search for items of metadata.
+fn search_of(alloc: Global, route: &Route, body: &[u8]) -> Result<Call, CallFault>
+    ensures { (result ≡ search_of route.now body.now) ⊎ (result ≡ Err CallFault.NoMemory) }
+{
+    match read_body(alloc, &ObjectOf(SearchMembers), body) {
+        Ok(filters) => many_searched(route, filters),
+        Err(fault) => Err(fault),
+    }
+}
+
+/// A search by these look-ups, where there are some.
+fn many_searched(
+    route: &Route,
+    data_filters: Items<Result<MetadataLookup, ShapeFault>>,
+) -> Result<Call, CallFault>
+    ensures { (result ≡ many_searched route.now data_filters) ⊎ (result ≡ Err CallFault.NoMemory) }
+{
+    if data_filters.as_slice().is_empty() {
+        return Err(CallFault::EmptyBatch);
+    }
+    Ok(Call::Search {
+        id: route.book.duplicate()?,
+        data_filters,
     })
 }

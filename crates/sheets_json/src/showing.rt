@@ -1,52 +1,18 @@
 ghost use Rattle.std.specs.Prelude.{◌≡◌, codes, IfOk};
-ghost use Rattle.serde_json.specs.Data.{put};
 ghost use Rattle.serde_json.specs.View.{view, members_view};
-ghost use Rattle.sheets_json.specs.Written.{put_given, put_true};
-ghost use Rattle.sheets_json.specs.Spreadsheets.{start_of, end_of, area_data, named_range_data, grid_properties_data, place_members, properties_data, row_data, grid_data, grids_data, sheet_data, title_data, spreadsheet_data, reply_object, reply_data, batch_data};
+ghost use Rattle.sheets_json.specs.Written.{put_given};
+ghost use Rattle.sheets_json.specs.Spreadsheets.{named_range_data, editors_data, cover_members, protection_data, grid_properties_data, place_members, properties_data, row_data, grid_data, grids_data, own_members, sheet_data, title_data, spreadsheet_data, reply_object, reply_data, batch_data};
 
-use crate::writing::{Written, text_json, with, with_given};
-use crate::{DimensionProperties, GridData, Reply, ShownProperties, ShownSheet, Spreadsheet};
+use crate::writing::{
+    Written, text_json, with, with_filled, with_given, with_items, with_json, with_true,
+};
+use crate::{
+    DimensionProperties, GridData, Reply, ShownProperties, ShownProtection, ShownSheet, Spreadsheet,
+};
 use cell_value::{Items, NoMemory, Text};
-use grid_range::{Area, Band};
 use named_ranges::NamedRange;
-use serde_json::{Map, Value as Json, put};
+use serde_json::{Map, Value as Json};
 use std::alloc::Global;
-
-/// The first line, unless it is all of them.
-fn start_of(band: Band) -> Option<u32>
-    ensures { result ≡ start_of band }
-{
-    match band {
-        Band::Whole => None,
-        Band::From(start) => Some(start),
-        Band::Span(start, _) => Some(start),
-    }
-}
-
-/// The line behind the last, where it ends before the sheet does.
-fn end_of(band: Band) -> Option<u32>
-    ensures { result ≡ end_of band }
-{
-    match band {
-        Band::Whole => None,
-        Band::From(_) => None,
-        Band::Span(_, end) => Some(end),
-    }
-}
-
-impl Written for Area {
-    ghost json_data = { area_data };
-
-    fn to_json(&self, alloc: Global) -> Result<Json, NoMemory> {
-        let members = Map::new(alloc);
-        let members = with_given(alloc, members, "startRowIndex", &start_of(self.rows))?;
-        let members = with_given(alloc, members, "startColumnIndex", &start_of(self.cols))?;
-        let members = with(alloc, members, "sheetId", &self.sheet)?;
-        let members = with_given(alloc, members, "endRowIndex", &end_of(self.rows))?;
-        let members = with_given(alloc, members, "endColumnIndex", &end_of(self.cols))?;
-        Ok(Json::Object(members))
-    }
-}
 
 impl Written for NamedRange {
     ghost json_data = { named_range_data };
@@ -59,6 +25,59 @@ impl Written for NamedRange {
     }
 }
 
+/// Editors
+fn editors_json(alloc: Global, users: &Items<Text>) -> Result<Json, NoMemory>
+    ensures { IfOk result (λ json. view json ≡ editors_data users.now) }
+{
+    let members = with(alloc, Map::new(alloc), "users", users)?;
+    Ok(Json::Object(members))
+}
+
+/// The members of a protected range that say which cells it covers, and who may edit them.
+fn cover_members(alloc: Global, protection: &ShownProtection) -> Result<Map<String, Json>, NoMemory>
+    ensures { IfOk result (λ members. members_view members.entries ≡ cover_members protection.now) }
+{
+    let members = Map::new(alloc);
+    let members = with_true(alloc, members, "warningOnly", protection.warning_only)?;
+    let ranges = &protection.unprotected_ranges;
+    let members = with_items(alloc, members, "unprotectedRanges", ranges)?;
+    let can_edit = &protection.requesting_user_can_edit;
+    let members = with(alloc, members, "requestingUserCanEdit", can_edit)?;
+    let members = with(alloc, members, "range", &protection.range)?;
+    with(
+        alloc,
+        members,
+        "protectedRangeId",
+        &protection.protected_range_id,
+    )
+}
+
+/// The members of a protected range, with its editors, if they are given.
+fn with_editors(
+    alloc: Global,
+    members: Map<String, Json>,
+    editors: &Option<Items<Text>>,
+) -> Result<Map<String, Json>, NoMemory>
+    ensures { IfOk result (λ more. members_view more.entries
+        ≡ put_given (codes "editors") editors_data editors.now (members_view members.entries)) }
+{
+    match editors {
+        Some(users) => with_json(alloc, members, "editors", editors_json(alloc, users)?),
+        None => Ok(members),
+    }
+}
+
+impl Written for ShownProtection {
+    ghost json_data = { protection_data };
+
+    fn to_json(&self, alloc: Global) -> Result<Json, NoMemory> {
+        let members = cover_members(alloc, self)?;
+        let members = with_editors(alloc, members, &self.editors)?;
+        let members = with_filled(alloc, members, "description", &self.description)?;
+        Ok(Json::Object(members))
+    }
+}
+
 /// GridProperties
 fn grid_properties_json(alloc: Global, properties: &ShownProperties) -> Result<Json, NoMemory>
     ensures { IfOk result (λ json. view json ≡ grid_properties_data properties.now) }
@@ -66,38 +85,6 @@ fn grid_properties_json(alloc: Global, properties: &ShownProperties) -> Result<J
     let members = with(alloc, Map::new(alloc), "rowCount", &properties.row_count)?;
     let members = with(alloc, members, "columnCount", &properties.column_count)?;
     Ok(Json::Object(members))
-}
-
-/// The members of an object, with one more, which is absent where it is false.
-fn with_true(
-    alloc: Global,
-    mut members: Map<String, Json>,
-    name: &str,
-    holds: bool,
-) -> Result<Map<String, Json>, NoMemory>
-    ensures { IfOk result (λ more. members_view more.entries
-        ≡ put_true name.now holds (members_view members.entries)) }
-{
-    if holds {
-        put(&mut members, alloc, name, Json::Bool(true))?;
-        Ok(members)
-    } else {
-        Ok(members)
-    }
-}
-
-/// The members of an object, with one more.
-fn with_json(
-    alloc: Global,
-    mut members: Map<String, Json>,
-    name: &str,
-    value: Json,
-) -> Result<Map<String, Json>, NoMemory>
-    ensures { IfOk result (λ more. members_view more.entries
-        ≡ put name.now (view value) (members_view members.entries)) }
-{
-    put(&mut members, alloc, name, value)?;
-    Ok(members)
 }
 
 /// The SheetProperties that say which sheet it is, and where.
@@ -169,13 +156,24 @@ fn with_grid(
     }
 }
 
+/// The members of a sheet that say its merged areas, what is known of the sheet itself, and its
+/// protected ranges.
+fn own_members(alloc: Global, sheet: &ShownSheet) -> Result<Map<String, Json>, NoMemory>
+    ensures { IfOk result (λ members. members_view members.entries ≡ own_members sheet.now) }
+{
+    let members = Map::new(alloc);
+    let members = with_given(alloc, members, "protectedRanges", &sheet.protected_ranges)?;
+    let members = with(alloc, members, "properties", &sheet.properties)?;
+    with_given(alloc, members, "merges", &sheet.merges)
+}
+
 impl Written for ShownSheet {
     ghost json_data = { sheet_data };
 
     fn to_json(&self, alloc: Global) -> Result<Json, NoMemory> {
-        let members = with(alloc, Map::new(alloc), "properties", &self.properties)?;
-        let members = with_given(alloc, members, "merges", &self.merges)?;
+        let members = own_members(alloc, self)?;
         let members = with_grid(alloc, members, &self.data)?;
+        let members = with_given(alloc, members, "basicFilter", &self.basic_filter)?;
         Ok(Json::Object(members))
     }
 }
@@ -228,6 +226,25 @@ impl Written for Reply {
             Reply::AddNamedRange { named_range } => {
                 let named_range = named_range.to_json(alloc)?;
                 reply_object(alloc, "addNamedRange", "namedRange", named_range)
+            }
+            Reply::AddProtectedRange { protected_range } => {
+                let range = protected_range.to_json(alloc)?;
+                reply_object(alloc, "addProtectedRange", "protectedRange", range)
+            }
+            Reply::CreateDeveloperMetadata { developer_metadata } => {
+                let item = developer_metadata.to_json(alloc)?;
+                reply_object(alloc, "createDeveloperMetadata", "developerMetadata", item)
+            }
+            Reply::UpdateDeveloperMetadata { developer_metadata } => {
+                let items = developer_metadata.to_json(alloc)?;
+                reply_object(alloc, "updateDeveloperMetadata", "developerMetadata", items)
+            }
+            Reply::DeleteDeveloperMetadata {
+                deleted_developer_metadata,
+            } => {
+                let items = deleted_developer_metadata.to_json(alloc)?;
+                let name = "deletedDeveloperMetadata";
+                reply_object(alloc, "deleteDeveloperMetadata", name, items)
             }
         }
     }

@@ -2,14 +2,13 @@ ghost use Rattle.std.specs.Prelude.{◌≡◌, false, map, IfOk};
 ghost use Rattle.serde_json.specs.Data.{put};
 ghost use Rattle.serde_json.specs.View.{view, members_view};
 ghost use Rattle.serde_json.specs.Written.{compact_text, has_float};
-ghost use Rattle.sheets_json.specs.Written.{text_data, count_data, list_data, put_given};
-ghost use Rattle.sheets_json.specs.Answers.{dimension_data, cell_data, range_data, update_data, append_data, clear_data, read_many_data, write_many_data, clear_many_data, answer_data};
+ghost use Rattle.sheets_json.specs.Written.{text_data, truth_data, count_data, list_data, put_given, put_true, put_filled, put_items};
+ghost use Rattle.sheets_json.specs.Answers.{cell_data, range_data, matched_range_data, matched_metadata_data, update_data, append_data, clear_data, read_many_data, write_many_data, clear_many_data, read_filtered_data, search_data, answer_data};
 ghost use Rattle.sheets_json.specs.Refusals.{IsRefusal, status_name, error_data, refusal_data};
 
 use crate::showing::batch_json;
-use crate::{Answer, ShownRange, Update};
+use crate::{Answer, MatchedMetadata, MatchedRange, ShownRange, Update};
 use cell_value::{Bytes, Cell, Items, NoMemory, Text};
-use grid_range::Axis;
 use serde_json::{Map, Value as Json, put};
 use std::alloc::Global;
 
@@ -39,6 +38,14 @@ pub(crate) fn text_json(alloc: Global, text: &str) -> Result<Json, NoMemory>
     Ok(Json::String(String::from_str(alloc, text)?))
 }
 
+impl Written for bool {
+    ghost json_data = { truth_data };
+
+    fn to_json(&self, _alloc: Global) -> Result<Json, NoMemory> {
+        Ok(Json::Bool(*self))
+    }
+}
+
 impl Written for u32 {
     ghost json_data = { count_data };
 
@@ -52,17 +59,6 @@ impl Written for u64 {
 
     fn to_json(&self, _alloc: Global) -> Result<Json, NoMemory> {
         Ok(Json::from(*self))
-    }
-}
-
-impl Written for Axis {
-    ghost json_data = { dimension_data };
-
-    fn to_json(&self, alloc: Global) -> Result<Json, NoMemory> {
-        match self {
-            Axis::Rows => text_json(alloc, "ROWS"),
-            Axis::Columns => text_json(alloc, "COLUMNS"),
-        }
     }
 }
 
@@ -128,6 +124,71 @@ pub(crate) fn with_given<T: Written>(
     }
 }
 
+/// The members of an object, with one more.
+pub(crate) fn with_json(
+    alloc: Global,
+    mut members: Map<String, Json>,
+    name: &str,
+    value: Json,
+) -> Result<Map<String, Json>, NoMemory>
+    ensures { IfOk result (λ more. members_view more.entries
+        ≡ put name.now (view value) (members_view members.entries)) }
+{
+    put(&mut members, alloc, name, value)?;
+    Ok(members)
+}
+
+/// The members of an object, with one more, which is absent where it is false.
+pub(crate) fn with_true(
+    alloc: Global,
+    members: Map<String, Json>,
+    name: &str,
+    holds: bool,
+) -> Result<Map<String, Json>, NoMemory>
+    ensures { IfOk result (λ more. members_view more.entries
+        ≡ put_true name.now holds (members_view members.entries)) }
+{
+    if holds {
+        with_json(alloc, members, name, Json::Bool(true))
+    } else {
+        Ok(members)
+    }
+}
+
+/// The members of an object, with a text more, which is absent where it is empty.
+pub(crate) fn with_filled(
+    alloc: Global,
+    members: Map<String, Json>,
+    name: &str,
+    text: &Text,
+) -> Result<Map<String, Json>, NoMemory>
+    ensures { IfOk result (λ more. members_view more.entries
+        ≡ put_filled name.now text.now (members_view members.entries)) }
+{
+    if text.as_str().is_empty() {
+        Ok(members)
+    } else {
+        with(alloc, members, name, text)
+    }
+}
+
+/// The members of an object, with a list more, which is absent where it has no item.
+pub(crate) fn with_items<T: Written>(
+    alloc: Global,
+    members: Map<String, Json>,
+    name: &str,
+    items: &Items<T>,
+) -> Result<Map<String, Json>, NoMemory>
+    ensures { IfOk result (λ more. members_view more.entries
+        ≡ put_items name.now T.json_data items.now (members_view members.entries)) }
+{
+    if items.as_slice().is_empty() {
+        Ok(members)
+    } else {
+        with(alloc, members, name, items)
+    }
+}
+
 impl Written for ShownRange {
     ghost json_data = { range_data };
 
@@ -135,6 +196,27 @@ impl Written for ShownRange {
         let members = with_given(alloc, Map::new(alloc), "values", &self.values)?;
         let members = with(alloc, members, "range", &self.range)?;
         let members = with(alloc, members, "majorDimension", &self.major_dimension)?;
+        Ok(Json::Object(members))
+    }
+}
+
+impl Written for MatchedRange {
+    ghost json_data = { matched_range_data };
+
+    fn to_json(&self, alloc: Global) -> Result<Json, NoMemory> {
+        let members = with(alloc, Map::new(alloc), "valueRange", &self.value_range)?;
+        let members = with(alloc, members, "dataFilters", &self.data_filters)?;
+        Ok(Json::Object(members))
+    }
+}
+
+impl Written for MatchedMetadata {
+    ghost json_data = { matched_metadata_data };
+
+    fn to_json(&self, alloc: Global) -> Result<Json, NoMemory> {
+        let item = &self.developer_metadata;
+        let members = with(alloc, Map::new(alloc), "developerMetadata", item)?;
+        let members = with(alloc, members, "dataFilters", &self.data_filters)?;
         Ok(Json::Object(members))
     }
 }
@@ -191,6 +273,28 @@ fn clear_many_json(alloc: Global, ranges: &Items<Text>, id: &Text) -> Result<Jso
 {
     let members = with(alloc, Map::new(alloc), "spreadsheetId", id)?;
     let members = with(alloc, members, "clearedRanges", ranges)?;
+    Ok(Json::Object(members))
+}
+
+/// BatchGetValuesByDataFilterResponse
+fn read_filtered_json(
+    alloc: Global,
+    id: &Text,
+    ranges: &Items<MatchedRange>,
+) -> Result<Json, NoMemory>
+    ensures { IfOk result (λ json. view json ≡ read_filtered_data id.now ranges.now) }
+{
+    let members = with(alloc, Map::new(alloc), "valueRanges", ranges)?;
+    let members = with(alloc, members, "spreadsheetId", id)?;
+    Ok(Json::Object(members))
+}
+
+/// SearchDeveloperMetadataResponse
+fn search_json(alloc: Global, matched: &Option<Items<MatchedMetadata>>) -> Result<Json, NoMemory>
+    ensures { IfOk result (λ json. view json ≡ search_data matched.now) }
+{
+    let members = Map::new(alloc);
+    let members = with_given(alloc, members, "matchedDeveloperMetadata", matched)?;
     Ok(Json::Object(members))
 }
 
@@ -268,6 +372,14 @@ impl Written for Answer {
                 cleared_ranges,
                 spreadsheet_id,
             } => clear_many_json(alloc, cleared_ranges, spreadsheet_id),
+            Answer::ReadFiltered {
+                spreadsheet_id,
+                value_ranges,
+            } => read_filtered_json(alloc, spreadsheet_id, value_ranges),
+            Answer::Item(item) => item.to_json(alloc),
+            Answer::Search {
+                matched_developer_metadata,
+            } => search_json(alloc, matched_developer_metadata),
         }
     }
 }

@@ -3,7 +3,7 @@ use Rattle.std.specs.Prelude.{IfOk}
 use Rattle.std.specs.Option.{IsSome}
 use Rattle.dimension_ops.specs.World.{book_with}
 use Rattle.batch_engine.specs.Calls.{AreNext, IsAnswered, IsAppendOf, IsApplied, IsBatchOf, IsClearManyOf, IsInstalled, IsWriteManyOf, told_as}
-use Rattle.batch_engine.proofs.Installed.{if_ok, made_applied, making_judged, read_applied, read_judged}
+use Rattle.batch_engine.proofs.Installed.{if_ok, made_applied, making_judged, not_done_applied, read_applied, read_judged}
 use Rattle.batch_engine.proofs.Installed.{applied_change, change_there, look_applied, write_there, write_applied, clear_there, clear_applied, lone_applied, lone_there}
 use Rattle.batch_engine.proofs.calls.apply.Goals as goal
 
@@ -137,3 +137,9 @@ returns-in_ok-told-in-Create c =
     c.in_ok-told-in-Create.told (rw c.as_str-in-Create.ensures at c.create.ensures) c.in_ok-told-in-Create.ensures)
     c.made.result.outcome c.made.result.next
     (subst (λ told. AreNext told c.made.result.outcome c.made.result.next) c.alone-in-Create.ensures c.made.ensures)
+
+pub returns-in-ReadFiltered : goal.returns-in-ReadFiltered
+returns-in-ReadFiltered c =
+    not_done_applied c.args.caller.now c.args.call.now c.args.world.now c.unchanged-in-ReadFiltered.result.outcome
+    c.unchanged-in-ReadFiltered.result.next c.in-ReadFiltered.is c.unchanged-in-ReadFiltered.ensures.outcome
+    c.unchanged-in-ReadFiltered.ensures.next

@@ -5,15 +5,21 @@ use Rattle.serving.specs.Serving.{Accepting, HasAsked}
 use Rattle.serving.proofs.Standing.{asked_away, asked_again, started, handed_back}
 use Rattle.serving.proofs.accepting.admit.Goals as goal
 
-pub serve_here-requires-in_default-pass-clause-asked : goal.serve_here-requires-in_default-pass-clause-asked
-serve_here-requires-in_default-pass-clause-asked g c κs within =
+pub serve_here-requires-in_default-lend-clause-asked : goal.serve_here-requires-in_default-lend-clause-asked
+serve_here-requires-in_default-lend-clause-asked g c κs within =
     asked_again (IsAnswer g.E.Engine.plain g.K.Keeper.failures g.K.Keeper.steady) _ _ _
     (subst (λ (a : Accepting _ _ _). HasAsked (IsAnswer g.E.Engine.plain g.K.Keeper.failures g.K.Keeper.steady) a
     (link_seen g.D.Link.Source.left g.D.Link.Sink.written g.D.Link.Source.faults g.D.Link.Sink.sink_faults
     g.D.Link.Sink.sink_shortages c.args.link) (g.D.Doors.shown c.args.doors.now))
     (sym c.acceptor.view_is) c.requires.asked)
-    _ refl refl refl c.reserve.ensures.items c.pass.ensures.old c.pass.ensures.same.1
-    (record { seen = c.pass.ensures.same.0; count = c.pass.ensures.count; met = c.pass.ensures.met })
+    _ refl refl refl c.reserve.ensures.items c.lend.ensures.old c.lend.ensures.same.1
+    (record {
+      drawing = c.lend.ensures.same.2;
+      seen = c.lend.ensures.same.0;
+      count = c.lend.ensures.count;
+      met = c.lend.ensures.met;
+    })
+    c.in_default-lend.ensures.none_drawn
 
 pub take_back-requires-clause-away : goal.take_back-requires-clause-away
 take_back-requires-clause-away g c κs within =
@@ -30,15 +36,18 @@ returns-in-Ok-start-clause-stands g c =
     (link_seen g.D.Link.Source.left g.D.Link.Sink.written g.D.Link.Source.faults g.D.Link.Sink.sink_faults
     g.D.Link.Sink.sink_shortages c.args.link) (g.D.Doors.shown c.args.doors.now))
     (sym c.acceptor.view_is) c.requires.asked)
-    c.pass.new.from c.in-Ok.pass
+    c.lend.new.from c.in-Ok.pass
     (record {
-      pass_is = c.pass.ensures.old;
-      seen = c.pass.ensures.same.0;
-      number = c.pass.ensures.same.1;
+      pass_is = c.lend.ensures.old;
+      seen = c.lend.ensures.same.0;
+      number = c.lend.ensures.same.1;
+      drawing = c.lend.ensures.same.2;
       own_seen = c.in-Ok.ensures.new.1;
       next = c.in-Ok.ensures.next;
+      exact = c.in-Ok.ensures.exact;
       counted = c.in-Ok.ensures.counted.1;
-      met = c.pass.ensures.met;
+      own_counted = c.in-Ok.ensures.counted.0;
+      met = c.lend.ensures.met;
       other = c.in-Ok.ensures.number.1;
       unused = c.in-Ok.ensures.unused;
     })
@@ -53,15 +62,18 @@ returns-in-Err-clause-stands g c =
     (link_seen g.D.Link.Source.left g.D.Link.Sink.written g.D.Link.Source.faults g.D.Link.Sink.sink_faults
     g.D.Link.Sink.sink_shortages c.args.link) (g.D.Doors.shown c.args.doors.now))
     (sym c.acceptor.view_is) c.requires.asked)
-    c.pass.new.from c.in-Ok.pass
+    c.lend.new.from c.in-Ok.pass
     (record {
-      pass_is = c.pass.ensures.old;
-      seen = c.pass.ensures.same.0;
-      number = c.pass.ensures.same.1;
+      pass_is = c.lend.ensures.old;
+      seen = c.lend.ensures.same.0;
+      number = c.lend.ensures.same.1;
+      drawing = c.lend.ensures.same.2;
       own_seen = c.in-Ok.ensures.new.1;
       next = c.in-Ok.ensures.next;
+      exact = c.in-Ok.ensures.exact;
       counted = c.in-Ok.ensures.counted.1;
-      met = c.pass.ensures.met;
+      own_counted = c.in-Ok.ensures.counted.0;
+      met = c.lend.ensures.met;
       other = c.in-Ok.ensures.number.1;
       unused = c.in-Ok.ensures.unused;
     })

@@ -1,12 +1,12 @@
-use Rattle.std.proofs.Common.{◌≡◌, ◌++◌, map, length}
-use Rattle.form_urlencoded.specs.Parse.{raw_pairs_left}
-use Rattle.sheets_http.specs.Queries.{form_text, members_of}
+use Rattle.std.proofs.Common.{◌≡◌, ◌++◌, length}
+use denote.Shadow.{shadow}
+use denote.Text.{Utf8}
+use Rattle.sheets_http.specs.Queries.{members_of}
 use Rattle.sheets_http.proofs.query.members_of.Given as goal
 
--- the members so far and those that are left are all
-abbrev pub invariant-loop-name : goal.invariant-loop-name
-invariant-loop-name l =
-    l.members.items ++ map (λ pair. (form_text pair.0, form_text pair.1)) (raw_pairs_left l.pairs) ≡ members_of l.query
+-- the members so far and those of the rest are all
+abbrev pub invariant-loop-rest : goal.invariant-loop-rest
+invariant-loop-rest l = (l.members.items ++ members_of l.rest ≡ members_of l.query) × shadow (Utf8 l.rest)
 
-abbrev pub decreases-loop-name : goal.decreases-loop-name
-decreases-loop-name l = length (raw_pairs_left l.pairs)
+abbrev pub decreases-loop-rest : goal.decreases-loop-rest
+decreases-loop-rest l = length l.rest

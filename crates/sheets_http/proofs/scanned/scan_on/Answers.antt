@@ -7,12 +7,15 @@ use Rattle.sheets_http.specs.declared.scanned.Scanned.TheVariants as scanned
 use Rattle.sheets_http.specs.Heads.{IsUnsettled}
 use Rattle.sheets_http.specs.Framing.{BeginsWith, refused_message, too_long}
 use Rattle.sheets_http.specs.Buffering.{IsScanned}
-use Rattle.sheets_http.proofs.ScanLemmas.{near_is, whole_settles, too_long_settles, stands_in_front, unsettled_in_front, seen_is_head_text, seen_text, scanned_head, scanned_fault}
+use Rattle.sheets_http.proofs.ScanLemmas.{near_is, whole_settles, too_long_settles, stands_in_front, unsettled_in_front, seen_is_head_text, seen_lines, seen_text, scanned_head, scanned_fault}
 use Rattle.std.proofs.Common.{refl}
 use Rattle.sheets_http.proofs.scanned.scan_on.Goals as goal
 
-pub read_head-requires : goal.read_head-requires
-read_head-requires c = seen_is_head_text c.find.new.self c.args.bytes.now c.in-Whole.ensures.scan
+pub read_head-requires-clause-text : goal.read_head-requires-clause-text
+read_head-requires-clause-text c = seen_is_head_text c.find.new.self c.args.bytes.now c.in-Whole.ensures.scan
+
+pub read_head-requires-clause-lines : goal.read_head-requires-clause-lines
+read_head-requires-clause-lines c = seen_lines c.find.new.self c.args.bytes.now c.in-Whole.ensures.scan
 
 pub returns-in-Growing-clause-scanned : goal.returns-in-Growing-clause-scanned
 returns-in-Growing-clause-scanned c =

@@ -3,9 +3,9 @@ use Rattle.std.specs.Prelude.{All}
 use Rattle.atomic_table.specs.Table.{rest}
 use Rattle.std.proofs.lemmas.List.Elements.{All-nil}
 use Rattle.std.proofs.Math.Seq.{drop-length}
-use Rattle.history_lock.specs.History.{StartsWith, NoneOf, AllOf, AreDone}
+use Rattle.history_lock.specs.History.{StartsWith, NoneOf, AllOf, AreSilent}
 use Rattle.history_lock.specs.Steps.{held_list}
-use Rattle.history_lock.specs.Passes.{seen_by, number_of, met_by, opened_with, callers_of}
+use Rattle.history_lock.specs.Passes.{seen_by, number_of, met_by, opened_with, callers_of, count_of}
 use Rattle.history_lock.proofs.Histories.{starts_whole}
 use Rattle.history_lock.proofs.Turns.{readies_at, closes_full, closes_with}
 use Rattle.history_lock.proofs.lock.Lock.close.Goals as goal
@@ -60,7 +60,7 @@ returns-clause-done g c =
     let last = closes_with _ _ _ _ _ _ c.load.new.seat.me.0 _ _ c.take.result c.unwrap-last.result
     (ap (λ m. m.0.stage) readied) c.close_with-closed.ensures.values.2 c.take.ensures.value c.unwrap-last.ensures in
     let same = last.0 ∙ ap (λ m. m.0.seen) readied ∙ ap (λ m. held_list g.T.Told.list m.1) put.3 in
-    subst (AreDone g.T.Told.caller (met_by c.args.pass)) (sym same) c.take-turn.ensures.done
+    subst (AreSilent g.T.Told.caller (met_by c.args.pass)) (sym same) c.take-turn.ensures.done
 
 pub returns-clause-callers : goal.returns-clause-callers
 returns-clause-callers g c =
@@ -71,6 +71,16 @@ returns-clause-callers g c =
     let same = last.0 ∙ ap (λ m. m.0.seen) readied ∙ ap (λ m. held_list g.T.Told.list m.1) put.3 in
     subst (λ l. All (λ entry. g.T.Told.caller entry < callers_of c.args.self)
     (drop (length (g.T.Told.list (opened_with c.args.self))) l)) (sym same) c.take-turn.ensures.callers
+
+pub returns-clause-alone : goal.returns-clause-alone
+returns-clause-alone g c =
+    let put = c.exchange.ensures in
+    let readied = c.load.ensures.2 in
+    let last = closes_with _ _ _ _ _ _ c.load.new.seat.me.0 _ _ c.take.result c.unwrap-last.result
+    (ap (λ m. m.0.stage) readied) c.close_with-closed.ensures.values.2 c.take.ensures.value c.unwrap-last.ensures in
+    let same = last.0 ∙ ap (λ m. m.0.seen) readied ∙ ap (λ m. held_list g.T.Told.list m.1) put.3 in
+    λ alone. subst (λ l. All (λ entry. g.T.Told.caller entry < count_of c.args.pass)
+    (drop (length (g.T.Told.list (opened_with c.args.self))) l)) (sym same) (c.take-turn.ensures.alone alone)
 
 pub returns-clause-pair : goal.returns-clause-pair
 returns-clause-pair g c =

@@ -1,8 +1,8 @@
-use Rattle.std.proofs.Common.{◌≡◌, rules, ap, ◌∙◌, arith}
+use Rattle.std.proofs.Common.{◌≡◌, rules, ap, ◌∙◌, sym, arith}
 use Rattle.history_lock.specs.Rule.{numbers_of}
 use Rattle.history_lock.specs.Passes.{callers_of}
 use Rattle.history_lock.proofs.Numbers.{counts, draws}
-use Rattle.history_lock.proofs.Joins.{copies, notes}
+use Rattle.history_lock.proofs.Joins.{hands, notes, returns}
 use Rattle.history_lock.proofs.lock.Lock.draw.Goals as goal
 
 pub load-next-requires : goal.load-next-requires
@@ -18,7 +18,7 @@ split_seat-new-requires g c =
     let counted = c.load-next.ensures.2.0 in (
       search rules,
       search rules,
-      copies _ _ _ _ _ _ c.load-next.new.seat.me.0 (ap (λ m. m.0.stage) counted
+      hands _ _ _ _ _ _ c.load-next.new.seat.me.0 (ap (λ m. m.0.stage) counted
           ∙ ap (λ v. v.stage) c.loop.invariant.1 ∙ c.requires.away.0),
     )
 
@@ -34,6 +34,8 @@ compare_exchange-requires g c =
       draws _ _ _ _ _ _ _ c.split_seat-new.result.me.0 c.split_seat-new.result.me.1 c.load-next.result
           (ap (λ m. m.0.stage) copied)
           (ap (λ m. m.0.numbered) copied)
+          (λ never. c.requires.draws (sym (ap (λ m. m.0.drawing) copied ∙ ap (λ m. m.0.drawing) counted
+          ∙ ap (λ v. v.drawing) c.loop.invariant.1) ∙ never))
           (omega arith),
     )
 
@@ -43,7 +45,7 @@ split_seat-note-requires g c =
     let drew = c.compare_exchange.ensures.2.0 c.if-compare_exchange-next.true in (
       search rules,
       search rules,
-      copies _ _ _ _ _ _ c.compare_exchange.new.seat.me.0 (ap (λ m. m.0.stage) drew.1
+      hands _ _ _ _ _ _ c.compare_exchange.new.seat.me.0 (ap (λ m. m.0.stage) drew.1
           ∙ ap (λ m. m.0.stage) copied),
     )
 
@@ -60,4 +62,21 @@ join_seat-requires g c =
           ∙ c.requires.away.0)
           (ap (λ m. m.0.stage) c.split_seat-note.ensures.4)
           (ap (λ m. numbers_of m.0) c.split_seat-note.ensures.4),
+    )
+
+pub join_seat-requires-in-loop : goal.join_seat-requires-in-loop
+join_seat-requires-in-loop g c =
+    let counted = c.load-next.ensures.2.0 in
+    let split = c.split_seat-new.ensures.2 in
+    let copied = c.split_seat-new.ensures.4 in
+    let missed = c.compare_exchange.ensures.2.1 c.if-compare_exchange-next.false in (
+      search rules,
+      search rules,
+      search rules,
+      search rules,
+      returns _ _ _ _ _ _ c.split_seat-new.new.seat.me.0 _ c.compare_exchange.new.seat.me.0
+          (ap (λ m. m.0.stage) split ∙ ap (λ m. m.0.stage) counted ∙ ap (λ v. v.stage) c.loop.invariant.1
+          ∙ c.requires.away.0)
+          (ap (λ m. m.0.stage) missed ∙ ap (λ m. m.0.stage) copied)
+          (ap (λ m. numbers_of m.0) missed ∙ ap (λ m. numbers_of m.0) copied),
     )

@@ -1,4 +1,5 @@
 use Rattle.std.proofs.Common.{◌≡◌, ◌≤◌, []}
+use Rattle.history_lock.specs.declared.view.Drawing.TheVariants.{Alone}
 use Rattle.history_lock.specs.Steps.{Recounted}
 use Rattle.history_lock.proofs.lock.Lock.draw.Given as goal
 
@@ -7,3 +8,4 @@ invariant-loop g l =
     (l.seat.table_id ≡ l.initial.seat.table_id) × Recounted l.initial.seat.me.0 l.seat.me.0 × (l.seat.me.1 ≡ [])
     × (l.seat.me.0.given ≡ l.initial.seat.me.0.given)
     × (l.initial.seat.me.0.count ≤ l.seat.me.0.count)
+    × (l.initial.seat.me.0.drawing ≡ Alone → l.seat.me.0.count ≡ l.initial.seat.me.0.count)

@@ -1,6 +1,6 @@
 use Rattle.std.proofs.Common.{rules, ◌∷◌, Some, drop, length, sym, ap, ◌∙◌, subst}
 use Rattle.atomic_table.specs.Table.{rest}
-use Rattle.history_lock.specs.History.{StartsWith, AllOf, AreDone}
+use Rattle.history_lock.specs.History.{StartsWith, AllOf, AreSilent}
 use Rattle.history_lock.specs.Steps.{the_view, held_list}
 use Rattle.history_lock.specs.Passes.{opened_with, taken_by}
 use Rattle.history_lock.proofs.Histories.{starts_through}
@@ -40,5 +40,5 @@ returns-clause-pass g c =
       begins = subst (λ l. StartsWith l (g.T.Told.list (opened_with c.args.self.now))) (sym seen)
           (starts_through (g.T.Told.list c.args.value) (taken_by c.args.turn)
           (g.T.Told.list (opened_with c.args.self.now)) c.requires.list turn.begins);
-      done = subst (λ v. AreDone g.T.Told.caller v.met v.seen) (sym view) left.1;
+      done = subst (λ v. AreSilent g.T.Told.caller v.met v.seen) (sym view) left.1;
     }

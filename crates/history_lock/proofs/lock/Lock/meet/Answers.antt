@@ -9,7 +9,7 @@ join_seat-requires g c =
     let mine = c.into_seat-seat.ensures in
     let theirs = c.into_seat.ensures in
     let view = ap the_view (sym mine.2) ∙ ap (λ badge. the_view badge.views) c.replace.ensures.value in
-    let other = ap the_view (sym theirs.2) ∙ ap the_view c.into_parts-badge.ensures.2 in (
+    let other = ap the_view (sym theirs.2) ∙ ap the_view c.into_parts-badge.ensures.3 in (
       search rules,
       search rules,
       search rules,

@@ -8,7 +8,7 @@ pub compare_exchange-requires : goal.compare_exchange-requires
 compare_exchange-requires g c =
     let kept = c.loop.invariant.1 in
     let made = c.into_seat-seat.ensures in
-    let view = ap the_view (sym made.2) ∙ ap the_view c.into_parts-number.ensures.2 in (
+    let view = ap the_view (sym made.2) ∙ ap the_view c.into_parts-number.ensures.3 in (
       search rules,
       search rules,
       tries_at _ _ _ _ _ _ _ c.loop.seat.me

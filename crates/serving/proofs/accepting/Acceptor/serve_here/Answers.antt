@@ -14,4 +14,4 @@ returns-clause-stands g c =
     (sym c.self.view_is) c.requires.asked)
     c.talk-ended.result.pass (g.D.Doors.shown c.back.new.self)
     (record { ended = c.talk-ended.result.ended; link = g.D.Doors.rest_seen c.talk-ended.result.rest })
-    c.talk-ended.ensures.talked c.talk-ended.ensures.count c.talk-ended.ensures.met c.back.ensures.shown
+    c.talk-ended.ensures.talked c.talk-ended.ensures.drawing c.talk-ended.ensures.met c.back.ensures.shown

@@ -1,4 +1,5 @@
-use Rattle.std.proofs.Common.{◌+◌, length, drop, arith, length-drop, ap}
+use Rattle.std.proofs.Common.{◌+◌, length, take, drop, arith, length-drop, ap}
+use Rattle.std.proofs.lemmas.List.{length-take-le}
 use Rattle.sheets_http.specs.Requests.{Buffered}
 use Rattle.sheets_http.proofs.ScanLemmas.{ready_at_start}
 use Rattle.sheets_http.proofs.buffer.Buffer.advance.Goals as goal
@@ -8,7 +9,9 @@ invariant_of-self c = (
   omega (
     arith,
     ap (λ (h : Buffered). length h.pending) c.self.view_is,
-    length-drop c.self.inside.start c.self.inside.bytes.items,
+    length-drop c.self.inside.start (take c.self.inside.end c.self.inside.bytes.items),
+    length-take-le c.self.inside.end c.self.inside.bytes.items (omega (arith, c.self.invariant.1)),
   ),
-  ready_at_start (drop (c.self.inside.start + c.args.count) c.self.inside.bytes.items),
+  c.self.invariant.1,
+  ready_at_start (drop (c.self.inside.start + c.args.count) (take c.self.inside.end c.self.inside.bytes.items)),
 )

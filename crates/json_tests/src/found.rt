@@ -1,0 +1,219 @@
+use crate::common::{check, is_answer, text};
+use cell_value::Items;
+use dev_metadata::{Item, Sight, SightKind, Spot, SpotKind};
+use grid_range::{Area, Axis, Band};
+use sheets_json::{
+    Answer, DataFilter, DimensionRange, Location, MatchedMetadata, MatchedRange, MatchingStrategy,
+    MetadataLookup, Reply, ShownRange,
+};
+use std::alloc::Global;
+
+/// The item with the id 1 and the key `k` at a place.
+fn item(alloc: Global, value: &str, spot: Spot, sight: Sight) -> Item {
+    Item {
+        id: 1,
+        key: text(alloc, "k"),
+        value: text(alloc, value),
+        spot,
+        sight,
+    }
+}
+
+/// A look-up that asks for nothing.
+fn any() -> MetadataLookup {
+    MetadataLookup {
+        location_type: None,
+        metadata_location: None,
+        location_matching_strategy: None,
+        metadata_id: None,
+        metadata_key: None,
+        metadata_value: None,
+        visibility: None,
+    }
+}
+
+/// A look-up that asks for all that one may.
+fn whole(alloc: Global) -> MetadataLookup {
+    MetadataLookup {
+        location_type: Some(SpotKind::Sheet),
+        metadata_location: Some(Location::DimensionRange(DimensionRange {
+            sheet_id: 2,
+            dimension: Axis::Columns,
+            start_index: 3,
+            end_index: None,
+        })),
+        location_matching_strategy: Some(MatchingStrategy::Exact),
+        metadata_id: Some(5),
+        metadata_key: Some(text(alloc, "k")),
+        metadata_value: Some(text(alloc, "")),
+        visibility: Some(SightKind::Project),
+    }
+}
+
+/// A list of one thing; of none where memory runs out.
+fn alone<T: Drop>(alloc: Global, thing: T) -> Items<T> {
+    let mut things = Vec::new(alloc);
+    let _ = things.push(thing);
+    Items::of(things)
+}
+
+/// Places of items that everybody sees, and their texts.
+static PLACES: [(Spot, &str); 5] = [
+    (
+        Spot::Spreadsheet,
+        "{\"location\":{\"locationType\":\"SPREADSHEET\",\"spreadsheet\":true},\"metadataId\":1,\"metadataKey\":\"k\",\"visibility\":\"DOCUMENT\"}",
+    ),
+    (
+        Spot::Sheet(2),
+        "{\"location\":{\"locationType\":\"SHEET\",\"sheetId\":2},\"metadataId\":1,\"metadataKey\":\"k\",\"visibility\":\"DOCUMENT\"}",
+    ),
+    (
+        Spot::Line(0, Axis::Rows, 4),
+        "{\"location\":{\"dimensionRange\":{\"dimension\":\"ROWS\",\"endIndex\":5,\"sheetId\":0,\"startIndex\":4},\"locationType\":\"ROW\"},\"metadataId\":1,\"metadataKey\":\"k\",\"visibility\":\"DOCUMENT\"}",
+    ),
+    (
+        Spot::Line(3, Axis::Columns, 0),
+        "{\"location\":{\"dimensionRange\":{\"dimension\":\"COLUMNS\",\"endIndex\":1,\"sheetId\":3,\"startIndex\":0},\"locationType\":\"COLUMN\"},\"metadataId\":1,\"metadataKey\":\"k\",\"visibility\":\"DOCUMENT\"}",
+    ),
+    (
+        Spot::Line(3, Axis::Columns, 4_294_967_295),
+        "{\"location\":{\"dimensionRange\":{\"dimension\":\"COLUMNS\",\"endIndex\":4294967296,\"sheetId\":3,\"startIndex\":4294967295},\"locationType\":\"COLUMN\"},\"metadataId\":1,\"metadataKey\":\"k\",\"visibility\":\"DOCUMENT\"}",
+    ),
+];
+
+/// Whether an item at a place that everybody sees has that text.
+fn is_item(alloc: Global, spot: Spot, wanted: &str) -> bool {
+    let answer = Answer::Item(item(alloc, "", spot, Sight::Document));
+    is_answer(alloc, &answer, wanted)
+}
+
+#[test]
+fn items_are_answered(rt: HostRuntime) {
+    for row in &PLACES {
+        check(&rt, row, is_item(rt.alloc(), row.0, row.1));
+    }
+}
+
+/// The item of a project on a sheet.
+fn of_project(alloc: Global) -> Item {
+    let sight = Sight::Project(text(alloc, "p"));
+    item(alloc, "v", Spot::Sheet(2), sight)
+}
+
+#[test]
+fn items_of_projects_are_answered(rt: HostRuntime) {
+    let alloc = rt.alloc();
+    let wanted =
+        "{\"location\":{\"locationType\":\"SHEET\",\"sheetId\":2},\"metadataId\":1,\"metadataKey\":\"k\",\"metadataValue\":\"v\",\"visibility\":\"PROJECT\"}";
+    let answer = Answer::Item(of_project(alloc));
+    check(&rt, &wanted, is_answer(alloc, &answer, wanted));
+}
+
+/// The answer to a search.
+fn search(found: Option<Items<MatchedMetadata>>) -> Answer {
+    Answer::Search {
+        matched_developer_metadata: found,
+    }
+}
+
+#[test]
+fn empty_searches_are_answered(rt: HostRuntime) {
+    let alloc = rt.alloc();
+    check(&rt, &"absent", is_answer(alloc, &search(None), "{}"));
+    let none = Some(Items::of(Vec::new(alloc)));
+    let wanted = "{\"matchedDeveloperMetadata\":[]}";
+    check(&rt, &wanted, is_answer(alloc, &search(none), wanted));
+}
+
+#[test]
+fn searches_are_answered(rt: HostRuntime) {
+    let alloc = rt.alloc();
+    let filter = DataFilter::DeveloperMetadataLookup(whole(alloc));
+    let found = alone(
+        alloc,
+        MatchedMetadata {
+            data_filters: alone(alloc, filter),
+            developer_metadata: of_project(alloc),
+        },
+    );
+    let wanted =
+        "{\"matchedDeveloperMetadata\":[{\"dataFilters\":[{\"developerMetadataLookup\":{\"locationMatchingStrategy\":\"EXACT_LOCATION\",\"locationType\":\"SHEET\",\"metadataId\":5,\"metadataKey\":\"k\",\"metadataLocation\":{\"dimensionRange\":{\"dimension\":\"COLUMNS\",\"sheetId\":2,\"startIndex\":3}},\"metadataValue\":\"\",\"visibility\":\"PROJECT\"}}],\"developerMetadata\":{\"location\":{\"locationType\":\"SHEET\",\"sheetId\":2},\"metadataId\":1,\"metadataKey\":\"k\",\"metadataValue\":\"v\",\"visibility\":\"PROJECT\"}}]}";
+    check(&rt, &wanted, is_answer(alloc, &search(Some(found)), wanted));
+}
+
+/// The answer to a read of what a filter finds: one cell that shows nothing.
+fn filtered(alloc: Global, filter: DataFilter) -> Answer {
+    let shown = ShownRange {
+        range: text(alloc, "Sheet1!A1"),
+        major_dimension: Axis::Rows,
+        values: None,
+    };
+    let matched = MatchedRange {
+        data_filters: alone(alloc, filter),
+        value_range: shown,
+    };
+    Answer::ReadFiltered {
+        spreadsheet_id: text(alloc, "book1"),
+        value_ranges: alone(alloc, matched),
+    }
+}
+
+#[test]
+fn reads_by_filters_are_answered(rt: HostRuntime) {
+    let alloc = rt.alloc();
+    let answer = filtered(alloc, DataFilter::A1Range(text(alloc, "A1")));
+    let wanted =
+        "{\"spreadsheetId\":\"book1\",\"valueRanges\":[{\"dataFilters\":[{\"a1Range\":\"A1\"}],\"valueRange\":{\"majorDimension\":\"ROWS\",\"range\":\"Sheet1!A1\"}}]}";
+    check(&rt, &wanted, is_answer(alloc, &answer, wanted));
+    let answer = filtered(alloc, DataFilter::DeveloperMetadataLookup(any()));
+    let wanted =
+        "{\"spreadsheetId\":\"book1\",\"valueRanges\":[{\"dataFilters\":[{\"developerMetadataLookup\":{}}],\"valueRange\":{\"majorDimension\":\"ROWS\",\"range\":\"Sheet1!A1\"}}]}";
+    check(&rt, &wanted, is_answer(alloc, &answer, wanted));
+}
+
+#[test]
+fn reads_of_areas_are_answered(rt: HostRuntime) {
+    let alloc = rt.alloc();
+    let area = Area {
+        sheet: 0,
+        rows: Band::From(2),
+        cols: Band::Span(0, 3),
+    };
+    let answer = filtered(alloc, DataFilter::GridRange(area));
+    let wanted =
+        "{\"spreadsheetId\":\"book1\",\"valueRanges\":[{\"dataFilters\":[{\"gridRange\":{\"endColumnIndex\":3,\"sheetId\":0,\"startColumnIndex\":0,\"startRowIndex\":2}}],\"valueRange\":{\"majorDimension\":\"ROWS\",\"range\":\"Sheet1!A1\"}}]}";
+    check(&rt, &wanted, is_answer(alloc, &answer, wanted));
+    let none = Answer::ReadFiltered {
+        spreadsheet_id: text(alloc, "book1"),
+        value_ranges: Items::of(Vec::new(alloc)),
+    };
+    let wanted = "{\"spreadsheetId\":\"book1\",\"valueRanges\":[]}";
+    check(&rt, &wanted, is_answer(alloc, &none, wanted));
+}
+
+/// The replies of a batch of requests for metadata.
+fn replies(alloc: Global) -> Items<Reply> {
+    let mut replies = Vec::new(alloc);
+    let _ = replies.push(Reply::CreateDeveloperMetadata {
+        developer_metadata: of_project(alloc),
+    });
+    let _ = replies.push(Reply::UpdateDeveloperMetadata {
+        developer_metadata: Items::of(Vec::new(alloc)),
+    });
+    let _ = replies.push(Reply::DeleteDeveloperMetadata {
+        deleted_developer_metadata: alone(alloc, of_project(alloc)),
+    });
+    Items::of(replies)
+}
+
+#[test]
+fn requests_for_metadata_are_answered(rt: HostRuntime) {
+    let alloc = rt.alloc();
+    let answer = Answer::Batch {
+        replies: replies(alloc),
+        spreadsheet_id: text(alloc, "book1"),
+    };
+    let wanted =
+        "{\"replies\":[{\"createDeveloperMetadata\":{\"developerMetadata\":{\"location\":{\"locationType\":\"SHEET\",\"sheetId\":2},\"metadataId\":1,\"metadataKey\":\"k\",\"metadataValue\":\"v\",\"visibility\":\"PROJECT\"}}},{\"updateDeveloperMetadata\":{\"developerMetadata\":[]}},{\"deleteDeveloperMetadata\":{\"deletedDeveloperMetadata\":[{\"location\":{\"locationType\":\"SHEET\",\"sheetId\":2},\"metadataId\":1,\"metadataKey\":\"k\",\"metadataValue\":\"v\",\"visibility\":\"PROJECT\"}]}}],\"spreadsheetId\":\"book1\"}";
+    check(&rt, &wanted, is_answer(alloc, &answer, wanted));
+}

@@ -1,0 +1,158 @@
+use crate::common::{check, is_answer, text};
+use basic_filter::{Condition, Criterion, Filter};
+use cell_value::{Items, Text};
+use grid_range::{Area, Band};
+use sheets_json::{Answer, Reply, ShownProperties, ShownProtection, ShownSheet, Spreadsheet};
+use std::alloc::Global;
+
+/// All cells of the first sheet.
+const SHEET: Area = Area {
+    sheet: 0,
+    rows: Band::Whole,
+    cols: Band::Whole,
+};
+
+/// A cell of the first sheet.
+const CELL: Area = Area {
+    sheet: 0,
+    rows: Band::Span(0, 1),
+    cols: Band::Span(1, 2),
+};
+
+/// The spreadsheet `book1` with a sheet of one cell that has this filter and these protected ranges.
+fn shown(
+    alloc: Global,
+    filter: Option<Filter>,
+    protected: Option<Items<ShownProtection>>,
+) -> Answer {
+    let mut sheets = Vec::new(alloc);
+    let _ = sheets.push(ShownSheet {
+        basic_filter: filter,
+        data: None,
+        merges: None,
+        properties: ShownProperties {
+            column_count: 1,
+            row_count: 1,
+            hidden: false,
+            index: 0,
+            sheet_id: 0,
+            title: text(alloc, "x"),
+        },
+        protected_ranges: protected,
+    });
+    Answer::Get(Spreadsheet {
+        named_ranges: None,
+        title: text(alloc, "t"),
+        sheets: Items::of(sheets),
+        spreadsheet_id: text(alloc, "book1"),
+    })
+}
+
+/// Texts; fewer where memory runs out.
+fn texts(alloc: Global, given: &[&str]) -> Items<Text> {
+    let mut texts = Vec::new(alloc);
+    for one in given {
+        let _ = texts.push(text(alloc, one));
+    }
+    Items::of(texts)
+}
+
+/// A filter of a sheet with these criteria.
+fn filter(criteria: Vec<Criterion>) -> Filter {
+    Filter {
+        area: SHEET,
+        criteria: Items::of(criteria),
+    }
+}
+
+/// A criterion that only has a condition.
+fn asks(alloc: Global, column: u32, condition: Condition) -> Criterion {
+    Criterion {
+        column,
+        hidden: texts(alloc, &[]),
+        condition: Some(condition),
+    }
+}
+
+/// Criteria of the columns 2, 10 and 1, in this order.
+fn criteria(alloc: Global) -> Vec<Criterion> {
+    let mut criteria = Vec::new(alloc);
+    let _ = criteria.push(Criterion {
+        column: 2,
+        hidden: texts(alloc, &["x", ""]),
+        condition: None,
+    });
+    let _ = criteria.push(asks(alloc, 10, Condition::Blank));
+    let _ = criteria.push(asks(alloc, 1, Condition::NumberBetween(-5, 10)));
+    criteria
+}
+
+#[test]
+fn filters_are_shown(rt: HostRuntime) {
+    let alloc = rt.alloc();
+    let bare = shown(alloc, Some(filter(Vec::new(alloc))), None);
+    let wanted =
+        "{\"properties\":{\"title\":\"t\"},\"sheets\":[{\"basicFilter\":{\"range\":{\"sheetId\":0}},\"properties\":{\"gridProperties\":{\"columnCount\":1,\"rowCount\":1},\"index\":0,\"sheetId\":0,\"sheetType\":\"GRID\",\"title\":\"x\"}}],\"spreadsheetId\":\"book1\"}";
+    check(&rt, &wanted, is_answer(alloc, &bare, wanted));
+    let full = shown(alloc, Some(filter(criteria(alloc))), None);
+    let wanted =
+        "{\"properties\":{\"title\":\"t\"},\"sheets\":[{\"basicFilter\":{\"criteria\":{\"1\":{\"condition\":{\"type\":\"NUMBER_BETWEEN\",\"values\":[{\"userEnteredValue\":\"-5\"},{\"userEnteredValue\":\"10\"}]}},\"10\":{\"condition\":{\"type\":\"BLANK\"}},\"2\":{\"hiddenValues\":[\"x\",\"\"]}},\"range\":{\"sheetId\":0}},\"properties\":{\"gridProperties\":{\"columnCount\":1,\"rowCount\":1},\"index\":0,\"sheetId\":0,\"sheetType\":\"GRID\",\"title\":\"x\"}}],\"spreadsheetId\":\"book1\"}";
+    check(&rt, &wanted, is_answer(alloc, &full, wanted));
+}
+
+/// A protected range with a description, editors and a cell that is left open.
+fn protected(alloc: Global) -> ShownProtection {
+    let mut open = Vec::new(alloc);
+    let _ = open.push(CELL);
+    ShownProtection {
+        description: text(alloc, "d"),
+        editors: Some(texts(alloc, &["b", "a"])),
+        protected_range_id: 1,
+        range: SHEET,
+        requesting_user_can_edit: true,
+        unprotected_ranges: Items::of(open),
+        warning_only: false,
+    }
+}
+
+/// A protected range that has nothing to be told.
+fn bare(alloc: Global, editors: Option<Items<Text>>, warns: bool) -> ShownProtection {
+    ShownProtection {
+        description: text(alloc, ""),
+        editors,
+        protected_range_id: 2,
+        range: CELL,
+        requesting_user_can_edit: warns,
+        unprotected_ranges: Items::of(Vec::new(alloc)),
+        warning_only: warns,
+    }
+}
+
+#[test]
+fn protected_ranges_are_shown(rt: HostRuntime) {
+    let alloc = rt.alloc();
+    let mut ranges = Vec::new(alloc);
+    let _ = ranges.push(protected(alloc));
+    let _ = ranges.push(bare(alloc, None, true));
+    let _ = ranges.push(bare(alloc, Some(texts(alloc, &[])), false));
+    let answer = shown(alloc, None, Some(Items::of(ranges)));
+    let wanted =
+        "{\"properties\":{\"title\":\"t\"},\"sheets\":[{\"properties\":{\"gridProperties\":{\"columnCount\":1,\"rowCount\":1},\"index\":0,\"sheetId\":0,\"sheetType\":\"GRID\",\"title\":\"x\"},\"protectedRanges\":[{\"description\":\"d\",\"editors\":{\"users\":[\"b\",\"a\"]},\"protectedRangeId\":1,\"range\":{\"sheetId\":0},\"requestingUserCanEdit\":true,\"unprotectedRanges\":[{\"endColumnIndex\":2,\"endRowIndex\":1,\"sheetId\":0,\"startColumnIndex\":1,\"startRowIndex\":0}]},{\"protectedRangeId\":2,\"range\":{\"endColumnIndex\":2,\"endRowIndex\":1,\"sheetId\":0,\"startColumnIndex\":1,\"startRowIndex\":0},\"requestingUserCanEdit\":true,\"warningOnly\":true},{\"editors\":{\"users\":[]},\"protectedRangeId\":2,\"range\":{\"endColumnIndex\":2,\"endRowIndex\":1,\"sheetId\":0,\"startColumnIndex\":1,\"startRowIndex\":0},\"requestingUserCanEdit\":false}]}],\"spreadsheetId\":\"book1\"}";
+    check(&rt, &wanted, is_answer(alloc, &answer, wanted));
+}
+
+#[test]
+fn new_protected_ranges_are_answered(rt: HostRuntime) {
+    let alloc = rt.alloc();
+    let mut replies = Vec::new(alloc);
+    let _ = replies.push(Reply::AddProtectedRange {
+        protected_range: bare(alloc, None, true),
+    });
+    let answer = Answer::Batch {
+        replies: Items::of(replies),
+        spreadsheet_id: text(alloc, "book1"),
+    };
+    let wanted =
+        "{\"replies\":[{\"addProtectedRange\":{\"protectedRange\":{\"protectedRangeId\":2,\"range\":{\"endColumnIndex\":2,\"endRowIndex\":1,\"sheetId\":0,\"startColumnIndex\":1,\"startRowIndex\":0},\"requestingUserCanEdit\":true,\"warningOnly\":true}}}],\"spreadsheetId\":\"book1\"}";
+    check(&rt, &wanted, is_answer(alloc, &answer, wanted));
+}
