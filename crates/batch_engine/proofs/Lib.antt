@@ -11,6 +11,10 @@ pub mod RowsAppended
 pub mod Listing
 pub mod RangesMade
 pub mod RangesOnce
+pub mod MergedParts
+pub mod UpdatesJoined
+pub mod MergesMade
+pub mod MergesOnce
 pub mod RequestsOnce
 pub mod Once
 pub mod Judging

@@ -10,6 +10,7 @@ use Rattle.grid_range.specs.declared.axis.Axis.{Axis}
 use Rattle.a1_notation.specs.Laws.{HasOneReading}
 use Rattle.world_model.specs.Book.{PlaceBook}
 use Rattle.world_model.specs.BookChange.{AreChanges, BookChange}
+use Rattle.merge_ranges.specs.Calls.{ListsAreSame}
 use Rattle.world_model.specs.ChangingLaws.{ChangesApart, ChangesInTurn}
 use Rattle.world_model.specs.Sheet.{PlaceSheet}
 use Rattle.world_model.specs.Sound.{IsSound, place_sheet_with}
@@ -259,7 +260,7 @@ found_sound id (b ∷ bs) all =
     (found_sound id bs (λ k d there. all (suc k) d (omega arith)))
 
 module _ (one_reading : HasOneReading) (news : NewSheetsOnce) (reads : ReadsOnce) (writes : WritesOnce) (appends : AppendsOnce)
-    (apart : ChangesApart) (turns : ChangesInTurn) where
+    (apart : ChangesApart) (turns : ChangesInTurn) (lists : ListsAreSame) where
   shown_once : (dimension : Option Axis) (render : Option Render) (book : PlaceBook) → IsSound book → (range : List ℕ)
       (one other : Result ShownRange Rule) → IsShown dimension render book range one
       → IsShown dimension render book range other → one ≡ other
@@ -356,7 +357,7 @@ module _ (one_reading : HasOneReading) (news : NewSheetsOnce) (reads : ReadsOnce
         on_book_once id (IsLookOf grids) (λ book sound. said_once (Ok (looked grids book)) Nothing)
     answered_once caller (call.Batch id requests) =
         on_book_once id (IsBatchOf requests)
-        (λ book sound. are_made_once IsRequested (requested_once news writes apart turns) requests place.Requests
+        (λ book sound. are_made_once IsRequested (requested_once news writes apart turns lists) requests place.Requests
         (λ replies. answer.Batch replies book.id) book sound)
     answered_once caller (call.ReadFiltered id filters dimension render) = not_done_once
     answered_once caller (call.Item id item) = not_done_once

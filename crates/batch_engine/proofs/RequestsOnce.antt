@@ -3,6 +3,7 @@ use Rattle.std.proofs.Common.{◌≡◌, true, false, sym, ap, ◌∙◌, List, 
 use Rattle.std.specs.Prelude.{Option, None, Some, unwrap_or, Result, Ok, Err}
 use Rattle.cell_value.specs.declared.cell.Block.{Block}
 use Rattle.cell_value.specs.declared.cell.SheetProperties.{SheetProperties}
+use Rattle.merge_ranges.specs.Calls.{ListsAreSame}
 use Rattle.world_model.specs.Book.{PlaceBook}
 use Rattle.world_model.specs.BookChange.{BookChange}
 use Rattle.world_model.specs.ChangingLaws.{ChangesApart, ChangesInTurn}
@@ -22,6 +23,7 @@ use Rattle.batch_engine.specs.AddSheet.{IsAddSheet, IsAdded, any_properties, she
 use Rattle.batch_engine.specs.Requests.{IsDoneAsAsked, IsRequested}
 use Rattle.batch_engine.specs.Rows.{AreRowsWritten, area_or_broken}
 use Rattle.batch_engine.specs.UpdateCells.{IsUpdateCells, area_emptied, area_from}
+use Rattle.batch_engine.proofs.MergesOnce.{merge_cells_once, unmerge_cells_once}
 use Rattle.batch_engine.proofs.RangesOnce.{add_named_range_once, update_named_range_once}
 use Rattle.batch_engine.proofs.RowsAppended.{append_cells_once}
 use Rattle.batch_engine.proofs.RowsOnce.{on_area_once, rows_once}
@@ -47,7 +49,8 @@ module _ (news : NewSheetsOnce) (book : PlaceBook) where
       let properties = unwrap_or given any_properties in
       added_once properties (first_broken (sheet_added_broken properties book.sheets))
 
-module _ (news : NewSheetsOnce) (writes : WritesOnce) (apart : ChangesApart) (turns : ChangesInTurn) (book : PlaceBook) (sound : IsSound book) where
+module _ (news : NewSheetsOnce) (writes : WritesOnce) (apart : ChangesApart) (turns : ChangesInTurn)
+    (lists : ListsAreSame) (book : PlaceBook) (sound : IsSound book) where
   update_cells_once : (rows : Block) (area : UpdatedArea) → IsOne (IsUpdateCells rows area book)
   update_cells_once rows (Start cell) =
       on_area_once (AreRowsWritten [] rows true book)
@@ -68,8 +71,8 @@ module _ (news : NewSheetsOnce) (writes : WritesOnce) (apart : ChangesApart) (tu
   asked_once (request.DeleteDimension range) = λ told told' is is'. is ∙ sym is'
   asked_once (request.AppendDimension sheet dimension length) = λ told told' is is'. is ∙ sym is'
   asked_once (request.MoveDimension source destination) = λ told told' is is'. is ∙ sym is'
-  asked_once (request.MergeCells range type) = refused_once _
-  asked_once (request.UnmergeCells range) = refused_once _
+  asked_once (request.MergeCells range type) = merge_cells_once lists book range type
+  asked_once (request.UnmergeCells range) = unmerge_cells_once lists book range
   asked_once (request.AddNamedRange range) = add_named_range_once book range
   asked_once (request.UpdateNamedRange id name range) = update_named_range_once book id name range
   asked_once (request.DeleteNamedRange id) = λ told told' is is'. is ∙ sym is'

@@ -1,12 +1,14 @@
 -- Rows that are appended: what is told of them, and that one thing is.
 use Rattle.std.proofs.Common.{◌≡◌, ℕ, ◌+◌, ◌<◌, ◌≤◌, refl, sym, ap, subst, ◌∙◌, List, [], ◌∷◌, cond, Bool, true, false, arith}
 use Rattle.std.specs.Prelude.{◌==◌, Option, Some, None, IsSomeAnd, MatchOption, Result, Ok, Err, option_map}
+use Rattle.std.specs.List.{list_any}
 use Rattle.std.specs.Option.{IsSome, option_map_or}
 use Rattle.std.proofs.lemmas.Bool.{eq-eqb, false≢true, lt-ltb, ne_eqb}
 use Rattle.cell_value.specs.declared.cell.Block.{Block}
 use Rattle.grid_range.specs.Area.{AreaWithin}
 use Rattle.grid_range.specs.declared.axis.Axis.TheVariants.{Rows}
 use Rattle.grid_range.specs.declared.change.Change.TheVariants.{Insert}
+use Rattle.merge_ranges.specs.Tests.{tears_merge}
 use Rattle.world_model.specs.Book.{PlaceBook}
 use Rattle.world_model.specs.BookChange.{AreChanges, BookChange}
 use Rattle.world_model.specs.ChangingLaws.{ChangesApart, ChangesInTurn, UpdatesAreChanges}
@@ -14,7 +16,7 @@ use Rattle.world_model.specs.Laws.{size_of}
 use Rattle.world_model.specs.Sheet.{PlaceSheet}
 use Rattle.world_model.specs.Sound.{IsSound, place_sheet_with}
 use Rattle.dimension_ops.specs.Broken.{first_broken, first_of, first_passed, unbroken}
-use Rattle.dimension_ops.specs.Lines.{IsLinesAnswer, lines_broken, passes_size, places_changed, size_changed}
+use Rattle.dimension_ops.specs.Lines.{IsLinesAnswer, lines_broken, lines_of_sheet, passes_size, places_changed, size_changed}
 use Rattle.dimension_ops.specs.Rules.{IsUnlessNoMemory}
 use Rattle.dimension_ops.specs.declared.rule.Limit.{Limit}
 use Rattle.dimension_ops.specs.declared.rule.Limit.TheVariants as limit
@@ -30,7 +32,8 @@ use Rattle.values_api.specs.Rows.{IsRowBehind}
 use Rattle.values_api.specs.declared.writing.Written.{Written as WrittenValues}
 use Rattle.sheets_json.specs.declared.spreadsheet.Reply.{Reply}
 use Rattle.sheets_json.specs.declared.spreadsheet.Reply.TheVariants as reply
-use Rattle.batch_engine.specs.AppendCells.{AreRowsAdded, AreRowsAppended, AreThere, AreWrittenFrom, IsAppendCells, Tells, UnlessBroken, UnlessNone, broken_by_rows, from_row, rows_missing}
+use Rattle.batch_engine.specs.AppendCells.{AreRowsAdded, AreRowsAppended, AreThere, AreWrittenFrom, IsAppendCells, UnlessNone, broken_by_rows, from_row, rows_missing}
+use Rattle.batch_engine.specs.Telling.{Tells, UnlessBroken}
 use Rattle.batch_engine.specs.Members.{IsDoneTo}
 use Rattle.batch_engine.specs.Rows.{AreRowsWritten}
 use Rattle.batch_engine.proofs.Found.{sheet_has_id, sheet_sound}
@@ -132,6 +135,10 @@ module _ (sheet count : ℕ) (before : PlaceBook) (found : PlaceSheet)
       ∷ limit.Merges ∷ limit.Names ∷ limit.Protections ∷ limit.Metadata ∷ [])
       (passes_size (found.table.rows + count, found.table.cols) places)
 
+  -- whether the rows tear a merge of a sheet
+  abbrev is_cut : PlaceSheet → Bool
+  is_cut own = list_any (tears_merge Rows (lines_of_sheet Rows own) (Insert found.table.rows count)) own.merges
+
   pub many_refused : 1000000 < count → AreRowsAdded sheet count found before before (Err (rule.PastLimit limit.Rows))
   many_refused many =
       let rows = found.table.rows in
@@ -140,13 +147,17 @@ module _ (sheet count : ℕ) (before : PlaceBook) (found : PlaceSheet)
       ∙ ap (λ one. first_broken (option_map_or (λ (own : PlaceSheet). record unbroken {
         last_line = (own.table.rows + count) == 0;
         past_limit = first_passed (passes_size (own.table.rows + count, own.table.cols) places);
+        merge_cut = is_cut own;
       }) one unbroken)) there
       ∙ ap (λ last. first_broken (record unbroken {
         last_line = last;
         past_limit = first_passed (passes_size (rows + count, found.table.cols) places);
+        merge_cut = is_cut found;
       })) (ne_eqb (rows + count) 0 (λ none. omega (arith, many, none)))
-      ∙ ap (λ past. first_broken (record unbroken { past_limit = cond past (Some limit.Rows) (behind_rows places) }))
-      (lt-ltb 1000000 (rows + count) (omega (arith, many)))
+      ∙ ap (λ past. first_broken (record unbroken {
+        past_limit = cond past (Some limit.Rows) (behind_rows places);
+        merge_cut = is_cut found;
+      })) (lt-ltb 1000000 (rows + count) (omega (arith, many)))
 
   size_added : (after : Option PlaceSheet) → option_map size_of after
       ≡ option_map (size_changed sheet Rows (Insert found.table.rows count)) (Some found)

@@ -21,10 +21,7 @@ use Rattle.values_api.specs.Rows.{IsRowBehind}
 use Rattle.sheets_json.specs.declared.spreadsheet.Reply.{Reply}
 use Rattle.sheets_json.specs.declared.spreadsheet.Reply.TheVariants as reply
 use Rattle.batch_engine.specs.Rows.{AreRowsWritten}
-
--- what is told of a request, and the changes that it makes
-abbrev pub Tells : Type 1
-Tells = Result (Reply × List BookChange) Rule → Type 0
+use Rattle.batch_engine.specs.Telling.{Tells, UnlessBroken}
 
 -- the sheet from the first column of the row on
 abbrev pub from_row : ℕ → ℕ → Area
@@ -38,11 +35,6 @@ rows_missing row rows found = missing row (rows_needed rows) found.table.rows
 abbrev pub broken_by_rows : ℕ → ℕ → PlaceSheet → List PlaceSheet → Option Rule
 broken_by_rows sheet count found sheets =
     if count == 0 then None else first_broken (lines_broken sheet Rows (Insert found.table.rows count) sheets)
-
--- what is done, unless that rule is broken
-abbrev pub UnlessBroken : Option Rule → Tells → Tells
-UnlessBroken None IsDone told = IsDone told
-UnlessBroken (Some broken) IsDone told = told ≡ Err broken
 
 -- the values are written from the row on, once the missing rows are there
 abbrev pub AreWrittenFrom : ℕ → ℕ → Block → PlaceBook → PlaceSheet → Tells

@@ -1,5 +1,6 @@
 pub mod Effects
 pub mod Ranges
+pub mod Telling
 pub mod Members
 pub mod Values
 pub mod Rows
@@ -14,6 +15,9 @@ pub mod Dimensions
 pub mod AddNamedRange
 pub mod UpdateNamedRange
 pub mod DeleteNamedRange
+pub mod Merging
+pub mod MergeCells
+pub mod UnmergeCells
 pub mod Requests
 pub mod Calls
 pub mod Laws

@@ -1,5 +1,5 @@
 -- What is shown of a spreadsheet itself (Google Sheets API v4 reference, spreadsheets.get, Spreadsheet, Sheet,
--- SheetProperties, GridData and NamedRange). None has merged cells, filters or protected ranges yet.
+-- SheetProperties, GridData and NamedRange). None has filters or protected ranges yet.
 use Rattle.std.specs.Prelude.{ℕ, ◌+◌, Bool, true, false, List, [], ◌∷◌, Option, None, Some, unwrap_or}
 use Rattle.world_model.specs.Book.{PlaceBook}
 use Rattle.world_model.specs.Sheet.{PlaceSheet}
@@ -27,12 +27,13 @@ abbrev pub rows_shown : Bool → Option GridData
 rows_shown true = Some (record { row_metadata = [] })
 rows_shown false = None
 
--- the sheet at a place among the sheets, with its rows or without
+-- the sheet at a place among the sheets, with its rows or without; its merges stand by first row and then first column,
+-- where there are some
 abbrev pub shown_sheet : Bool → ℕ → PlaceSheet → ShownSheet
 shown_sheet grids index sheet = record {
   basic_filter = None;
   «data» = rows_shown grids;
-  merges = None;
+  merges = unless_empty sheet.merges;
   properties = shown_properties index sheet;
   protected_ranges = None;
 }

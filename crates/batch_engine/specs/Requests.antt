@@ -17,6 +17,8 @@ use Rattle.batch_engine.specs.AppendCells.{IsAppendCells}
 use Rattle.batch_engine.specs.DeleteNamedRange.{range_deleted}
 use Rattle.batch_engine.specs.DeleteSheet.{IsDeleteSheet}
 use Rattle.batch_engine.specs.Dimensions.{dimension_appended, dimension_deleted, dimension_inserted, dimension_moved}
+use Rattle.batch_engine.specs.MergeCells.{IsMergeCells}
+use Rattle.batch_engine.specs.UnmergeCells.{IsUnmergeCells}
 use Rattle.batch_engine.specs.UpdateCells.{IsUpdateCells}
 use Rattle.batch_engine.specs.UpdateNamedRange.{IsUpdateNamedRange}
 use Rattle.batch_engine.specs.UpdateSheetProperties.{sheet_properties_updated}
@@ -36,6 +38,8 @@ IsDoneAsAsked book (request.DeleteDimension range) told = told ≡ dimension_del
 IsDoneAsAsked book (request.AppendDimension sheet axis length) told =
     told ≡ dimension_appended sheet axis length book.sheets
 IsDoneAsAsked book (request.MoveDimension range to) told = told ≡ dimension_moved range to book.sheets
+IsDoneAsAsked book (request.MergeCells range type) told = IsMergeCells range type book told
+IsDoneAsAsked book (request.UnmergeCells range) told = IsUnmergeCells range book told
 IsDoneAsAsked book (request.AddNamedRange range) told = IsAddNamedRange range book told
 IsDoneAsAsked book (request.UpdateNamedRange id name range) told = IsUpdateNamedRange id name range book told
 IsDoneAsAsked book (request.DeleteNamedRange id) told = told ≡ range_deleted id book.ranges

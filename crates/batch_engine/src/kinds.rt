@@ -10,6 +10,9 @@ mod delete_named_range;
 mod delete_sheet;
 mod dimensions;
 mod given;
+mod merge_cells;
+mod merging;
+mod unmerge_cells;
 mod update_cells;
 mod update_named_range;
 mod update_sheet_properties;
@@ -21,8 +24,10 @@ use delete_named_range::delete_named_range;
 use delete_sheet::delete_sheet;
 use dimension_ops::{Book, Rule, RuleOr};
 use dimensions::{append_dimension, delete_dimension, insert_dimension, move_dimension};
+use merge_cells::merge_cells;
 use sheets_json::{Reply, Request};
 use std::alloc::Global;
+use unmerge_cells::unmerge_cells;
 use update_cells::update_cells;
 use update_named_range::update_named_range;
 use update_sheet_properties::update_sheet_properties;
@@ -59,6 +64,8 @@ pub(crate) fn done(
             source,
             destination_index,
         } => move_dimension(book, *source, *destination_index),
+        Request::MergeCells { range, merge_type } => merge_cells(book, user, range, *merge_type),
+        Request::UnmergeCells { range } => unmerge_cells(book, range),
         Request::AddNamedRange { named_range } => add_named_range(book, named_range),
         Request::UpdateNamedRange {
             named_range_id,

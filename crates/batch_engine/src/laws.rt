@@ -4,6 +4,7 @@ ghost use Rattle.batch_engine.specs.Laws.{CallsAnsweredOnce};
 
 use a1_notation::a1_laws;
 use dimension_ops::new_sheets_once;
+use merge_ranges::lists_are_same;
 use values_api::{appends_once, shows_once, writes_once};
 use world_model::{changes_apart, changes_in_turn};
 
@@ -18,4 +19,5 @@ pub fn calls_answered_once()
     appends_once();
     changes_apart();
     changes_in_turn();
+    lists_are_same();
 }

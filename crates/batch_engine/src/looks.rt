@@ -6,6 +6,7 @@ ghost use Rattle.batch_engine.specs.Looks.{looked, spreadsheet_of, shown_from, s
 use crate::answers::unless_empty;
 use cell_value::{Duplicate, Items, NoMemory};
 use dimension_ops::{Book, Sheet};
+use grid_range::Area;
 use named_ranges::{NamedRange, Names};
 use sheets_json::{Answer, GridData, ShownProperties, ShownSheet, Spreadsheet};
 use std::alloc::Global;
@@ -87,10 +88,18 @@ fn shown_sheet(
     Ok(ShownSheet {
         basic_filter: None,
         data: rows_shown(alloc, grids),
-        merges: None,
+        merges: unless_empty(merges_of(alloc, sheet)?),
         properties: shown_properties(index, sheet)?,
         protected_ranges: None,
     })
+}
+
+/// The merges of the sheet, by first row and then first column.
+fn merges_of(alloc: Global, sheet: &Sheet) -> Result<Items<Area>, NoMemory>
+    ensures { IfOk result (λ merges. merges ≡ sheet.now.merges) }
+{
+    let merges = Vec::from_slice(alloc, sheet.merges().list().as_slice())?;
+    Ok(Items::of(merges))
 }
 
 /// What is known of the rows of a sheet, if that is asked for: no filter hides one.

@@ -1,10 +1,11 @@
 -- Connections that doors of links in memory accepted.
-use Rattle.std.proofs.Common.{◌≡◌, inl, inr, ℕ, zero, suc, ◌+◌, ◌≤◌, Bool, true, false, List, [], ◌∷◌, ◌++◌, map, slice_index_or, slice_set, refl, sym, ap, subst, ◌∙◌, arith}
-use Rattle.std.specs.Prelude.{Option, Some, None, All, min, nat_lt}
+use Rattle.std.proofs.Common.{◌≡◌, inl, inr, ℕ, zero, suc, ◌+◌, ◌≤◌, Bool, true, false, List, [], ◌∷◌, ◌++◌, map, slice_index_or, slice_set, refl, ap, subst, ◌∙◌, arith}
+use Rattle.std.specs.Prelude.{Some, None, All, min, nat_lt}
 use Rattle.std.proofs.Math.Nat.{min-eq_left, min-eq_right}
 use Rattle.std.proofs.lemmas.Bool.{ltb-true, ltb-false}
 use Rattle.std.proofs.lemmas.List.{map-append}
 use Rattle.std.proofs.lemmas.List.Elements.{All-nil, All-cons, All-head, All-tail}
+use Rattle.std.specs.declared.snapshot.Snapshot.{Snapshot}
 use Rattle.cell_value.specs.Calls.{one_more}
 use Rattle.cell_value.specs.FaultCount.{last_count, Rose}
 use Rattle.conversation.specs.declared.ended.Ended.{Ended}
@@ -50,26 +51,27 @@ rose_more a b c le is = go (nat_lt b last_count) refl
 module _ {L : Type 0} (seen : L → LinkSeen) where
   -- one of them gets its end
   pub back_shown : (ended : Ended) (link : L) (xs : List (Visit L)) (n : ℕ) (d : Visit L) → d ≡ slice_index_or xs n d
-      → map (connection_of seen) (slice_set xs n (record { held = d.held; back = Some (ended, link) }))
+      → map (connection_of seen) (slice_set xs n (record { held = d.held; came = d.came; back = Some (ended, link) }))
       ≡ came_back n (record { ended = ended; link = seen link }) (map (connection_of seen) xs)
   back_shown ended link [] n d same = refl
   back_shown ended link (x ∷ xs) zero d same =
-      ap (λ (v : Visit L). record { held = Some v.held; back = Some (record { ended = ended; link = seen link }) }
+      ap (λ (v : Visit L). record { came = seen v.came.value; back = Some (record { ended = ended; link = seen link }) }
       ∷ map (connection_of seen) xs) same
   back_shown ended link (x ∷ xs) (suc n) d same =
       ap (λ (l : List Connection). connection_of seen x ∷ l) (back_shown ended link xs n d same)
 
   -- one more was accepted
-  pub accepted_shown : (old : LinksInMemory L) (left : Option (List ℕ)) (opened : List ℕ) (accepts : ℕ)
-      (accepted : List (Visit L)) (held : List ℕ) → opened ≡ old.opened → accepts ≡ one_more old.accepts
-      → accepted ≡ old.accepted ++ record { held = held; back = None } ∷ [] → left ≡ Some held
+  pub accepted_shown : (old : LinksInMemory L) (link : L) (opened : List ℕ) (accepts : ℕ)
+      (accepted : List (Visit L)) (held : List ℕ) (came : Snapshot L) → opened ≡ old.opened
+      → accepts ≡ one_more old.accepts
+      → accepted ≡ old.accepted ++ record { held = held; came = came; back = None } ∷ [] → came.value ≡ link
       → Some (record { opened = opened; accepts = accepts; connections = map (connection_of seen) accepted })
-      ≡ Some (after_accept left (shown_by seen old))
-  accepted_shown old left opened accepts accepted held same_ports more one told =
+      ≡ Some (after_accept (seen link) (shown_by seen old))
+  accepted_shown old link opened accepts accepted held came same_ports more one told =
       ap (λ (o : List ℕ). Some (shows o accepts (map (connection_of seen) accepted))) same_ports
       ∙ ap (λ (n : ℕ). Some (shows old.opened n (map (connection_of seen) accepted))) more
       ∙ ap (λ (l : List (Visit L)). Some (shows old.opened (one_more old.accepts) (map (connection_of seen) l))) one
       ∙ ap (λ (l : List Connection). Some (shows old.opened (one_more old.accepts) l))
-      (map-append (connection_of seen) old.accepted (record { held = held; back = None } ∷ []))
-      ∙ ap (λ (h : Option (List ℕ)). Some (shows old.opened (one_more old.accepts)
-      (map (connection_of seen) old.accepted ++ record { held = h; back = None } ∷ []))) (sym told)
+      (map-append (connection_of seen) old.accepted (record { held = held; came = came; back = None } ∷ []))
+      ∙ ap (λ (l : L). Some (shows old.opened (one_more old.accepts)
+      (map (connection_of seen) old.accepted ++ record { came = seen l; back = None } ∷ []))) told

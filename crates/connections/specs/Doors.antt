@@ -1,27 +1,35 @@
 -- The doors of a server as contracts see them: the connections that they accepted, and how each of them ended.
-use Rattle.std.specs.Prelude.{◌≡◌, ℕ, zero, suc, List, [], ◌∷◌, ◌++◌, Option, None, Some, IfSome}
+use Rattle.std.specs.Prelude.{◌≡◌, ℕ, Bool, zero, suc, List, [], ◌∷◌, ◌++◌, Option, None, Some, IfSome}
 use Rattle.std.specs.List.{slice_get}
+use Rattle.std.specs.Borrow.{GName}
 use Rattle.cell_value.specs.Calls.{one_more}
 use Rattle.conversation.specs.declared.ended.Ended.{Ended}
 
 -- what a link tells at a moment: what is left to be read and what was written, where it tells these, how often it failed
--- as a source and as a sink, and how often a write found no memory
+-- as a source and as a sink, how often a write found no memory, whether it never fails as a source and as a sink, and the
+-- references that it is made of
 pub record LinkSeen : Type 0 where
   pub left : Option (List ℕ)
   pub written : Option (List ℕ)
   pub read_faults : ℕ
   pub write_faults : ℕ
   pub shortages : ℕ
+  pub read_steady : Bool
+  pub write_steady : Bool
+  pub references : List GName
 
 -- what a link tells, by what it tells of each of these
-abbrev pub link_seen : {L : Type 0} → (L → Option (List ℕ)) → (L → Option (List ℕ)) → (L → ℕ) → (L → ℕ) → (L → ℕ) → L
-    → LinkSeen
-link_seen left written read_faults write_faults shortages link = record {
+abbrev pub link_seen : {L : Type 0} → (L → Option (List ℕ)) → (L → Option (List ℕ)) → (L → ℕ) → (L → ℕ) → (L → ℕ)
+    → (L → Bool) → (L → Bool) → (L → List GName) → L → LinkSeen
+link_seen left written read_faults write_faults shortages read_steady write_steady references link = record {
   left = left link;
   written = written link;
   read_faults = read_faults link;
   write_faults = write_faults link;
   shortages = shortages link;
+  read_steady = read_steady link;
+  write_steady = write_steady link;
+  references = references link;
 }
 
 -- nothing has failed and nothing was written yet
@@ -36,9 +44,9 @@ pub record Ending : Type 0 where
   pub ended : Ended
   pub link : LinkSeen
 
--- an accepted connection: what its link held, where it told that, and how it ended, once it is back
+-- an accepted connection: what its link told as it was accepted, and how it ended, once it is back
 pub record Connection : Type 0 where
-  pub held : Option (List ℕ)
+  pub came : LinkSeen
   pub back : Option Ending
 
 -- what doors show: the ports on which they were opened, how often they were asked for a connection, and the connections
@@ -55,7 +63,7 @@ IsAway number connections = (c : Connection) × (slice_get connections number �
 -- the same connections, but the one of this number is back with this ending
 abbrev pub came_back : ℕ → Ending → List Connection → List Connection
 came_back number ending [] = []
-came_back zero ending (c ∷ cs) = record { held = c.held; back = Some ending } ∷ cs
+came_back zero ending (c ∷ cs) = record { came = c.came; back = Some ending } ∷ cs
 came_back (suc number) ending (c ∷ cs) = c ∷ came_back number ending cs
 
 -- ---- what each call leaves of what is shown
@@ -67,11 +75,11 @@ after_open port shown = record {
   connections = shown.connections;
 }
 
-abbrev pub after_accept : Option (List ℕ) → Shown → Shown
-after_accept held shown = record {
+abbrev pub after_accept : LinkSeen → Shown → Shown
+after_accept link shown = record {
   opened = shown.opened;
   accepts = one_more shown.accepts;
-  connections = shown.connections ++ record { held = held; back = None } ∷ [];
+  connections = shown.connections ++ record { came = link; back = None } ∷ [];
 }
 
 -- no connection was accepted

@@ -1,4 +1,5 @@
 pub mod Doors
 pub mod Calls
+pub mod Ports
 pub mod Memory
 pub mod Alone

@@ -8,6 +8,7 @@ mod alone;
 mod caller;
 mod doors;
 mod memory;
+mod ports;
 
 pub use alone::{converse_alone, one_reply};
 pub use caller::converse;

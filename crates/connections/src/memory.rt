@@ -1,30 +1,37 @@
-ghost use Rattle.std.specs.Prelude.{◌≡◌, ◌<◌, ◌≤◌, true, [], All, map, IfOk, vec_len, vec_capacity};
+ghost use Rattle.std.specs.Prelude.{◌≡◌, ◌<◌, ◌≤◌, true, false, [], All, map, Some, IfSome, IfOk, OnErr, is_err, vec_len, vec_capacity};
+ghost use Rattle.std.specs.Option.{option_map};
 ghost use mathlib.Core.List as lists;
 ghost use Rattle.cell_value.specs.Calls.{no_calls, fails_next, after_call};
 ghost use Rattle.cell_value.specs.FaultCount.{Rose};
-ghost use Rattle.connections.specs.Doors.{LinkSeen, link_seen, came_back};
-ghost use Rattle.connections.specs.Memory.{IsComing, connection_of};
+ghost use Rattle.sheets_http.specs.Outside.{StaysSteady};
+ghost use Rattle.connections.specs.Doors.{LinkSeen, link_seen, came_back, IsAway, IsFresh};
+ghost use Rattle.connections.specs.Doors.{after_open, after_accept, after_refusal, after_back};
+ghost use Rattle.connections.specs.Memory.{IsComing, connection_of, shown_by, refuses_next, CameFirst};
 
 use crate::Doors;
+use crate::ports::Ports;
 use cell_value::{Bytes, Failed, Items, NoMemory};
 use conversation::Ended;
 use sheets_http::Duplex;
 use std::alloc::Global;
 use std::marker::Model;
+use std::snapshot::Snapshot;
 
-/// An accepted connection: what its link held, and its end with its link, once it is back.
+/// An accepted connection: the bytes that its link held, the link as it was then, and its end with its link, once it is
+/// back.
 #[derive(Drop)]
 pub struct Visit<L> {
     pub(crate) held: Bytes,
+    pub(crate) came: Snapshot<L>,
     pub(crate) back: Option<(Ended, L)>,
 }
 
-/// Links in memory as doors, some of whose calls are to fail; a call fails also where no link is left, or no room for a
-/// port. Contracts see of each call what [`Doors`] says of it.
+/// Links in memory as doors, some of whose calls are to fail. A call of `open` or `accept` fails exactly where it is to,
+/// or, of `accept`, where no link is left. None of them takes memory.
 pub struct MemoryDoors<L: Duplex + Drop> {
     coming: Vec<(L, Bytes)>,
     accepted: Vec<Visit<L>>,
-    opened: Vec<u16>,
+    opened: Ports,
     accepts: u64,
     made: u64,
     failing: Items<u64>,
@@ -41,13 +48,13 @@ impl<L: Duplex + Drop> Model for MemoryDoors<L> {
     ghost view = { λ d. record {
       coming = d.coming.items;
       accepted = d.accepted.items;
-      opened = d.opened.items;
+      opened = d.opened;
       accepts = d.accepts;
       calls = record { made = d.made; failing = d.failing; faults = d.faults };
     } };
 
     ghost invariant = { λ d. (vec_len d.accepted + vec_len d.coming ≤ vec_capacity d.accepted)
-        × All (IsComing (link_seen L.left L.written L.faults L.sink_faults L.sink_shortages)) d.coming.items };
+        × All (IsComing (link_seen L.left L.written L.faults L.sink_faults L.sink_shortages L.steady L.sink_steady L.references)) d.coming.items };
 }
 
 impl<L: Duplex + Drop> Drop for MemoryDoors<L> {
@@ -65,19 +72,19 @@ impl<L: Duplex + Drop> Drop for MemoryDoors<L> {
 }
 
 impl<L: Duplex + Drop> MemoryDoors<L> {
-    /// Doors with these links, each beside the bytes that it holds, in the order in which they are accepted. The calls
-    /// of `open` and `accept`, counted together from 1, whose numbers are among `failing` fail. No link has failed yet,
-    /// and nothing was written to it.
+    /// Doors with these links, each beside the bytes that it holds, where it tells them, in the order in which they are
+    /// accepted. The calls of `open` and `accept`, counted together from 1, whose numbers are among `failing` fail. No
+    /// link has failed yet, and nothing was written to it.
     ///
     /// # Errors
     ///
-    /// [`NoMemory`] where there is no room for the links' ends. No other call but `open` takes memory.
+    /// [`NoMemory`] where there is no room for the links' ends. No other call takes memory.
     pub fn new(
         alloc: Global,
         links: Items<(L, Bytes)>,
         failing: Items<u64>,
     ) -> Result<MemoryDoors<L>, NoMemory>
-        requires { All (IsComing (link_seen L.left L.written L.faults L.sink_faults L.sink_shortages)) links }
+        requires { All (IsComing (link_seen L.left L.written L.faults L.sink_faults L.sink_shortages L.steady L.sink_steady L.references)) links }
         ensures { IfOk result (λ doors. doors ≡ record {
           coming = lists.reverse links;
           accepted = [];
@@ -93,7 +100,7 @@ impl<L: Duplex + Drop> MemoryDoors<L> {
         Ok(MemoryDoors {
             coming,
             accepted,
-            opened: Vec::new(alloc),
+            opened: Ports::new(),
             accepts: 0,
             made: 0,
             failing,
@@ -139,32 +146,58 @@ impl<L: Duplex + Send + Drop> Doors for MemoryDoors<L> {
 
     ghost steady_low = { Prim.search rules };
 
-    ghost shown = { λ doors. Some (shown_by (link_seen L.left L.written L.faults L.sink_faults L.sink_shortages)
+    ghost shown = { λ doors. Some (shown_by (link_seen L.left L.written L.faults L.sink_faults L.sink_shortages L.steady L.sink_steady L.references)
         doors) };
 
-    ghost rest_seen = { link_seen L.left L.written L.faults L.sink_faults L.sink_shortages };
+    ghost rest_seen = { link_seen L.left L.written L.faults L.sink_faults L.sink_shortages L.steady L.sink_steady L.references };
 
-    fn open(&mut self, port: u16) -> Result<(), Failed> {
-        if self.fails() {
-            return Err(Failed);
-        }
-        match self.opened.push(port) {
-            Ok(()) => Ok(()),
-            Err(_) => {
-                self.faults = self.faults.saturating_add(1);
-                Err(Failed)
-            }
-        }
+    fn open(&mut self, port: u16) -> Result<(), Failed>
+        ensures opened { Some (shown_by (link_seen L.left L.written L.faults L.sink_faults L.sink_shortages L.steady L.sink_steady L.references) self.new)
+            ≡ option_map (after_open port)
+            (Some (shown_by (link_seen L.left L.written L.faults L.sink_faults L.sink_shortages L.steady L.sink_steady L.references) self.old)) }
+        ensures cause { OnErr result (Rose self.old.calls.faults self.new.calls.faults) }
+        ensures later { self.old.calls.faults ≤ self.new.calls.faults }
+        ensures steady { StaysSteady false false self.old.calls.faults self.new.calls.faults }
+        ensures calls { self.new.calls ≡ after_call (fails_next self.old.calls) self.old.calls }
+        ensures fails { is_err result ≡ fails_next self.old.calls }
+        ensures coming { self.new.coming ≡ self.old.coming }
+    {
+        let fails = self.fails();
+        self.opened.push(port);
+        if fails { Err(Failed) } else { Ok(()) }
     }
 
-    fn accept(&mut self) -> Result<L, Failed> {
+    fn accept(&mut self) -> Result<L, Failed>
+        ensures fresh { IfOk result (λ link. IsFresh (link_seen L.left L.written L.faults L.sink_faults L.sink_shortages L.steady L.sink_steady L.references
+            link)) }
+        ensures accepted { IfOk result (λ link.
+            Some (shown_by (link_seen L.left L.written L.faults L.sink_faults L.sink_shortages L.steady L.sink_steady L.references) self.new)
+            ≡ option_map (after_accept (link_seen L.left L.written L.faults L.sink_faults L.sink_shortages L.steady L.sink_steady L.references link))
+            (Some (shown_by (link_seen L.left L.written L.faults L.sink_faults L.sink_shortages L.steady L.sink_steady L.references) self.old))) }
+        ensures refused { OnErr result
+            (Some (shown_by (link_seen L.left L.written L.faults L.sink_faults L.sink_shortages L.steady L.sink_steady L.references) self.new)
+            ≡ option_map after_refusal
+            (Some (shown_by (link_seen L.left L.written L.faults L.sink_faults L.sink_shortages L.steady L.sink_steady L.references) self.old))) }
+        ensures cause { OnErr result (Rose self.old.calls.faults self.new.calls.faults) }
+        ensures later { self.old.calls.faults ≤ self.new.calls.faults }
+        ensures steady { StaysSteady false false self.old.calls.faults self.new.calls.faults }
+        ensures calls { self.new.calls ≡ after_call (refuses_next self.old) self.old.calls }
+        ensures refuses { is_err result ≡ refuses_next self.old }
+        ensures first { IfOk result (λ link. CameFirst link self.old.coming self.new.coming) }
+        ensures stay { OnErr result (self.new.coming ≡ self.old.coming) }
+    {
         self.accepts = self.accepts.saturating_add(1);
         if self.fails() {
             return Err(Failed);
         }
         match self.coming.pop() {
             Some((link, held)) => {
-                self.accepted.push_reserved(Visit { held, back: None });
+                let came = Snapshot::of(&link);
+                self.accepted.push_reserved(Visit {
+                    held,
+                    came,
+                    back: None,
+                });
                 Ok(link)
             }
             None => {
@@ -178,7 +211,19 @@ impl<L: Duplex + Send + Drop> Doors for MemoryDoors<L> {
         link
     }
 
-    fn back(&mut self, number: u32, ended: Ended, rest: L) {
+    fn back(&mut self, number: u32, ended: Ended, rest: L)
+        requires { IfSome (Some (shown_by (link_seen L.left L.written L.faults L.sink_faults L.sink_shortages L.steady L.sink_steady L.references) self.old))
+            (λ shown. IsAway number shown.connections) }
+        ensures shown { Some (shown_by (link_seen L.left L.written L.faults L.sink_faults L.sink_shortages L.steady L.sink_steady L.references) self.new)
+            ≡ option_map (after_back number (record {
+              ended = ended;
+              link = link_seen L.left L.written L.faults L.sink_faults L.sink_shortages L.steady L.sink_steady L.references rest;
+            })) (Some (shown_by (link_seen L.left L.written L.faults L.sink_faults L.sink_shortages L.steady L.sink_steady L.references) self.old)) }
+        ensures failures { self.new.calls.faults ≡ self.old.calls.faults }
+        ensures steady { false ≡ false }
+        ensures calls { self.new.calls ≡ self.old.calls }
+        ensures coming { self.new.coming ≡ self.old.coming }
+    {
         put_back(&mut self.accepted, number as usize, ended, rest);
     }
 }

@@ -15,6 +15,7 @@ use Rattle.grid_range.specs.declared.axis.Axis.TheVariants.{Rows, Columns}
 use Rattle.grid_range.specs.declared.change.Change.{Change}
 use Rattle.cell_store.specs.Moved.{IsRoomAfter, size_after}
 use Rattle.cell_store.specs.Table.{Table, item_at}
+use Rattle.merge_ranges.specs.Following.{AreWithin}
 use Rattle.named_ranges.specs.Following.{IsRangeWithinOn}
 use Rattle.named_ranges.specs.declared.range.NamedRange.{NamedRange}
 use Rattle.ref_rewrite.specs.Following.{IsPieceWithinOn}
@@ -29,7 +30,7 @@ use Rattle.world_model.specs.PlaceChange.{BookChanged, SheetChanged}
 use Rattle.world_model.specs.Sheet.{PlaceSheet}
 use Rattle.world_model.specs.Sound.{IsSheetSound, IsContentWithin, IsLineCount, IsOnSheet, IsPieceWithin, place_sheet_with}
 use Rattle.dimension_ops.specs.Lines.{HasSizesChanged, SheetFollows, lines_of_sheet, places_changed, size_changed}
-use Rattle.dimension_ops.specs.References.{CanChange, IsContentWithinOn}
+use Rattle.dimension_ops.specs.References.{CanChange, IsContentWithinOn, TearsNone}
 
 abbrev places_of : ℕ × ℕ → ℕ
 places_of size = size.0 * size.1
@@ -115,6 +116,19 @@ module _ (id : ℕ) (axis : Axis) (change : Change) where
         omega (arith, behind, first, first', stays)
   ]
 
+-- ---- areas of a sheet have lines that are among its lines
+
+on_axis : (axis : Axis) (area : Area) (sheet : PlaceSheet) → AreaWithin area sheet.table.rows sheet.table.cols
+    → Within (band_on axis area) (lines_of_sheet axis sheet)
+on_axis Rows area sheet within = within.0
+on_axis Columns area sheet within = within.1
+
+-- so have its merges
+pub merges_within : (axis : Axis) (sheets : List PlaceSheet) (sheet : PlaceSheet) → IsSheetSound sheets sheet
+    → AreWithin axis (lines_of_sheet axis sheet) sheet.merges
+merges_within axis sheets sheet sound k d there =
+    on_axis axis (get_or sheet.merges k d) sheet (sound.merges.1 k d there).1
+
 -- ---- sizes
 
 module _ (id : ℕ) (axis : Axis) (count : ℕ) (change : Change) where
@@ -192,17 +206,15 @@ module _ (id : ℕ) (axis : Axis) (count : ℕ) (change : Change) where
     goes = λ own. absurd (other own);
     stays = λ _. refl;
     followed = follows.followed;
+    whole = λ own. absurd (other own);
+    merges_follow = λ own. absurd (other own);
+    merges_stay = λ _. follows.merges;
   }
 
   -- ---- the change can be made on each
 
   module _ (sheets : List PlaceSheet)
       (long : IsSomeAnd (place_sheet_with id sheets) (λ sheet. lines_of_sheet axis sheet ≡ count)) where
-    on_axis : (axis : Axis) (area : Area) (sheet : PlaceSheet) → AreaWithin area sheet.table.rows sheet.table.cols
-        → Within (band_on axis area) (lines_of_sheet axis sheet)
-    on_axis Rows area sheet within = within.0
-    on_axis Columns area sheet within = within.1
-
     both_found : (area : Area) (found : Option PlaceSheet) → IsSomeAnd found (λ sheet. lines_of_sheet axis sheet ≡ count)
         → IsSomeAnd found (λ sheet. AreaWithin area sheet.table.rows sheet.table.cols) → Within (band_on axis area) count
     both_found area None is within = absurd within
@@ -243,20 +255,33 @@ module _ (id : ℕ) (axis : Axis) (count : ℕ) (change : Change) where
     room_on Columns sheet sound room = omega (arith, room.1, sound.rows.1)
 
     can_change : (sheet : PlaceSheet) → IsSheetSound sheets sheet → IsLineCount axis (count_after change count)
-        → (sheet.id ≡ id → lines_of_sheet axis sheet ≡ count) → CanChange id axis count change sheet
+        → (sheet.id ≡ id → (lines_of_sheet axis sheet ≡ count) × TearsNone axis count change sheet.merges)
+        → CanChange id axis count change sheet
     can_change sheet sound room own = record {
-      own = λ same. (
-        own same,
-        room_on axis sheet sound (subst (λ n. IsLineCount axis (count_after change n)) (sym (own same)) room),
-      );
+      own = λ same. record {
+        long = (own same).0;
+        room = room_on axis sheet sound
+            (subst (λ n. IsLineCount axis (count_after change n)) (sym (own same).0) room);
+        merges = subst (λ n. AreWithin axis n sheet.merges) (own same).0 (merges_within axis sheets sheet sound);
+        untorn = (own same).1;
+      };
       within = λ row col. held_within (item_at sheet.table row col) (sound.within row col);
     }
 
+    both_some : (found : Option PlaceSheet) → IsSomeAnd found (λ sheet. lines_of_sheet axis sheet ≡ count)
+        → IfSome found (λ sheet. TearsNone axis count change sheet.merges)
+        → IsSomeAnd found (λ sheet. (lines_of_sheet axis sheet ≡ count) × TearsNone axis count change sheet.merges)
+    both_some None is untorn = absurd is
+    both_some (Some sheet) is untorn = (is, untorn)
+
     pub all_can : All (IsSheetSound sheets) sheets → AllPairs (λ one other. one.id ≢ other.id) sheets
-        → IsLineCount axis (count_after change count) → All (CanChange id axis count change) sheets
-    all_can sound distinct room k d there =
+        → IsLineCount axis (count_after change count)
+        → IfSome (place_sheet_with id sheets) (λ sheet. TearsNone axis count change sheet.merges)
+        → All (CanChange id axis count change) sheets
+    all_can sound distinct room untorn k d there =
         can_change (get_or sheets k d) (sound k d there) room
-        (only_one id (λ sheet. lines_of_sheet axis sheet ≡ count) sheets distinct long k d there)
+        (only_one id (λ sheet. (lines_of_sheet axis sheet ≡ count) × TearsNone axis count change sheet.merges) sheets
+        distinct (both_some (place_sheet_with id sheets) long untorn) k d there)
 
 -- ---- a list, seen as others see it, and one more of it
 

@@ -23,3 +23,4 @@ pub mod RenamedWords
 pub mod KeptRanges
 pub mod RangeAnswers
 pub mod Setting
+pub mod MergesGiven

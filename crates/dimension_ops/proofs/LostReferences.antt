@@ -61,6 +61,7 @@ module _ (sheet : ℕ) where
     rows = refl;
     cols = refl;
     items = items_lost one.table [] none;
+    merges = refl;
   }
 
   pub formula_stays : (item : Content) → is_formula (content_without sheet item) ≡ is_formula item

@@ -1,16 +1,18 @@
 -- The spreadsheet of the beginning is sound.
 use Rattle.std.proofs.Common.{◌≡◌, ℕ, refl, sym, List, [], ◌∷◌, arith, Option, None, Some}
 use Rattle.std.specs.Prelude.{IfSome}
+use Rattle.std.specs.List.Sorted.{IsStrictlySortedBy}
 use Rattle.std.specs.Option.{IsSome}
 use Rattle.std.specs.FinMap as finite
 use Rattle.std.proofs.lemmas.Bool.{false≢true}
 use Rattle.std.proofs.lemmas.List.Elements.{All-nil, All-push}
 use Rattle.grid_range.specs.Area.{by_rows}
 use Rattle.cell_store.specs.Table.{item_at}
+use Rattle.merge_ranges.specs.Merges.{IsMerge}
 use Rattle.ref_rewrite.specs.declared.cell_content.Content.{Content}
 use Rattle.named_ranges.specs.declared.range.NamedRange.{NamedRange}
 use Rattle.world_model.specs.Sheet.{PlaceSheet}
-use Rattle.world_model.specs.Sound.{IsSound, IsOnSheet, IsSheetSound, IsContentWithin}
+use Rattle.world_model.specs.Sound.{AreMergesOf, IsSound, IsOnSheet, IsSheetSound, IsContentWithin}
 use Rattle.dimension_ops.specs.World.{opening_sheet}
 
 nothing_there : (row col : ℕ) → item_at opening_sheet.table row col ≡ None
@@ -30,6 +32,18 @@ holds_if_none (Some item) P is = absurd (none_some item (sym is))
     none_some : (item : Content) → None ≡ Some item → ⊥
     none_some item h = cc
 
+-- it has no merges
+no_merges : AreMergesOf opening_sheet []
+unfolding IsStrictlySortedBy
+no_merges = (
+  record {
+    each = All-nil IsMerge;
+    apart = λ i j d below there. absurd (let no : ⊥ = omega (arith, below, there) in no);
+    in_order = tt;
+  },
+  λ k d there. absurd (let no : ⊥ = omega (arith, there) in no),
+)
+
 sheet_sound : (sheets : List PlaceSheet) → IsSheetSound sheets opening_sheet
 sheet_sound sheets = record {
   titled = omega arith;
@@ -37,6 +51,7 @@ sheet_sound sheets = record {
   cols = (omega arith, omega arith);
   inside = λ row col some. absurd (no_some (item_at opening_sheet.table row col) (nothing_there row col) some);
   within = λ row col. holds_if_none (item_at opening_sheet.table row col) (IsContentWithin sheets) (nothing_there row col);
+  merges = no_merges;
 }
 
 pub opening_sound : (id title owner : List ℕ)

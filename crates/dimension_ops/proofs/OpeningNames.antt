@@ -33,7 +33,7 @@ names_below first count next fits k d there =
 
 module _ (rows cols : ℕ) where
   abbrev sheet : PlaceSheet
-  sheet = record { id = 0; title = codes "Sheet1"; hidden = false; table = empty_table rows cols }
+  sheet = record { id = 0; title = codes "Sheet1"; hidden = false; table = empty_table rows cols; merges = [] }
 
   abbrev book : PlaceBook
   book = record {
@@ -65,6 +65,7 @@ module _ (rows cols : ℕ) where
     cells = λ row col r c at_row at_col.
         ap (option_map (content_named (orders_of names.sheets))) (sym (finite.get-empty by_rows (row, col)));
     nowhere_else = λ r c out. refl;
+    merges = λ area. (λ c. c, λ c. c);
   }
 
   book_stands : IsSound book → BookStandsFor book names

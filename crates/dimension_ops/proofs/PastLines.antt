@@ -1,7 +1,7 @@
 -- More lines than numbers of lines tell are past the limit of lines.
 use Rattle.std.proofs.Common.{◌≡◌, ℕ, suc, ◌+◌, ◌<◌, ◌≤◌, refl, sym, ap, ◌∙◌, List, [], ◌∷◌, cond, Bool, true, false, arith, Ok, Err}
 use Rattle.std.specs.Prelude.{Option, None, Some, IfSome, IsSomeAnd, ◌==◌, nat_lt}
-use Rattle.std.specs.List.{All}
+use Rattle.std.specs.List.{All, list_any}
 use Rattle.std.specs.Option.{option_map_or}
 use Rattle.std.proofs.lemmas.Bool.{false_from_ne_true, eqb-true, le-ltb, lt-ltb}
 use Rattle.grid_range.specs.declared.axis.Axis.{Axis}
@@ -10,6 +10,7 @@ use Rattle.grid_range.specs.Change.{count_after}
 use Rattle.grid_range.specs.declared.change.Change.{Change}
 use Rattle.grid_range.specs.declared.change.Change.TheVariants.{Insert}
 use Rattle.cell_store.specs.Moved.{size_after}
+use Rattle.merge_ranges.specs.Tests.{tears_merge}
 use Rattle.world_model.specs.Book.{PlaceBook}
 use Rattle.world_model.specs.Sheet.{PlaceSheet}
 use Rattle.world_model.specs.Sound.{IsSheetSound, most_places, place_sheet_with}
@@ -22,11 +23,12 @@ use Rattle.dimension_ops.specs.declared.rule.Rule.TheVariants as rule
 
 -- ---- the first rule that is broken
 
-only_past : (last : Bool) (past : Option Limit) (passed : Limit) → last ≡ false → past ≡ Some passed
-    → first_broken (record unbroken { last_line = last; past_limit = past }) ≡ Some (rule.PastLimit passed)
-only_past last past passed fails is =
-    ap (λ b. first_broken (record unbroken { last_line = b; past_limit = past })) fails
-    ∙ ap (λ p. first_broken (record unbroken { last_line = false; past_limit = p })) is
+only_past : (last cut : Bool) (past : Option Limit) (passed : Limit) → last ≡ false → past ≡ Some passed
+    → first_broken (record unbroken { last_line = last; past_limit = past; merge_cut = cut })
+    ≡ Some (rule.PastLimit passed)
+only_past last cut past passed fails is =
+    ap (λ b. first_broken (record unbroken { last_line = b; past_limit = past; merge_cut = cut })) fails
+    ∙ ap (λ p. first_broken (record unbroken { last_line = false; past_limit = p; merge_cut = cut })) is
 
 rows_first : (rows cols cells : Bool) → rows ≡ true
     → cond rows (Some limit.Rows) (cond cols (Some limit.Columns) (cond cells (Some limit.Cells) None)) ≡ Some limit.Rows
@@ -92,8 +94,10 @@ past_refused before id at count lines axis broken sound there long many is =
           last_line = count_after change (lines_of_sheet axis other) == 0;
           past_limit = first_passed (passes_size (size_after axis change other.table.rows other.table.cols)
               (places_changed id axis change before.sheets));
+          merge_cut = list_any (tears_merge axis (lines_of_sheet axis other) change) other.merges;
         }) found unbroken)) here
         ∙ only_past (count_after change (lines_of_sheet axis sheet) == 0)
+        (list_any (tears_merge axis (lines_of_sheet axis sheet) change) sheet.merges)
         (first_passed (passes_size (size_after axis change sheet.table.rows sheet.table.cols)
         (places_changed id axis change before.sheets))) (limit_on axis)
         (some_lines (lines_of_sheet axis sheet + count) (omega (arith, many')))

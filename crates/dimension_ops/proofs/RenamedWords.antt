@@ -43,6 +43,7 @@ module _ (old new : List ℕ) where
     rows = refl;
     cols = refl;
     items = items_become (content_renamed old new) (has_word old) content_stays one.table [] none;
+    merges = refl;
   }
 
   pub formula_stays : (item : Content) → is_formula (content_renamed old new item) ≡ is_formula item

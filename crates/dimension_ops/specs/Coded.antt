@@ -2,6 +2,8 @@
 use Rattle.std.specs.Prelude.{ℕ, Bool, List, refl}
 use Rattle.std.specs.Coded.{Coded, code_by, coded×, coded_list, coded_bool, coded_ℕ}
 use Rattle.cell_store.specs.Table.{Table, table_code}
+use Rattle.grid_range.specs.contracts.area.Area as area
+use Rattle.grid_range.specs.declared.area.Area.{Area}
 use Rattle.named_ranges.specs.contracts.range.NamedRange as range
 use Rattle.named_ranges.specs.declared.range.NamedRange.{NamedRange}
 use Rattle.ref_rewrite.specs.contracts.cell_content.Content as content
@@ -12,10 +14,11 @@ use Rattle.world_model.specs.Sheet.{PlaceSheet}
 
 abbrev pub sheet_code : Coded PlaceSheet
 sheet_code =
-    code_by (ℕ × (List ℕ × (Bool × Table Content)))
-    (coded× coded_ℕ (coded× (coded_list coded_ℕ) (coded× coded_bool (table_code content.the_row.coded))))
-    (λ s. (s.id, (s.title, (s.hidden, s.table))))
-    (λ p. record { id = p.0; title = p.1.0; hidden = p.1.1.0; table = p.1.1.1 }) (λ _. refl)
+    code_by (ℕ × (List ℕ × (Bool × (Table Content × List Area))))
+    (coded× coded_ℕ (coded× (coded_list coded_ℕ) (coded× coded_bool
+    (coded× (table_code content.the_row.coded) (coded_list area.the_row.coded)))))
+    (λ s. (s.id, (s.title, (s.hidden, (s.table, s.merges)))))
+    (λ p. record { id = p.0; title = p.1.0; hidden = p.1.1.0; table = p.1.1.1.0; merges = p.1.1.1.1 }) (λ _. refl)
 
 abbrev pub book_code : Coded PlaceBook
 book_code =

@@ -13,3 +13,5 @@ pub mod Losing
 pub mod Renaming
 pub mod RangeRequests
 pub mod SetProperties
+pub mod MergeRequests
+pub mod Parts

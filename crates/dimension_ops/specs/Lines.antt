@@ -1,8 +1,8 @@
 -- Which rules a change of the lines of a sheet breaks, and what it makes of sizes (InsertDimensionRequest,
 -- DeleteDimensionRequest, MoveDimensionRequest and AppendDimensionRequest of the Google Sheets API v4 reference).
-use Rattle.std.specs.Prelude.{◌≡◌, ◌≤◌, ◌*◌, ◌∷◌, [], ℕ, Bool, false, List, None, Result, IsSomeAnd, OnErr, OnOk}
+use Rattle.std.specs.Prelude.{◌≡◌, ◌≤◌, ◌*◌, ◌∷◌, [], ℕ, Bool, false, List, None, Result, IfSome, IsSomeAnd, OnErr, OnOk}
 use Rattle.std.specs.Prelude.{◌==◌, ◌&&◌, nat_le, nat_lt, if◌then◌else◌}
-use Rattle.std.specs.List.{sum_by}
+use Rattle.std.specs.List.{list_any, sum_by}
 use Rattle.std.specs.Option.{option_map, option_map_or}
 use Rattle.grid_range.specs.Change.{Fits, count_after}
 use Rattle.grid_range.specs.declared.axis.Axis.{Axis}
@@ -10,6 +10,9 @@ use Rattle.grid_range.specs.declared.axis.Axis.TheVariants.{Rows, Columns}
 use Rattle.grid_range.specs.declared.change.Change.{Change}
 use Rattle.grid_range.specs.declared.change.Change.TheVariants.{Insert, Delete, Move}
 use Rattle.cell_store.specs.Moved.{GoesWithLines, lines_on, size_after}
+use Rattle.merge_ranges.specs.Calls.{ListsJust}
+use Rattle.merge_ranges.specs.Following.{CameFrom, KeepsAll}
+use Rattle.merge_ranges.specs.Tests.{tears_merge}
 use Rattle.world_model.specs.Book.{PlaceBook}
 use Rattle.world_model.specs.BookChange.{BookChange, AreChanges}
 use Rattle.world_model.specs.Laws.{size_of}
@@ -17,6 +20,7 @@ use Rattle.world_model.specs.PlaceChange.{BookChanged, FollowsInPlace}
 use Rattle.world_model.specs.Sheet.{PlaceSheet}
 use Rattle.world_model.specs.Sound.{IsLineCount, most_on, most_places, place_sheet_with}
 use Rattle.dimension_ops.specs.Broken.{Broken, Passes, first_broken, first_passed, judged_by, unbroken}
+use Rattle.dimension_ops.specs.References.{TearsNone}
 use Rattle.dimension_ops.specs.declared.rule.Limit.{Limit}
 use Rattle.dimension_ops.specs.declared.rule.Limit.TheVariants as limit
 use Rattle.dimension_ops.specs.declared.rule.Rule.{Rule}
@@ -54,12 +58,13 @@ passes_size size places limit.Columns = nat_lt (most_on Columns) size.1
 passes_size size places limit.Cells = nat_lt most_places places
 passes_size size places _ = false
 
--- the rules that the change of the lines of the sheet with the id breaks; no merges are kept that it could cut
+-- the rules that the change of the lines of the sheet with the id breaks; a move can tear its merges
 abbrev pub lines_broken : ℕ → Axis → Change → List PlaceSheet → Broken
 lines_broken id axis change sheets = option_map_or (λ sheet. record unbroken {
   last_line = count_after change (lines_of_sheet axis sheet) == 0;
   past_limit = first_passed (passes_size (size_after axis change sheet.table.rows sheet.table.cols)
       (places_changed id axis change sheets));
+  merge_cut = list_any (tears_merge axis (lines_of_sheet axis sheet) change) sheet.merges;
 }) (place_sheet_with id sheets) unbroken
 
 -- the change breaks no rule where the sheet has `count` lines on the axis
@@ -69,6 +74,7 @@ pub record IsUnbroken (id : ℕ) (axis : Axis) (change : Change) (sheets : List 
   pub fits : Fits change count
   pub room : IsLineCount axis (count_after change count)
   pub few : places_changed id axis change sheets ≤ most_places
+  pub untorn : IfSome (place_sheet_with id sheets) (λ sheet. TearsNone axis count change sheet.merges)
 
 -- each sheet has the size that the change gives it
 abbrev pub HasSizesChanged : ℕ → Axis → Change → PlaceBook → PlaceBook → Type 0
@@ -76,12 +82,15 @@ HasSizesChanged id axis change before after = (other : ℕ)
     → option_map size_of (place_sheet_with other after.sheets)
     ≡ option_map (size_changed id axis change) (place_sheet_with other before.sheets)
 
--- the items of the sheet went with its lines, and all else of it is as it was
-pub record SheetMoves (axis : Axis) (change : Change) (before after : PlaceSheet) : Type 0 where
+-- the items of the sheet, which has `count` lines on the axis, went with its lines, its merges followed, and all else
+-- of it is as it was
+pub record SheetMoves (axis : Axis) (count : ℕ) (change : Change) (before after : PlaceSheet) : Type 0 where
   pub id : after.id ≡ before.id
   pub title : after.title ≡ before.title
   pub hidden : after.hidden ≡ before.hidden
   pub goes : GoesWithLines axis change before.table after.table
+  pub whole : KeepsAll axis count change before.merges
+  pub merges : ListsJust (CameFrom axis count change before.merges) after.merges
 
 -- each of its items followed in its place, and all else of it is as it was
 pub record SheetFollows (changed : ℕ) (axis : Axis) (count : ℕ) (change : Change) (before after : PlaceSheet) : Type
@@ -90,6 +99,7 @@ pub record SheetFollows (changed : ℕ) (axis : Axis) (count : ℕ) (change : Ch
   pub title : after.title ≡ before.title
   pub hidden : after.hidden ≡ before.hidden
   pub followed : FollowsInPlace changed axis count change before.table after.table
+  pub merges : after.merges ≡ before.merges
 
 -- the answer to a change of the lines of the sheet with the id: the first rule that it breaks, and then the spreadsheet
 -- is as it was, or else the change, whatever lines are called, and by their places

@@ -1,13 +1,17 @@
--- The formulas of a sheet with a reference to a sheet: only they follow a change of its lines.
-use Rattle.std.specs.Prelude.{◌≡◌, ◌↔◌, ℕ, Bool, true, false, List, Contains, IfSome, ◌==◌, ⊤}
+-- The formulas of a sheet with a reference to a sheet: only they follow a change of its lines. And when such a change can
+-- be made.
+use Rattle.std.specs.Prelude.{◌≡◌, ◌↔◌, ℕ, Bool, true, false, List, Any, Contains, IfSome, ◌==◌, ⊤}
 use Rattle.std.specs.List.{All, list_any}
 use Rattle.std.specs.Option.{IsSome, option_map_or}
 use Rattle.std.specs.List.Sorted.{IsStrictlySortedBy}
-use Rattle.grid_range.specs.Area.{by_rows}
+use Rattle.grid_range.specs.Area.{band_on, by_rows}
+use Rattle.grid_range.specs.Tearing.{IsTorn}
+use Rattle.grid_range.specs.declared.area.Area.{Area}
 use Rattle.grid_range.specs.declared.axis.Axis.{Axis}
 use Rattle.grid_range.specs.declared.change.Change.{Change}
 use Rattle.cell_store.specs.Moved.{IsRoomAfter, lines_on}
 use Rattle.cell_store.specs.Table.{Table, item_at, with_item}
+use Rattle.merge_ranges.specs.Following.{AreWithin}
 use Rattle.ref_rewrite.specs.Following.{IsPieceWithinOn}
 use Rattle.ref_rewrite.specs.declared.cell_content.Content.{Content}
 use Rattle.ref_rewrite.specs.declared.cell_content.Content.TheVariants as content
@@ -75,10 +79,20 @@ IsContentWithinOn sheet axis count (content.Truth truth) = ⊤
 abbrev pub AreWithinOn : ℕ → Axis → ℕ → Table Content → Type 0
 AreWithinOn sheet axis count table = (row col : ℕ) → IfSome (item_at table row col) (IsContentWithinOn sheet axis count)
 
+-- none of the merges is torn by the change of `count` lines
+abbrev pub TearsNone : Axis → ℕ → Change → List Area → Type 0
+TearsNone axis count change merges = ¬ (Any (λ merge. IsTorn change count (band_on axis merge)) merges)
+
+-- the sheet has `count` lines on the axis, and can make the change of them
+pub record CanMove (axis : Axis) (count : ℕ) (change : Change) (found : PlaceSheet) : Type 0 where
+  pub long : lines_on axis found.table.rows found.table.cols ≡ count
+  pub room : IsRoomAfter axis change found.table
+  pub merges : AreWithin axis count found.merges
+  pub untorn : TearsNone axis count change found.merges
+
 -- a change of the lines of a sheet that has `count` on the axis can be made on this one of its sheets
 pub record CanChange (sheet : ℕ) (axis : Axis) (count : ℕ) (change : Change) (found : PlaceSheet) : Type 0 where
-  pub own : found.id ≡ sheet
-      → (lines_on axis found.table.rows found.table.cols ≡ count) × IsRoomAfter axis change found.table
+  pub own : found.id ≡ sheet → CanMove axis count change found
   pub within : AreWithinOn sheet axis count found.table
 
 -- what stands at the place follows there

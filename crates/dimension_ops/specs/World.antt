@@ -23,7 +23,7 @@ AreNumbered books =
 
 -- an empty sheet of the size that one has where none is asked for
 abbrev pub opening_sheet : PlaceSheet
-opening_sheet = record { id = 0; title = codes "Sheet1"; hidden = false; table = empty_table 1000 26 }
+opening_sheet = record { id = 0; title = codes "Sheet1"; hidden = false; table = empty_table 1000 26; merges = [] }
 
 -- the one spreadsheet that there is in the beginning
 abbrev pub opening_book : PlaceBook
@@ -44,6 +44,7 @@ opening_names rows cols = record {
   rows = range_with_len 0 rows;
   cols = range_with_len rows cols;
   cells = λ _ _. None;
+  merges = [];
 }
 
 abbrev pub opening_world : NameWorld

@@ -9,7 +9,11 @@ ghost use Rattle.named_ranges.specs.declared.range.NameFault.TheVariants.{NoId, 
 ghost use Rattle.cell_store.specs.Table.{HasPlace, filled_places, most_filled};
 ghost use Rattle.world_model.specs.Counts.{filled_of, formulas_of, grid_places};
 ghost use Rattle.world_model.specs.RangeChange.{PlaceWordsRenamed, place_range_added, place_range_deleted, with_place_ranges};
-ghost use Rattle.world_model.specs.SheetChange.{PlaceSheetDeleted, on_place_sheet, other_sheets, place_marked_hidden, place_sheet_added, place_titled};
+ghost use Rattle.world_model.specs.BookChange.{AreChanges};
+ghost use Rattle.world_model.specs.BookChange.BookChange.{MergesSet};
+ghost use Rattle.world_model.specs.SheetChange.{PlaceSheetDeleted, on_place_sheet, other_sheets, place_marked_hidden, place_merges_set, place_sheet_added, place_titled};
+ghost use Rattle.dimension_ops.specs.MergeRequests.{AreOfSheet};
+ghost use Rattle.dimension_ops.specs.Parts.{with_part};
 ghost use Rattle.world_model.specs.Sound.{IsContentWithin, IsLineCount, IsOnSheet, IsSound, most_places, most_sheets, place_sheet_with};
 ghost use Rattle.world_model.specs.Writing.{book_put, table_written};
 ghost use Rattle.std.specs.Arc.{arc_value};
@@ -22,15 +26,18 @@ ghost use Rattle.dimension_ops.specs.World.{opening_book};
 ghost use Rattle.grid_range.specs.Change.{Fits, count_after};
 ghost use Rattle.world_model.specs.PlaceChange.{BookChanged};
 ghost use Rattle.dimension_ops.specs.Lines.{lines_of_sheet, places_changed};
+ghost use Rattle.dimension_ops.specs.References.{TearsNone};
 
 use crate::lines::sheets_changed;
 use crate::losing::sheets_left;
+use crate::part::Part;
 use crate::renaming::sheets_renamed;
 use crate::sheet::Sheet;
 use crate::sheets::places_of;
 use cell_value::{Duplicate, Items, NoMemory, Text};
 use dev_metadata::Metadata;
 use grid_range::{Area, SheetChange};
+use merge_ranges::Merges;
 use named_ranges::{NameFault, NamedRange, Names};
 use protection::Protections;
 use ref_rewrite::Content;
@@ -39,8 +46,8 @@ use std::marker::Model;
 use std::mem;
 use std::sync::Arc;
 use world_model::{
-    changes_stay_sound, filled_within_places, formulas_counted, ranges_added, ranges_deleted,
-    sheets_deleted, words_are_renamed, writes_follow, writes_stay_sound,
+    changes_stay_sound, filled_within_places, formulas_counted, merges_are_set, ranges_added,
+    ranges_deleted, sheets_deleted, words_are_renamed, writes_follow, writes_stay_sound,
 };
 
 /// A spreadsheet: its sheets in their order, named ranges, protected ranges and metadata (Sheets API v4
@@ -320,38 +327,65 @@ impl Book {
         })
     }
 
-    /// Gives the sheet with the id another title. It is copied first where another copy of the spreadsheet
-    /// shares it.
+    /// Gives the sheet with the id another title.
     ///
     /// # Errors
     ///
-    /// [`NoMemory`] where memory runs out; the spreadsheet is as it was.
+    /// Those of [`Book::set`].
     pub(crate) fn retitle(&mut self, sheet: u32, title: Text) -> Result<(), NoMemory>
         requires there { IsSome (place_sheet_with sheet self.old.sheets) }
         requires sound { IsSound (on_place_sheet sheet (place_titled title) self.old) }
         ensures titled { OnOk result (self.new ≡ on_place_sheet sheet (place_titled title) self.old) }
         ensures unchanged { OnErr result (self.new ≡ self.old) }
     {
-        if let Some(place) = place_of(&self.sheets, sheet) {
-            retitle_shared(&mut self.sheets[place], title)?;
-        }
-        Ok(())
+        self.set(sheet, Part::Title(title))
     }
 
-    /// Hides the sheet with the id, or shows it. It is copied first where another copy of the spreadsheet
-    /// shares it.
+    /// Hides the sheet with the id, or shows it.
     ///
     /// # Errors
     ///
-    /// [`NoMemory`] where memory runs out; the spreadsheet is as it was.
+    /// Those of [`Book::set`].
     pub(crate) fn mark_hidden(&mut self, sheet: u32, hidden: bool) -> Result<(), NoMemory>
         requires there { IsSome (place_sheet_with sheet self.old.sheets) }
         requires sound { IsSound (on_place_sheet sheet (place_marked_hidden hidden) self.old) }
         ensures marked { OnOk result (self.new ≡ on_place_sheet sheet (place_marked_hidden hidden) self.old) }
         ensures unchanged { OnErr result (self.new ≡ self.old) }
     {
+        self.set(sheet, Part::Hidden(hidden))
+    }
+
+    /// Gives the sheet with the id other merges.
+    ///
+    /// # Errors
+    ///
+    /// Those of [`Book::set`].
+    pub(crate) fn set_merges(&mut self, sheet: u32, merges: Merges) -> Result<(), NoMemory>
+        requires { IsSomeAnd (place_sheet_with sheet self.old.sheets) (λ found. AreOfSheet found merges) }
+        ensures set { OnOk result (self.new ≡ place_merges_set sheet merges self.old) }
+        ensures names { OnOk result (AreChanges (MergesSet sheet merges ∷ []) self.old self.new) }
+        ensures unchanged { OnErr result (self.new ≡ self.old) }
+    {
+        merges_are_set();
+        self.stays_sound();
+        let _listed = merges.list();
+        self.set(sheet, Part::Merges(merges))
+    }
+
+    /// Gives the sheet with the id another one of its parts; all else stays. It is copied first where another
+    /// copy of the spreadsheet shares it.
+    ///
+    /// # Errors
+    ///
+    /// [`NoMemory`] where memory runs out; the spreadsheet is as it was.
+    fn set(&mut self, sheet: u32, part: Part) -> Result<(), NoMemory>
+        requires there { IsSome (place_sheet_with sheet self.old.sheets) }
+        requires sound { IsSound (on_place_sheet sheet (with_part part) self.old) }
+        ensures set { OnOk result (self.new ≡ on_place_sheet sheet (with_part part) self.old) }
+        ensures unchanged { OnErr result (self.new ≡ self.old) }
+    {
         if let Some(place) = place_of(&self.sheets, sheet) {
-            mark_shared(&mut self.sheets[place], hidden)?;
+            set_shared(&mut self.sheets[place], part)?;
         }
         Ok(())
     }
@@ -577,6 +611,8 @@ impl Book {
             (λ found. lines_of_sheet by.now.axis found ≡ by.now.count) }
         requires room { IsLineCount by.now.axis (count_after by.now.change.now by.now.count) }
         requires few { places_changed by.now.sheet by.now.axis by.now.change.now self.old.sheets ≤ most_places }
+        requires untorn { IfSome (place_sheet_with by.now.sheet self.old.sheets)
+            (λ found. TearsNone by.now.axis by.now.count by.now.change.now found.merges) }
         ensures { OnOk result (BookChanged by.now.sheet by.now.axis by.now.count by.now.change.now self.old self.new) }
     {
         let spare = Book::opening(self.alloc)?;
@@ -592,6 +628,8 @@ impl Book {
             (λ found. lines_of_sheet by.now.axis found ≡ by.now.count) }
         requires room { IsLineCount by.now.axis (count_after by.now.change.now by.now.count) }
         requires few { places_changed by.now.sheet by.now.axis by.now.change.now self.sheets ≤ most_places }
+        requires untorn { IfSome (place_sheet_with by.now.sheet self.sheets)
+            (λ found. TearsNone by.now.axis by.now.count by.now.change.now found.merges) }
         ensures { IfOk result (BookChanged by.now.sheet by.now.axis by.now.count by.now.change.now self) }
     {
         changes_stay_sound();
@@ -660,28 +698,14 @@ fn put_shared(
     }
 }
 
-/// Gives a sheet that copies of a spreadsheet may share another title.
-fn retitle_shared(shared: &mut Arc<Sheet>, title: Text) -> Result<(), NoMemory>
-    ensures titled { OnOk result (arc_value shared.new ≡ place_titled title (arc_value shared.old)) }
+/// Gives a sheet that copies of a spreadsheet may share another one of its parts.
+fn set_shared(shared: &mut Arc<Sheet>, part: Part) -> Result<(), NoMemory>
+    ensures set { OnOk result (arc_value shared.new ≡ with_part part (arc_value shared.old)) }
     ensures unchanged { OnErr result (arc_value shared.new ≡ arc_value shared.old) }
 {
     match Arc::make_mut(shared) {
         Ok(own) => {
-            own.set_title(title);
-            Ok(())
-        }
-        Err(_) => Err(NoMemory),
-    }
-}
-
-/// Hides or shows a sheet that copies of a spreadsheet may share.
-fn mark_shared(shared: &mut Arc<Sheet>, hidden: bool) -> Result<(), NoMemory>
-    ensures marked { OnOk result (arc_value shared.new ≡ place_marked_hidden hidden (arc_value shared.old)) }
-    ensures unchanged { OnErr result (arc_value shared.new ≡ arc_value shared.old) }
-{
-    match Arc::make_mut(shared) {
-        Ok(own) => {
-            own.set_hidden(hidden);
+            own.set(part);
             Ok(())
         }
         Err(_) => Err(NoMemory),

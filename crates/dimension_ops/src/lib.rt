@@ -7,6 +7,8 @@ mod following;
 mod laws;
 mod lines;
 mod losing;
+mod merging;
+mod part;
 mod properties;
 mod ranges;
 mod renaming;

@@ -26,14 +26,16 @@ use std::alloc::Global;
 use std::sync::Arc;
 use world_model::line_changes_are_changes;
 
-/// Makes the change of the lines on the axis of the sheet with the id. Cells go with their lines, and each
-/// reference to the sheet follows its lines, in formulas of all sheets. Lines are counted from 0.
+/// Makes the change of the lines on the axis of the sheet with the id. Cells go with their lines, its merges
+/// follow them, and so does each reference to the sheet, in formulas of all sheets. Lines are counted from 0.
 ///
 /// # Errors
 ///
 /// [`Rule::LastLine`] where no line would be left; [`Rule::PastLimit`] where the sheet would have more than
-/// 1,000,000 rows or 18,278 columns, or the spreadsheet more than 10,000,000 places. The spreadsheet is as it
-/// was then. [`RuleOr::NoMemory`] where memory runs out; the spreadsheet is to be given up then.
+/// 1,000,000 rows or 18,278 columns, or the spreadsheet more than 10,000,000 places; [`Rule::MergeCut`] where
+/// the change is a move after which the lines of a merge of the sheet don't stand side by side in their old
+/// order. The spreadsheet is as it was then. [`RuleOr::NoMemory`] where memory runs out; the spreadsheet is to
+/// be given up then.
 pub fn change_sheet(book: &mut Book, sheet: u32, axis: Axis, change: &Change) -> Result<(), RuleOr>
     requires { IsSomeAnd (place_sheet_with sheet book.old.sheets)
         (λ found. Fits change.now (lines_of_sheet axis found)) }
@@ -135,6 +137,7 @@ fn judge(book: &Book, sheet: u32, axis: Axis, change: &Change) -> Result<u32, Ru
     ensures broken { IfErr result
         (λ rule. first_broken (lines_broken sheet axis change.now book.now.sheets) ≡ Some rule) }
 {
+    book.stays_sound();
     let Some(found) = book.sheet(sheet) else {
         return Ok(0);
     };
@@ -144,10 +147,13 @@ fn judge(book: &Book, sheet: u32, axis: Axis, change: &Change) -> Result<u32, Ru
         return Err(Rule::LastLine);
     }
     let size = size_after(axis, change, rows, cols);
-    match first_past(size.0, size.1, places_after(book, sheet, axis, change)) {
-        Some(limit) => Err(Rule::PastLimit(limit)),
-        None => Ok(count),
+    if let Some(limit) = first_past(size.0, size.1, places_after(book, sheet, axis, change)) {
+        return Err(Rule::PastLimit(limit));
     }
+    if found.merges().tears(axis, count, change) {
+        return Err(Rule::MergeCut);
+    }
+    Ok(count)
 }
 
 /// The first limit that a sheet of that size passes, beside others with that many places in all.
@@ -229,15 +235,15 @@ fn sheet_changed(alloc: Global, sheet: Arc<Sheet>, by: &SheetChange) -> Result<A
     }
 }
 
-/// The sheet whose lines are changed, after the change: its items went with their lines, and its formulas
-/// followed, unless none changes.
+/// The sheet whose lines are changed, after the change: its items went with their lines, and its merges and
+/// its formulas followed.
 fn own_changed(sheet: Sheet, by: &SheetChange) -> Result<Sheet, NoMemory>
     requires fits { Fits by.now.change.now by.now.count }
     requires own { sheet.id ≡ by.now.sheet }
     requires ready { CanChange by.now.sheet by.now.axis by.now.count by.now.change.now sheet }
     ensures { IfOk result (SheetChanged by.now.sheet by.now.axis by.now.count by.now.change.now sheet) }
 {
-    let mut moved = sheet.moved(by.axis, by.change)?;
+    let mut moved = sheet.moved(by)?;
     if keeps_places(by.change, by.count) {
         return Ok(moved);
     }

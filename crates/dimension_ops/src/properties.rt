@@ -6,6 +6,7 @@ ghost use Rattle.std.specs.Option.{IsSome};
 ghost use Rattle.cell_store.specs.Moved.{size_after};
 ghost use Rattle.cell_value.specs.Ids.{is_taken};
 ghost use Rattle.grid_range.specs.Change.{Fits, count_after};
+ghost use Rattle.grid_range.specs.Tearing.{IsMove};
 ghost use Rattle.grid_range.specs.declared.change.Change.TheVariants.{Insert};
 ghost use Rattle.world_model.specs.BookChange.{AreChanges};
 ghost use Rattle.world_model.specs.BookChange.BookChange.{LinesChanged};
@@ -245,7 +246,7 @@ fn extend(book: &mut Book, sheet: u32, axis: Axis, lines: u32, given: u32) -> Re
     }
 }
 
-/// Makes the change of the lines of the sheet, which has so many on the axis.
+/// Makes the change of the lines of the sheet, which has so many on the axis. It is no move, so no merge is torn.
 ///
 /// # Errors
 ///
@@ -261,6 +262,7 @@ fn make(
     requires long { IsSomeAnd (place_sheet_with sheet book.old.sheets) (λ found. lines_of_sheet axis found ≡ count) }
     requires room { IsLineCount axis (count_after change.now count) }
     requires few { places_changed sheet axis change.now book.old.sheets ≤ most_places }
+    requires stays { ¬ (IsMove change.now) }
     ensures made { OnOk result (AreChanges (LinesChanged sheet axis change.now ∷ []) book.old book.new) }
     ensures sized { OnOk result (GetsSize sheet (λ size. size_after axis change.now size.0 size.1) book.old.sheets book.new.sheets) }
 {

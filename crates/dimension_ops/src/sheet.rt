@@ -1,27 +1,30 @@
-ghost use Rattle.std.specs.Prelude.{◌≡◌, [], None, IfOk, IsTrue, OnOk, OnErr, ◌+◌, ◌<◌, ◌≤◌};
+ghost use Rattle.std.specs.Prelude.{◌≡◌, None, false, IfOk, IsTrue, OnOk, OnErr, ◌+◌, ◌<◌, ◌≤◌};
 ghost use Rattle.std.specs.Option.{option_copied, IsSome};
 ghost use Rattle.ref_rewrite.specs.declared.cell_content.Content.{Content};
 ghost use Rattle.cell_store.specs.Places.{AreFilledPlaces};
-ghost use Rattle.cell_store.specs.Table.{Table, item_at, filled_places, empty_table, most_filled, most_lines, HasPlace, HasItemsInside};
+ghost use Rattle.cell_store.specs.Table.{Table, item_at, filled_places, most_filled, most_lines, HasPlace, HasItemsInside};
 ghost use Rattle.world_model.specs.Counts.{formulas_at, formulas_in};
-ghost use Rattle.world_model.specs.SheetChange.{LosesReferences, place_marked_hidden, place_titled};
+ghost use Rattle.world_model.specs.SheetChange.{LosesReferences, new_place_sheet, place_marked_hidden, place_merged, place_titled};
 ghost use Rattle.world_model.specs.Writing.{table_written};
 ghost use Rattle.grid_range.specs.Change.{Fits};
-ghost use Rattle.cell_store.specs.Moved.{IsRoomAfter, lines_on};
-ghost use Rattle.dimension_ops.specs.References.{AreMarked, AreReferring, AreWithinOn, is_formula_at};
+ghost use Rattle.merge_ranges.specs.Calls.{ListsJust};
+ghost use Rattle.merge_ranges.specs.Following.{AreWithin, CameFrom, KeepsAll};
+ghost use Rattle.dimension_ops.specs.References.{AreMarked, AreReferring, AreWithinOn, CanMove, TearsNone, is_formula_at};
 ghost use Rattle.dimension_ops.specs.Lines.{SheetFollows, SheetMoves};
+ghost use Rattle.dimension_ops.specs.Parts.{with_part};
 ghost use Rattle.dimension_ops.specs.Renaming.{AreNaming};
 ghost use Rattle.world_model.specs.RangeChange.{WordsRenamedIn};
 
 use crate::following::{count_formulas, follow_places, references};
-use crate::lines::{keeps_places, lines_on};
+use crate::lines::keeps_places;
 use crate::losing::lose_places;
+use crate::part::Part;
 use crate::renaming::{naming, rename_places};
 use basic_filter::Filter;
 use cell_store::{CellStore, tables_by_items};
 use cell_value::{Duplicate, Items, NoMemory, Text};
-use grid_range::{Area, Axis, Change, SheetChange};
-use merge_ranges::Merges;
+use grid_range::{Area, SheetChange};
+use merge_ranges::{Cut, Merges};
 use ref_rewrite::Content;
 use shared_grid::{Mark, SharedGrid};
 use std::alloc::{AllocError, Global};
@@ -49,7 +52,7 @@ pub struct Sheet {
 }
 
 impl Model for Sheet {
-    ghost use Rattle.std.specs.Prelude.{◌≡◌, [], None};
+    ghost use Rattle.std.specs.Prelude.{◌≡◌, None};
     ghost use Rattle.world_model.specs.Counts.{formulas_in};
     ghost use Rattle.world_model.specs.Sheet.{PlaceSheet};
     ghost use Rattle.dimension_ops.specs.References.{AreMarked};
@@ -59,10 +62,16 @@ impl Model for Sheet {
 
     ghost coded = { sheet_code };
 
-    ghost view = { λ s. record { id = s.id; title = s.title; hidden = s.hidden; table = s.cells.table } };
+    ghost view = { λ s. record {
+      id = s.id;
+      title = s.title;
+      hidden = s.hidden;
+      table = s.cells.table;
+      merges = s.merges;
+    } };
 
     ghost invariant = { λ s. (s.formulas ≡ formulas_in s.cells.table) × AreMarked s.cells.table s.marks.table
-        × (s.merges ≡ []) × (s.filter ≡ None) };
+        × (s.filter ≡ None) };
 }
 
 impl Sheet {
@@ -79,8 +88,8 @@ impl Sheet {
         cols: u32,
     ) -> Result<Sheet, NoMemory>
         requires { rows + cols ≤ most_lines }
-        ensures { IfOk result (λ sheet. sheet
-            ≡ record { id = id; title = title; hidden = Rattle.std.specs.Prelude.false; table = empty_table rows cols }) }
+        ensures { IfOk result (λ sheet. sheet ≡ new_place_sheet
+            (record { id = id; title = title; hidden = false; rows = rows; cols = cols })) }
     {
         formulas_counted();
         Ok(Sheet {
@@ -144,9 +153,27 @@ impl Sheet {
         self.hidden = hidden;
     }
 
-    /// The merged cells, lent; no request makes any yet.
+    /// Gives the sheet other merges.
+    pub(crate) fn set_merges(&mut self, merges: Merges)
+        ensures { self.new ≡ place_merged merges self.old }
+    {
+        self.merges = merges;
+    }
+
+    /// Gives the sheet another one of its parts.
+    pub(crate) fn set(&mut self, part: Part)
+        ensures { self.new ≡ with_part part self.old }
+    {
+        match part {
+            Part::Title(title) => self.set_title(title),
+            Part::Hidden(hidden) => self.set_hidden(hidden),
+            Part::Merges(merges) => self.set_merges(merges),
+        }
+    }
+
+    /// The merged cells, lent.
     pub fn merges(&self) -> &Merges
-        ensures { result.now ≡ [] }
+        ensures { result.now ≡ self.now.merges }
     {
         &self.merges
     }
@@ -244,24 +271,26 @@ impl Sheet {
         Ok(())
     }
 
-    /// The sheet after the change of its lines on the axis. Items go with their lines; its formulas have yet
-    /// to follow.
+    /// The sheet after the change of its lines. Items go with their lines, and merges follow; its formulas have
+    /// yet to follow.
     ///
     /// # Errors
     ///
     /// [`NoMemory`] where memory runs out.
-    pub(crate) fn moved(self, axis: Axis, change: &Change) -> Result<Sheet, NoMemory>
-        requires fits { Fits change.now (lines_on axis self.table.rows self.table.cols) }
-        requires room { IsRoomAfter axis change.now self.table }
-        ensures { IfOk result (SheetMoves axis change.now self) }
+    pub(crate) fn moved(self, by: &SheetChange) -> Result<Sheet, NoMemory>
+        requires fits { Fits by.now.change.now by.now.count }
+        requires ready { CanMove by.now.axis by.now.count by.now.change.now self }
+        ensures { IfOk result (SheetMoves by.now.axis by.now.count by.now.change.now self) }
     {
         tables_by_items::<Content>();
         let mut cells = self.cells;
         let mut marks = self.marks;
+        let mut merges = self.merges;
         items_inside(&cells);
-        let stay = keeps_places(change, lines_on(axis, cells.rows(), cells.cols()));
-        cells.change(axis, change)?;
-        marks.change(axis, change)?;
+        cells.change(by.axis, by.change)?;
+        marks.change(by.axis, by.change)?;
+        merges_followed(&mut merges, by);
+        let stay = keeps_places(by.change, by.count);
         let formulas = counted_again(&cells, &marks, self.formulas, stay)?;
         Ok(Sheet {
             id: self.id,
@@ -270,7 +299,7 @@ impl Sheet {
             cells,
             marks,
             formulas,
-            merges: self.merges,
+            merges,
             filter: self.filter,
         })
     }
@@ -325,6 +354,20 @@ fn items_inside(cells: &Cells)
     ensures { HasItemsInside cells.now.table }
 {
     let _held = cells.get(0, 0);
+}
+
+/// Has the merges of the sheet whose lines are changed follow the change, which tears none of them.
+fn merges_followed(merges: &mut Merges, by: &SheetChange)
+    requires fits { Fits by.now.change.now by.now.count }
+    requires within { AreWithin by.now.axis by.now.count merges.old }
+    requires untorn { TearsNone by.now.axis by.now.count by.now.change.now merges.old }
+    ensures whole { KeepsAll by.now.axis by.now.count by.now.change.now merges.old }
+    ensures followed { ListsJust (CameFrom by.now.axis by.now.count by.now.change.now merges.old) merges.new }
+{
+    match merges.change(by.axis, by.count, by.change) {
+        Ok(()) => {}
+        Err(Cut) => unreachable!(),
+    }
 }
 
 /// How many formulas the cells hold: as many as before where they stayed in their places, and else they are

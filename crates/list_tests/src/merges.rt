@@ -1,4 +1,5 @@
-ghost use Rattle.std.specs.Prelude.{◌↔◌, IsTrue};
+ghost use Rattle.std.specs.Prelude.{◌≡◌, ◌↔◌, IsTrue};
+ghost use Rattle.grid_range.specs.declared.band.Band.TheVariants.{Span};
 ghost use Rattle.merge_ranges.specs.Following.{AreWithin};
 
 use crate::common::check;
@@ -17,6 +18,8 @@ const A1_B3: Corners = (0, 3, 0, 2);
 const A1_B4: Corners = (0, 4, 0, 2);
 
 const A1_B1: Corners = (0, 1, 0, 2);
+
+const A1_A2: Corners = (0, 2, 0, 1);
 
 const D1_E1: Corners = (0, 1, 3, 5);
 
@@ -39,6 +42,35 @@ fn cells_are_merged(rt: HostRuntime) {
         let added = add(&mut merges, row.1).is_ok();
         check(&rt, row, added == row.2.is_some());
         check(&rt, row, are(&merges, row.2.unwrap_or(row.0)));
+    }
+}
+
+/// Merges, an area each of whose lines on an axis is merged by itself, how many merges it doesn't hold whole, and
+/// the merges then; None where it cuts one.
+static MERGED_LINES: [(&[Corners], Corners, Axis, u64, Option<&[Corners]>); 7] = [
+    (&[], A1_B2, Axis::Rows, 0, Some(&[A1_B1, (1, 2, 0, 2)])),
+    (&[], A1_B2, Axis::Columns, 0, Some(&[A1_A2, (0, 2, 1, 2)])),
+    (&[D1_E1], A1_B1, Axis::Columns, 1, Some(&[D1_E1])),
+    (&[A1_A2, D1_E1], A1_A2, Axis::Rows, 1, Some(&[D1_E1])),
+    (
+        &[A1_B2, D1_E1],
+        (0, 2, 0, 5),
+        Axis::Rows,
+        0,
+        Some(&[(0, 1, 0, 5), (1, 2, 0, 5)]),
+    ),
+    (&[A1_B3], A1_B2, Axis::Rows, 1, None),
+    (&[A1_B2, D1_E1], (0, 2, 0, 4), Axis::Columns, 1, None),
+];
+
+#[test]
+fn lines_are_merged(rt: HostRuntime) {
+    for row in &MERGED_LINES {
+        let mut merges = merged(rt.alloc(), row.0);
+        check(&rt, row, merges.left_by(&area(row.1)) == row.3);
+        let added = add_lines(&mut merges, row.1, row.2).is_ok();
+        check(&rt, row, added == row.4.is_some());
+        check(&rt, row, are(&merges, row.4.unwrap_or(row.0)));
     }
 }
 
@@ -94,6 +126,59 @@ fn all_cells_but_the_first_are_covered(rt: HostRuntime) {
     let merges = merged(rt.alloc(), &[A1_B2, D1_E1]);
     for row in &COVERED {
         check(&rt, row, merges.covers(row.0, row.1) == row.2);
+    }
+}
+
+/// An area, an axis, a line of it, and which of its cells two merges cover.
+static COVERED_LINES: [(Corners, Axis, u32, &[bool]); 8] = [
+    (
+        (0, 3, 0, 5),
+        Axis::Rows,
+        0,
+        &[false, true, false, false, true],
+    ),
+    (
+        (0, 3, 0, 5),
+        Axis::Rows,
+        1,
+        &[true, true, false, false, false],
+    ),
+    (
+        (0, 3, 0, 5),
+        Axis::Rows,
+        2,
+        &[false, false, false, false, false],
+    ),
+    ((0, 3, 0, 5), Axis::Columns, 0, &[false, true, false]),
+    ((0, 3, 0, 5), Axis::Columns, 1, &[true, true, false]),
+    ((0, 3, 0, 5), Axis::Columns, 4, &[true, false, false]),
+    ((1, 2, 1, 4), Axis::Rows, 1, &[true, false, false]),
+    ((1, 2, 1, 4), Axis::Columns, 1, &[true]),
+];
+
+#[test]
+fn covered_cells_are_told_by_lines(rt: HostRuntime) {
+    let merges = merged(rt.alloc(), &[A1_B2, D1_E1]);
+    for row in &COVERED_LINES {
+        check(&rt, row, are_covered(&merges, row.0, row.1, row.2, row.3));
+    }
+}
+
+/// Whether those cells of a line of the area are covered, which is asked for behind the area's first one.
+fn are_covered(merges: &Merges, corners: Corners, axis: Axis, line: u32, covered: &[bool]) -> bool {
+    let (top, bottom, left, right) = corners;
+    let (first, past) = match axis {
+        Axis::Rows => (top, bottom),
+        Axis::Columns => (left, right),
+    };
+    if bottom <= top || right <= left || line < first || past <= line {
+        return false;
+    }
+    match merges.covered_lines(axis, &area(corners)) {
+        Ok(mut lines) => {
+            lines.go_to(first).is_ok() && lines.go_to(line).is_ok() && lines.covered() == covered
+        }
+        Err(_) => false,
     }
 }
 
@@ -217,7 +302,9 @@ fn merges_go_with_their_lines(rt: HostRuntime) {
     }
 }
 
-fn area(corners: Corners) -> Area {
+fn area(corners: Corners) -> Area
+    ensures { result ≡ record { sheet = 7; rows = Span corners.0 corners.1; cols = Span corners.2 corners.3 } }
+{
     Area {
         sheet: 7,
         rows: Band::Span(corners.0, corners.1),
@@ -242,6 +329,16 @@ fn add(merges: &mut Merges, corners: Corners) -> Result<(), MergeFault> {
             rows: Band::Span(top, bottom),
             cols: Band::Span(left, right),
         })
+    } else {
+        Err(MergeFault::NoMemory)
+    }
+}
+
+/// Merges the lines of an area on the axis by themselves.
+fn add_lines(merges: &mut Merges, corners: Corners, axis: Axis) -> Result<(), MergeFault> {
+    let (top, bottom, left, right) = corners;
+    if top < bottom && left < right {
+        merges.add_lines(&area(corners), axis)
     } else {
         Err(MergeFault::NoMemory)
     }

@@ -1,23 +1,10 @@
 -- Lists of merges: that no two have a cell in common.
-use Rattle.std.proofs.Common.{◌≡◌, ◌⊎◌, inl, inr, arith, refl, sym, ap, subst, ◌∙◌, Bool, true, false, cond, List, [], ◌∷◌, ◌++◌}
-use Rattle.std.specs.Prelude.{Option, Some, None, Contains, filter}
+use Rattle.std.proofs.Common.{◌≡◌, refl, Bool, false, List, [], ◌∷◌}
+use Rattle.std.specs.Prelude.{Option, Some, None}
 use Rattle.std.specs.List.{IsDistinct}
 use Rattle.std.specs.List.{AllByRecursion, filter_map, cons_option}
-use Rattle.std.proofs.lemmas.List.Elements.{All-from_recursion, recursion_from_All, All-filter, Contains-append_left, Contains-append_right, Contains-append_cases, Contains-push, Contains-push_cases}
 use Rattle.std.proofs.lemmas.Map.Keys.{IsDistinct-head, IsDistinct-tail, IsDistinct-cons}
 use Rattle.cell_value.specs.Elements.{IsDistinct-none}
-
--- elements apart, by a symmetrical test
-module _ {X : Type 0} where
-  pub distinct-push : (e : X → X → Bool) (xs : List X) (y : X) → AllByRecursion (λ x. e x y ≡ false) xs
-      → IsDistinct e xs → IsDistinct e (xs ++ y ∷ [])
-  distinct-push e [] y far d = IsDistinct-cons e y [] tt (IsDistinct-none e)
-  distinct-push e (x ∷ xs) y far d = IsDistinct-cons e x (xs ++ y ∷ []) (also xs (IsDistinct-head e x xs d))
-      (distinct-push e xs y far.1 (IsDistinct-tail e x xs d))
-    where
-      also : (zs : List X) → AllByRecursion (λ z. e x z ≡ false) zs → AllByRecursion (λ z. e x z ≡ false) (zs ++ y ∷ [])
-      also [] h = (far.0, tt)
-      also (z ∷ zs) h = (h.0, also zs h.1)
 
 module _ {X Y : Type 0} (h : X → Option Y) where
   -- elements that are apart come apart

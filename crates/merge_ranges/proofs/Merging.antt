@@ -1,15 +1,17 @@
 -- What the calls leave is a list of merges, and just the ones that are meant.
-use Rattle.std.proofs.Common.{◌≡◌, ℕ, ◌+◌, inl, inr, arith, refl, sym, ap, subst, ◌∙◌, true, false, List, [], ◌∷◌, ◌++◌, get_or, not}
-use Rattle.std.specs.Prelude.{Contains, filter, Any}
+use Rattle.std.proofs.Common.{◌≡◌, ℕ, ◌+◌, ◌-◌, ◌<◌, ◌≤◌, inl, inr, arith, refl, sym, ap, subst, ◌∙◌, Bool, true, false, ◌&&◌, List, [], ◌∷◌, ◌++◌, get_or, length, map, not}
+use Rattle.std.specs.Prelude.{◌↔◌, Contains, nat_lt, Any}
 use Rattle.std.specs.List.Sorted.{IsStrictlySortedBy}
-use Rattle.std.specs.List.{IsDistinct, All, list_any}
+use Rattle.std.specs.List.{IsDistinct, All, list_any, range_with_len}
 use Rattle.std.specs.List.Sorted.{IsSortedByKey, IsPermutation}
 use Rattle.std.specs.Ordering.{nat_cmp, is_lt, ordering_reverse}
 use Rattle.std.specs.declared.cmp.Ordering.TheVariants.{Less, Equal, Greater}
 use Rattle.std.specs.Cmp.{IsTotalOrder, nat_cmp_total}
-use Rattle.std.proofs.lemmas.Bool.{false≢true, cases_Bool}
+use Rattle.std.proofs.lemmas.Bool.{false≢true, cases_Bool, cases_order, le-ltb}
 use Rattle.std.proofs.lemmas.Cmp.{then_total, on_total}
-use Rattle.std.proofs.lemmas.List.Elements.{All-nil, All-contains, All-filter, All-push, recursion_from_All, Contains-append_left, Contains-push, Contains-push_cases, Contains-get_or}
+use Rattle.std.proofs.lemmas.List.{get_or_default}
+use Rattle.std.proofs.lemmas.List.Elements.{All-append, All-nil, All-contains, All-filter, All-push, Contains-append_cases, Contains-append_left, Contains-append_right, Contains-get_or}
+use Rattle.std.proofs.lemmas.List.FromFn.{get_or-map-range_with_len, get_or-range_with_len, length-map-range_with_len, length-range_with_len}
 use Rattle.std.proofs.lemmas.List.Folds.{Any-from_list_any, list_any-from_Any}
 use Rattle.std.proofs.lemmas.List.Kept.{IsStrictlySortedBy-filter}
 use Rattle.std.proofs.lemmas.List.MinMax.{ranks_by}
@@ -17,16 +19,20 @@ use Rattle.std.proofs.lemmas.List.Sorted.{sorted_far, All-permutation, Contains-
 use Rattle.std.proofs.lemmas.Map.Keys.{IsDistinct-from_apart, IsDistinct-IsPermutation, apart_from_distinct, sorted_from_all_adjacent}
 use Rattle.std.proofs.lemmas.Map.Lookups.{exact_pairs, exact_unsigned}
 use Rattle.grid_range.specs.declared.area.Area.{Area}
-use Rattle.grid_range.specs.Band.{first_line}
-use Rattle.merge_ranges.specs.Merges.{IsRectangle, IsMerge, AreMerges, Overlap, HoldsAll, by_first_cell}
-use Rattle.merge_ranges.specs.Calls.{Cuts, ListsJust, IsLeft, IsLeftOrNew}
-use Rattle.merge_ranges.specs.Tests.{holds_all, cuts}
+use Rattle.grid_range.specs.declared.axis.Axis.{Axis}
+use Rattle.grid_range.specs.declared.axis.Axis.TheVariants.{Rows, Columns}
+use Rattle.grid_range.specs.declared.band.Band.{Band}
+use Rattle.grid_range.specs.Area.{band_on}
+use Rattle.grid_range.specs.Band.{HasLine, first_line}
+use Rattle.merge_ranges.specs.Merges.{HasEnds, HasManyCells, IsRectangle, IsMerge, AreMerges, Overlap, HoldsAll, by_first_cell}
+use Rattle.merge_ranges.specs.Calls.{AreParts, Cuts, ListsJust, IsLeft, IsLeftOrPart}
+use Rattle.merge_ranges.specs.Tests.{holds_all, cuts, has_many_cells, left_by, line_of, lines_of, past_line}
 use Rattle.grid_range.specs.Area.{first_cell, by_rows}
-use Rattle.merge_ranges.proofs.Rectangles.{holds_all_cells, all_cells_hold, cuts_cells, from_cuts, meets, meets_turned, meeting, apart, not_overlapping, same_first_meets}
-use Rattle.cell_value.specs.Elements.{Contains-filter, Contains-filter_from, IsDistinct-filter}
-use Rattle.merge_ranges.proofs.Lists.{distinct-push}
+use Rattle.merge_ranges.proofs.Ordered.{sorted_same}
+use Rattle.merge_ranges.proofs.Rectangles.{are_cells, cells_are, ends_on, has_line, line_there, rises, holds_all_cells, all_cells_hold, cuts_cells, from_cuts, meets, meets_turned, meeting, apart, not_overlapping, same_first_meets}
+use Rattle.cell_value.specs.Elements.{Contains-filter, Contains-filter_from, Contains-map, Contains-map_from, IsDistinct-append, IsDistinct-filter}
 
-by_first_total : IsTotalOrder by_first_cell
+pub by_first_total : IsTotalOrder by_first_cell
 by_first_total = then_total (on_total (λ (a : Area). first_line a.rows) nat_cmp_total)
     (on_total (λ (a : Area). first_line a.cols) nat_cmp_total)
 
@@ -49,6 +55,28 @@ pub distinct_merges : (merges : List Area) → AreMerges merges → IsDistinct m
 distinct_merges merges are = IsDistinct-from_apart meets merges (λ i j d l m.
     apart (get_or merges i d) (get_or merges j d) (are.each i d (omega arith)).0 (are.each j d m).0
     (are.apart i j d l m))
+
+-- two of them that have a cell in common are one
+pub one_merge : (merges : List Area) → AreMerges merges → (one other : Area) → Contains merges one
+    → Contains merges other → meets one other ≡ true → one ≡ other
+one_merge merges are one other (i, l, at) (j, m, at') met =
+    let there : get_or merges j one ≡ other = get_or_default merges j one other m ∙ at' in
+    let both : meets (get_or merges i one) (get_or merges j one) ≡ true =
+    ap (λ a. meets a (get_or merges j one)) at ∙ ap (meets one) there ∙ met in
+    let far : (i j : ℕ) → i < j → j < length merges → meets (get_or merges i one) (get_or merges j one) ≡ false =
+    λ i j less within. apart_from_distinct meets merges i j one (distinct_merges merges are) less within in
+    elim (cases_order i j) [
+      | inl same ↦ sym at ∙ ap (λ k. get_or merges k one) same ∙ there
+      | inr (inl less) ↦ absurd (false≢true (sym (far i j less m) ∙ both))
+      | inr (inr more) ↦ absurd (false≢true (sym (far j i more l)
+          ∙ meets_turned (get_or merges j one) (get_or merges i one) ∙ both))
+    ]
+
+-- none comes before itself
+pub not_before_itself : (merge : Area) → ¬ (by_first_cell merge merge ≡ Less)
+not_before_itself merge less =
+    let turned : Less ≡ Greater = sym less ∙ by_first_total.antisymm merge merge ∙ ap ordering_reverse less in
+    cc
 
 pub merges_are : (merges : List Area) → All IsMerge merges → IsDistinct meets merges
     → IsStrictlySortedBy by_first_cell merges → AreMerges merges
@@ -108,9 +136,8 @@ from_cut_some area merges each (k, merge, l, at, cut) =
     (k, merge, l, at, from_cuts area merge (All-contains IsMerge merges merge each (k, l, at)).0 cut)
 
 module _ (area : Area) (merges : List Area) (are : AreMerges merges) where
-  -- the merges that the area doesn't hold whole
-  abbrev pub left : List Area
-  left = filter (λ merge. not (holds_all area merge)) merges
+  abbrev left : List Area
+  left = left_by area merges
 
   left_out : (merge : Area) → IsRectangle merge → not (holds_all area merge) ≡ true → ¬ (HoldsAll area merge)
   left_out merge is h all = false≢true (sym (ap not (all_cells_hold area merge is all)) ∙ h)
@@ -136,52 +163,201 @@ module _ (area : Area) (merges : List Area) (are : AreMerges merges) where
     exactly = λ merge. (is_left merge, in_left merge);
   }
 
+  -- there is no other list of them
+  pub left_is : (list : List Area) → ListsJust (IsLeft area merges) list → left ≡ list
+  left_is list lists = sorted_same by_first_total left list lists_left.in_order lists.in_order
+      (λ merge has. (lists.exactly merge).1 ((lists_left.exactly merge).0 has))
+      (λ merge has. (lists_left.exactly merge).1 ((lists.exactly merge).0 has))
+
   pub left_are_merges : AreMerges left
   left_are_merges = merges_are left (All-filter (λ m. not (holds_all area m)) IsMerge merges are.each)
       (IsDistinct-filter (λ m. not (holds_all area m)) meets merges (distinct_merges merges are)) lists_left.in_order
 
-  module _ (is : IsMerge area) (whole : list_any (cuts area) merges ≡ false) (after : List Area)
-      (moved : IsPermutation (left ++ area ∷ []) after) (sorted : IsSortedByKey first_cell by_rows after) where
-    far : (merge : Area) → Contains left merge → meets merge area ≡ false
-    far merge c = elim (cases_Bool (meets merge area)) [
-      | inl h ↦
-          let it = is_left merge c in
-          let rect = (All-contains IsMerge merges merge are.each it.0).0 in
-          let cut = from_cut_some area merges are.each
-          (any_of (Cuts area) merges merge it.0 (turned merge rect h, it.1)) in
-          absurd (false≢true (sym whole ∙ cut))
-      | inr h ↦ h
-    ]
-      where
-        turned : (merge : Area) → IsRectangle merge → meets merge area ≡ true → Overlap area merge
-        turned merge rect h = meeting area merge is.0 rect (meets_turned area merge ∙ h)
+  -- parts of the area in the place of those that it holds
+  module _ (whole : ¬ (Any (Cuts area) merges)) (parts : List Area) (are_parts : AreParts area parts)
+      (after : List Area) (moved : IsPermutation (left ++ parts) after) (sorted : IsSortedByKey first_cell by_rows after)
+    where
+      far : (merge part : Area) → Contains left merge → Contains parts part → meets merge part ≡ false
+      far merge part c d = elim (cases_Bool (meets merge part)) [
+        | inl h ↦
+            let it = is_left merge c in
+            let rect = (All-contains IsMerge merges merge are.each it.0).0 in
+            let of = (All-contains IsMerge parts part are_parts.each d).0 in
+            let both = meeting merge part rect of h in
+            let overlap : Overlap area merge = record {
+              row = both.row;
+              col = both.col;
+              one_holds = All-contains (HoldsAll area) parts part are_parts.inside d both.row both.col both.other_holds;
+              other_holds = both.one_holds;
+            } in
+            absurd (whole (any_of (Cuts area) merges merge it.0 (overlap, it.1)))
+        | inr h ↦ h
+      ]
+        where
+          any_of : (P : Area → Type 0) (ms : List Area) (m : Area) → Contains ms m → P m → Any P ms
+          any_of P ms m (k, l, at) p = (k, m, l, at, p)
 
-        any_of : (P : Area → Type 0) (ms : List Area) (m : Area) → Contains ms m → P m → Any P ms
-        any_of P ms m (k, l, at) p = (k, m, l, at, p)
+      parts_apart : IsDistinct meets parts
+      parts_apart = IsDistinct-from_apart meets parts (λ i j d l m.
+          apart (get_or parts i d) (get_or parts j d) (are_parts.each i d (omega (arith, l, m))).0 (are_parts.each j d m).0
+          (are_parts.apart i j d l m))
 
-    joined : IsDistinct meets (left ++ area ∷ [])
-    joined = distinct-push meets left area
-        (recursion_from_All (λ m. meets m area ≡ false) left
-        (λ k d l. far (get_or left k d) (Contains-get_or left k d l)))
-        (distinct_merges left left_are_merges)
+      joined : IsDistinct meets (left ++ parts)
+      joined = IsDistinct-append meets left parts (distinct_merges left left_are_merges) parts_apart far
 
-    pub added_are_merges : AreMerges after
-    added_are_merges = permuted_merges (left ++ area ∷ []) after
-        (All-push IsMerge left area left_are_merges.each is) joined moved sorted
+      pub put_are_merges : AreMerges after
+      put_are_merges = permuted_merges (left ++ parts) after
+          (All-append IsMerge left parts left_are_merges.each are_parts.each) joined moved sorted
 
-    pub lists_added : ListsJust (IsLeftOrNew area merges) after
-    lists_added = record {
-      in_order = added_are_merges.in_order;
-      exactly = λ merge. (
-        (λ c. elim (Contains-push_cases left area merge
-            (Contains-permutation after (left ++ area ∷ []) merge
-            (IsPermutation-sym (left ++ area ∷ []) after moved) c)) [
-              | inl old ↦ inl (is_left merge old)
-              | inr same ↦ inr (sym same)
-            ]),
-        (λ some. Contains-permutation (left ++ area ∷ []) after merge moved (elim some [
-          | inl old ↦ Contains-append_left left (area ∷ []) merge (in_left merge old)
-          | inr same ↦ subst (Contains (left ++ area ∷ [])) (sym same) (Contains-push left area)
-        ])),
-      );
-    }
+      pub lists_put : ListsJust (IsLeftOrPart area merges parts) after
+      lists_put = record {
+        in_order = put_are_merges.in_order;
+        exactly = λ merge. (
+          (λ c. elim (Contains-append_cases left parts merge
+              (Contains-permutation after (left ++ parts) merge (IsPermutation-sym (left ++ parts) after moved) c)) [
+                | inl old ↦ inl (is_left merge old)
+                | inr new ↦ inr new
+              ]),
+          (λ some. Contains-permutation (left ++ parts) after merge moved (elim some [
+            | inl old ↦ Contains-append_left left parts merge (in_left merge old)
+            | inr new ↦ Contains-append_right left parts merge new
+          ])),
+        );
+      }
+
+-- ---- an area is a part of itself
+
+pub area_is_part : (area : Area) → IsMerge area → AreParts area (area ∷ [])
+area_is_part area is = record {
+  each = All-push IsMerge [] area (All-nil IsMerge) is;
+  apart = λ i j d l m. absurd (omega (arith, l, m));
+  inside = All-push (HoldsAll area) [] area (All-nil (HoldsAll area)) (λ row col holds. holds);
+}
+
+-- ---- the lines of an area
+
+line_among : (first count line : ℕ) → Contains (range_with_len first count) line
+    → (first ≤ line) × (line < first + count)
+line_among first count line (k, l, at) =
+    let few : k < count = subst (λ n. k < n) (length-range_with_len first count) l in
+    let is = get_or-range_with_len first count k line few in
+    (omega (arith, is, at), omega (arith, is, at, few))
+
+among_line : (first count line : ℕ) → first ≤ line → line < first + count → Contains (range_with_len first count) line
+among_line first count line low high =
+    let few : line - first < count = omega (arith, low, high) in
+    let is = get_or-range_with_len first count (line - first) line few in
+    (line - first, subst (λ n. line - first < n) (sym (length-range_with_len first count)) few, omega (arith, is, low))
+
+and_false : (b : Bool) → (b && false) ≡ false
+and_false true = refl
+and_false false = refl
+
+two_apart : (axis : Axis) (area : Area) (line other : ℕ) → line < other
+    → meets (line_of axis area line) (line_of axis area other) ≡ false
+two_apart Rows area line other less =
+    ap (λ b. (nat_lt line (other + 1) && b) && (nat_lt (first_line area.cols) (past_line area.cols)
+    && nat_lt (first_line area.cols) (past_line area.cols)))
+    (le-ltb other (line + 1) (omega (arith, less)))
+    ∙ ap (λ b. b && (nat_lt (first_line area.cols) (past_line area.cols)
+    && nat_lt (first_line area.cols) (past_line area.cols)))
+    (and_false (nat_lt line (other + 1)))
+two_apart Columns area line other less =
+    let rows = nat_lt (first_line area.rows) (past_line area.rows)
+    && nat_lt (first_line area.rows) (past_line area.rows) in
+    ap (λ b. rows && (nat_lt line (other + 1) && b)) (le-ltb other (line + 1) (omega (arith, less)))
+    ∙ ap (λ b. rows && b) (and_false (nat_lt line (other + 1)))
+    ∙ and_false rows
+
+line_part : (axis : Axis) (area : Area) (line : ℕ) → IsRectangle area → HasLine (band_on axis area) line
+    → IsRectangle (line_of axis area line) × HoldsAll area (line_of axis area line)
+line_part Rows area line is has = (
+  (omega arith, is.1),
+  λ row col holds. (
+    subst (HasLine area.rows) (let low = holds.0.0 in let high = holds.0.1 in omega (arith, low, high)) has,
+    holds.1,
+  ),
+)
+line_part Columns area line is has = (
+  (is.0, omega arith),
+  λ row col holds. (
+    holds.0,
+    subst (HasLine area.cols) (let low = holds.1.0 in let high = holds.1.1 in omega (arith, low, high)) has,
+  ),
+)
+
+-- one of them
+abbrev IsLineOf : Axis → Area → Area → Type 0
+IsLineOf axis area part = (line : ℕ) × HasLine (band_on axis area) line × (part ≡ line_of axis area line)
+
+module _ (axis : Axis) (area : Area) (is : IsRectangle area) where
+  abbrev band : Band
+  band = band_on axis area
+
+  abbrev lines : ℕ
+  lines = past_line band - first_line band
+
+  abbrev all_lines : List Area
+  all_lines = map (line_of axis area) (range_with_len (first_line band) lines)
+
+  band_ends : HasEnds band
+  band_ends = ends_on axis area is
+
+  line_at : (k : ℕ) (d : Area) → k < length all_lines
+      → (k < lines) × (get_or all_lines k d ≡ line_of axis area (first_line band + k))
+  line_at k d there =
+      let few : k < lines = subst (λ n. k < n) (length-map-range_with_len (line_of axis area) (first_line band) lines)
+      there in
+      (few, get_or-map-range_with_len (line_of axis area) (first_line band) lines k (first_line band + k) d few refl)
+
+  lines_apart : IsDistinct meets (lines_of axis area)
+  lines_apart = IsDistinct-filter has_many_cells meets all_lines
+      (IsDistinct-from_apart meets all_lines (λ i j d l m.
+      let one = line_at i d (omega (arith, l, m)) in
+      let other = line_at j d m in
+      ap (λ a. meets a (get_or all_lines j d)) one.1
+      ∙ ap (meets (line_of axis area (first_line band + i))) other.1
+      ∙ two_apart axis area (first_line band + i) (first_line band + j) (omega (arith, l))))
+
+  is_line : (part : Area) → Contains all_lines part → IsLineOf axis area part
+  is_line part has =
+      let (line, among, is_part) = Contains-map_from (line_of axis area) (range_with_len (first_line band) lines) part
+      has in
+      let both = line_among (first_line band) lines line among in
+      (line, has_line band line band_ends both.0 (omega (arith, both.1, rises band band_ends)), sym is_part)
+
+  among_lines : (part : Area) → IsLineOf axis area part → Contains all_lines part
+  among_lines part (line, has, is_part) =
+      let there = line_there band line band_ends has in
+      subst (Contains all_lines) (sym is_part)
+      (Contains-map (line_of axis area) (range_with_len (first_line band) lines) line
+      (among_line (first_line band) lines line there.0 (omega (arith, there.1))))
+
+  lines_listed : (part : Area) → Contains (lines_of axis area) part ↔ (IsLineOf axis area part × HasManyCells part)
+  lines_listed part = (
+    (λ has.
+        let both = Contains-filter_from has_many_cells all_lines part has in
+        (is_line part both.0, cells_are part both.1)),
+    (λ both. Contains-filter has_many_cells all_lines part (among_lines part both.0) (are_cells part both.1)),
+  )
+
+  part_of : (part : Area) → IsLineOf axis area part → IsRectangle part × HoldsAll area part
+  part_of part (line, has, is_part) =
+      subst (λ p. IsRectangle p × HoldsAll area p) (sym is_part) (line_part axis area line is has)
+
+  pub lines_are_parts : AreParts area (lines_of axis area)
+  lines_are_parts = record {
+    each = λ k d there.
+        let both = (lines_listed (get_or (lines_of axis area) k d)).0 (Contains-get_or (lines_of axis area) k d there) in
+        ((part_of (get_or (lines_of axis area) k d) both.0).0, both.1);
+    apart = λ i j d l m.
+        let one = (lines_listed (get_or (lines_of axis area) i d)).0
+        (Contains-get_or (lines_of axis area) i d (omega (arith, l, m))) in
+        let other = (lines_listed (get_or (lines_of axis area) j d)).0 (Contains-get_or (lines_of axis area) j d m) in
+        not_overlapping (get_or (lines_of axis area) i d) (get_or (lines_of axis area) j d)
+        (part_of (get_or (lines_of axis area) i d) one.0).0 (part_of (get_or (lines_of axis area) j d) other.0).0
+        (apart_from_distinct meets (lines_of axis area) i j d lines_apart l m);
+    inside = λ k d there.
+        let both = (lines_listed (get_or (lines_of axis area) k d)).0 (Contains-get_or (lines_of axis area) k d there) in
+        (part_of (get_or (lines_of axis area) k d) both.0).1;
+  }

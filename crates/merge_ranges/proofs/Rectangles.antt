@@ -6,10 +6,18 @@ use Rattle.std.proofs.lemmas.Bool.Decides.{nat_tests}
 use Rattle.grid_range.specs.declared.area.Area.{Area}
 use Rattle.grid_range.specs.declared.band.Band.{Band}
 use Rattle.grid_range.specs.declared.band.Band.TheVariants.{Whole, From, Span}
+use Rattle.grid_range.specs.Area.{band_on}
 use Rattle.grid_range.specs.Band.{HasLine, first_line}
+use Rattle.grid_range.specs.declared.axis.Axis.{Axis}
+use Rattle.grid_range.specs.declared.axis.Axis.TheVariants.{Rows, Columns}
 use Rattle.merge_ranges.specs.Merges.{HasEnds, HasManyLines, IsRectangle, HasManyCells, Overlap, HoldsAll}
 use Rattle.merge_ranges.specs.Calls.{Cuts}
-use Rattle.merge_ranges.specs.Tests.{has_all, has_some, past_line, holds_all, cuts, has_many_lines, has_many_cells}
+use Rattle.merge_ranges.specs.Tests.{has_all, has_cell_of, has_some, past_line, holds_all, cuts, has_many_lines, has_many_cells}
+
+-- a rectangle's bands have both ends
+pub ends_on : (axis : Axis) (area : Area) → IsRectangle area → HasEnds (band_on axis area)
+ends_on Rows area is = is.0
+ends_on Columns area is = is.1
 
 -- a band with both ends has the lines between them
 pub rises : (band : Band) → HasEnds band → first_line band < past_line band
@@ -105,12 +113,7 @@ module _ (area merge : Area) (is : IsRectangle merge) where
       (from_all area.rows (first_line merge.rows) (past_line merge.rows) low front.0 back.0)
       (from_all area.cols (first_line merge.cols) (past_line merge.cols) left front.1 back.1)
 
-  -- some of the merge's cells are the area's
-  abbrev pub touches : Bool
-  touches = has_some area.rows (first_line merge.rows) (past_line merge.rows) && has_some area.cols
-      (first_line merge.cols) (past_line merge.cols)
-
-  touching : touches ≡ true → Overlap area merge
+  touching : has_cell_of area merge ≡ true → Overlap area merge
   touching h =
       let both = and_parts (has_some area.rows (first_line merge.rows) (past_line merge.rows))
       (has_some area.cols (first_line merge.cols) (past_line merge.cols)) h in
@@ -126,7 +129,7 @@ module _ (area merge : Area) (is : IsRectangle merge) where
             (has_line merge.rows row is.0 a b, has_line merge.cols col is.1 d e);
       }
 
-  from_touching : Overlap area merge → touches ≡ true
+  pub from_touching : Overlap area merge → has_cell_of area merge ≡ true
   from_touching meets =
       let rows = line_there merge.rows meets.row is.0 meets.other_holds.0 in
       let cols = line_there merge.cols meets.col is.1 meets.other_holds.1 in
@@ -137,23 +140,23 @@ module _ (area merge : Area) (is : IsRectangle merge) where
 
   pub cuts_cells : cuts area merge ≡ true → Cuts area merge
   cuts_cells h =
-      let both = and_parts touches (not (holds_all area merge)) h in
+      let both = and_parts (has_cell_of area merge) (not (holds_all area merge)) h in
       (touching both.0, (λ all. false≢true (sym (ap not (all_cells_hold all)) ∙ both.1)))
 
   pub from_cuts : Cuts area merge → cuts area merge ≡ true
-  from_cuts (meets, sticks) = and_from touches (not (holds_all area merge)) (from_touching meets)
+  from_cuts (meets, sticks) = and_from (has_cell_of area merge) (not (holds_all area merge)) (from_touching meets)
       (elim (cases_Bool (holds_all area merge)) [
         | inl all ↦ absurd (sticks (holds_all_cells all))
         | inr some ↦ ap not some
       ])
 
 -- more than one line, and more than one cell
-lines_are : (band : Band) → has_many_lines band ≡ true → HasManyLines band
+pub lines_are : (band : Band) → has_many_lines band ≡ true → HasManyLines band
 lines_are Whole h = absurd (false≢true h)
 lines_are (From start) h = absurd (false≢true h)
 lines_are (Span start end) h = grind (arith, nat_tests)
 
-are_lines : (band : Band) → HasManyLines band → has_many_lines band ≡ true
+pub are_lines : (band : Band) → HasManyLines band → has_many_lines band ≡ true
 are_lines Whole h = absurd h
 are_lines (From start) h = absurd h
 are_lines (Span start end) h = grind (arith, nat_tests)

@@ -8,9 +8,11 @@ use Rattle.grid_range.specs.declared.axis.Axis.{Axis}
 use Rattle.grid_range.specs.declared.change.Change.{Change}
 use Rattle.grid_range.specs.Area.{band_on}
 use Rattle.grid_range.specs.Band.{Within}
+use Rattle.grid_range.specs.Change.{Fits}
 use Rattle.grid_range.specs.Tearing.{IsMove, StaysWhole}
 use Rattle.grid_range.specs.Tracking.{area_followed}
-use Rattle.merge_ranges.specs.Merges.{HasManyCells}
+use Rattle.merge_ranges.specs.Calls.{ListsJust}
+use Rattle.merge_ranges.specs.Merges.{AreMerges, HasManyCells}
 
 -- each area's band on the axis is within `count` lines
 abbrev pub AreWithin : Axis → ℕ → List Area → Type 0
@@ -27,3 +29,9 @@ pub record CameFrom (axis : Axis) (count : ℕ) (change : Change) (merges : List
 abbrev pub KeepsAll : Axis → ℕ → Change → List Area → Type 0
 KeepsAll axis count change merges =
     IsMove change → All (λ merge. StaysWhole change count (band_on axis merge)) merges
+
+-- what merges are followed to, each of which a move leaves whole, are merges
+pub record FollowedStayMerges : Type 0 where
+  pub stays : (axis : Axis) (count : ℕ) (change : Change) (merges after : List Area) → Fits change count
+      → AreMerges merges → AreWithin axis count merges → KeepsAll axis count change merges
+      → ListsJust (CameFrom axis count change merges) after → AreMerges after

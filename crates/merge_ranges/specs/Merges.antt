@@ -1,14 +1,15 @@
 -- The merged cells of a sheet: `merges` of its `Sheet` in the Google Sheets API v4, each a
 -- `GridRange` whose four indexes are given. They lie on one sheet, which isn't looked at.
-use Rattle.std.specs.Prelude.{◌≡◌, ℕ, ◌+◌, ◌<◌, List, ◌⊎◌}
+use Rattle.std.specs.Prelude.{◌≡◌, ℕ, ◌+◌, ◌<◌, List, ◌⊎◌, Bool, not, ◌&&◌, ◌==◌}
 use Rattle.std.specs.declared.cmp.Ordering.{Ordering}
-use Rattle.std.specs.List.{All, AllPairs}
+use Rattle.std.specs.List.{All, AllPairs, list_any}
 use Rattle.std.specs.List.Sorted.{IsStrictlySortedBy}
 use Rattle.grid_range.specs.declared.area.Area.{Area}
 use Rattle.grid_range.specs.declared.band.Band.{Band}
 use Rattle.grid_range.specs.declared.band.Band.TheVariants.{Whole, From, Span}
 use Rattle.grid_range.specs.Band.{first_line}
 use Rattle.grid_range.specs.Area.{Holds, first_cell, by_rows}
+use Rattle.merge_ranges.specs.Tests.{has_line}
 
 -- the band has both a first and a last line
 abbrev pub HasEnds : Band → Type 0
@@ -59,3 +60,12 @@ pub record AreMerges (merges : List Area) : Type 0 where
 abbrev pub Covers : Area → ℕ → ℕ → Type 0
 Covers merge row col =
     Holds merge row col × ¬ ((row ≡ first_line merge.rows) × (col ≡ first_line merge.cols))
+
+-- the same, as a test
+abbrev pub covers : Area → ℕ → ℕ → Bool
+covers merge row col = has_line merge.rows row && has_line merge.cols col
+    && not (row == first_line merge.rows && col == first_line merge.cols)
+
+-- one of the merges covers the cell
+abbrev pub is_covered : List Area → ℕ → ℕ → Bool
+is_covered merges row col = list_any (λ merge. covers merge row col) merges

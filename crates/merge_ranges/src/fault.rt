@@ -1,3 +1,4 @@
+use cell_value::NoMemory;
 use std::error::Error;
 use std::fmt;
 
@@ -43,3 +44,25 @@ impl fmt::Display for MergeFault {
 }
 
 impl Error for MergeFault {}
+
+impl From<Cut> for MergeFault {
+    ghost use Rattle.std.specs.Prelude.{◌≡◌};
+    ghost use Rattle.merge_ranges.specs.declared.fault.MergeFault.TheVariants.{Cut as a_cut};
+
+    ghost from_gives = { λ _ fault. fault ≡ a_cut };
+
+    fn from(_cut: Cut) -> MergeFault {
+        MergeFault::Cut
+    }
+}
+
+impl From<NoMemory> for MergeFault {
+    ghost use Rattle.std.specs.Prelude.{◌≡◌};
+    ghost use Rattle.merge_ranges.specs.declared.fault.MergeFault.TheVariants.{NoMemory as out_of_memory};
+
+    ghost from_gives = { λ _ fault. fault ≡ out_of_memory };
+
+    fn from(_none: NoMemory) -> MergeFault {
+        MergeFault::NoMemory
+    }
+}

@@ -421,9 +421,9 @@ pub(crate) static FOURTH_BATCHES: [Exchange; 9] = [
             "Content-Length: 66\r\n",
             "{\"requests\":[{\"mergeCells\":{\"range\":{},\"mergeType\":\"MERGE_ALL\"}}]}",
         )],
-        BAD_REQUEST,
+        OK,
         "",
-        "{\"error\":{\"code\":400,\"message\":\"requests[0]: Unsupported\",\"status\":\"INVALID_ARGUMENT\"}}",
+        "{\"replies\":[{}],\"spreadsheetId\":\"book1\"}",
     ),
     (
         &[(

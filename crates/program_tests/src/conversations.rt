@@ -8,6 +8,10 @@ use crate::common::{Ran, calls, check, words_of};
 use crate::creations::{APPENDED_ROWS, CREATED};
 use crate::deletions::DELETED_SHEETS;
 use crate::lines::{COLUMNS, INSERTED_AND_DELETED, LINES, MOVED};
+use crate::merges::{
+    COVERED, COVERED_APPENDS, MANY_MERGES, MERGE_TYPES, MERGED, MERGES_FOLLOWED, MERGES_LEFT,
+    UNMERGED,
+};
 use crate::names::{
     BROKEN_RANGES, NAMED, NAMES_FOLLOWED, NAMES_OF_FORMULAS, RANGES_LISTED, TOO_MANY,
 };
@@ -258,6 +262,62 @@ fn follows_moved_rows(rt: HostRuntime) {
 #[test]
 fn follows_columns(rt: HostRuntime) {
     for row in &COLUMNS {
+        check(&rt, &row.3, is_answered(&rt, row));
+    }
+}
+
+#[test]
+fn merges_cells(rt: HostRuntime) {
+    for row in &MERGED {
+        check(&rt, &row.3, is_answered(&rt, row));
+    }
+}
+
+#[test]
+fn merges_by_type(rt: HostRuntime) {
+    for row in &MERGE_TYPES {
+        check(&rt, &row.3, is_answered(&rt, row));
+    }
+}
+
+#[test]
+fn dissolves_merges(rt: HostRuntime) {
+    for row in &UNMERGED {
+        check(&rt, &row.3, is_answered(&rt, row));
+    }
+}
+
+#[test]
+fn passes_over_covered_cells(rt: HostRuntime) {
+    for row in &COVERED {
+        check(&rt, &row.3, is_answered(&rt, row));
+    }
+}
+
+#[test]
+fn appends_over_covered_cells(rt: HostRuntime) {
+    for row in &COVERED_APPENDS {
+        check(&rt, &row.3, is_answered(&rt, row));
+    }
+}
+
+#[test]
+fn follows_merges(rt: HostRuntime) {
+    for row in &MERGES_FOLLOWED {
+        check(&rt, &row.3, is_answered(&rt, row));
+    }
+}
+
+#[test]
+fn leaves_merges(rt: HostRuntime) {
+    for row in &MERGES_LEFT {
+        check(&rt, &row.3, is_answered(&rt, row));
+    }
+}
+
+#[test]
+fn counts_merges(rt: HostRuntime) {
+    for row in &MANY_MERGES {
         check(&rt, &row.3, is_answered(&rt, row));
     }
 }

@@ -21,6 +21,8 @@ mod deletions;
 #[cfg(test)]
 mod lines;
 #[cfg(test)]
+mod merges;
+#[cfg(test)]
 mod names;
 #[cfg(test)]
 mod rows;

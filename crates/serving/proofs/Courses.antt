@@ -171,7 +171,7 @@ last_away [] c none = (c, refl, none)
 last_away (x ∷ xs) c none = last_away xs c none
 
 pub last_back : (xs : List Connection) (c : Connection) (ending : Ending)
-    → came_back (length xs) ending (xs ++ c ∷ []) ≡ xs ++ record { held = c.held; back = Some ending } ∷ []
+    → came_back (length xs) ending (xs ++ c ∷ []) ≡ xs ++ record { came = c.came; back = Some ending } ∷ []
 last_back [] c ending = refl
 last_back (x ∷ xs) c ending = ap (λ (l : List Connection). x ∷ l) (last_back xs c ending)
 

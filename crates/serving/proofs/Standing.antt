@@ -31,7 +31,7 @@ use Rattle.serving.proofs.Courses.{finished, found, one_thread_more, no_thread_m
 
 -- a connection that was just accepted
 abbrev newcomer : LinkSeen → Connection
-newcomer link = record { held = link.left; back = None }
+newcomer link = record { came = link; back = None }
 
 shown_then : (o before shown : Option Shown) (f g h : Shown → Shown) → before ≡ option_map f o
     → shown ≡ option_map g before → ((s : Shown) → g (f s) ≡ h s) → shown ≡ option_map h o
@@ -313,12 +313,12 @@ module _ {E K W : Type 0} (answers : AnswersAt E K W) (begun : Begun E K W) wher
 
   module _ (threads : List (Waiting E K W)) (accepted : ℕ) (shown before : Option Shown) (pass : Pass Noted)
       (link : LinkSeen) (fresh : IsFresh link) (s : AcceptsSo answers begun pass threads accepted served.All before)
-      (shows : shown ≡ option_map (after_accept link.left) before) where
+      (shows : shown ≡ option_map (after_accept link) before) where
     -- it is shown behind the others
     shown_newcomer : shown ≡ option_map (showing (suc (length s.courses))
         (map shown_course s.courses ++ newcomer link ∷ [])) begun.shown
     shown_newcomer = shown_then begun.shown before shown
-        (showing (length s.courses) (map shown_course s.courses)) (after_accept link.left)
+        (showing (length s.courses) (map shown_course s.courses)) (after_accept link)
         (showing (suc (length s.courses)) (map shown_course s.courses ++ newcomer link ∷ []))
         s.shown_is shows (λ x. refl)
 
@@ -622,6 +622,12 @@ module _ {E K W : Type 0} (answers : AnswersAt E K W) where
       where
         one_more_place : at + 1 ≡ suc at
         one_more_place = omega arith
+
+  -- it is so of whoever is the same
+  pub asked_as : (acceptor same : Accepting E K W) (link : LinkSeen) (shown : Option Shown) → same ≡ acceptor
+      → HasAsked answers acceptor link shown → HasAsked answers same link shown
+  asked_as acceptor same link shown is has =
+      subst (λ (a : Accepting E K W). HasAsked answers a link shown) (sym is) has
 
   module _ (acceptor : Accepting E K W) (link : LinkSeen) (shown : Option Shown)
       (has : HasAsked answers acceptor link shown) where

@@ -1,5 +1,5 @@
 -- Many connections that are served at one desk: what each of them was answered, and what is left of them all.
-use Rattle.std.specs.Prelude.{◌≡◌, ◌≢◌, ◌⊎◌, ℕ, zero, suc, ◌+◌, max, ◌==◌, ◌<◌, ◌≤◌, List, [], ◌∷◌, ◌++◌, All, map, length, drop, Option, None, Some, IfSome, if◌then◌else◌}
+use Rattle.std.specs.Prelude.{◌≡◌, ◌≢◌, ◌⊎◌, ℕ, zero, suc, ◌+◌, max, ◌==◌, ◌<◌, ◌≤◌, List, [], ◌∷◌, ◌++◌, All, map, length, drop, Option, None, Some, IfSome, IsTrue, if◌then◌else◌}
 use Rattle.std.specs.List.{Contains, filter, flat_map}
 use Rattle.std.specs.Option.{option_map}
 use Rattle.cell_value.specs.Calls.{one_more}
@@ -15,7 +15,7 @@ use Rattle.desk.specs.declared.entry.Noted.{Noted}
 use Rattle.desk.specs.Points.{Keeps, caller_of, entries_of, last_counted}
 use Rattle.desk.specs.Desks.{IsPass, pair_at, list_at, callers_at}
 use Rattle.conversation.specs.declared.ended.Ended.TheVariants as how
-use Rattle.conversation.specs.Conversation.{at_moment, IsConversation, EndsAs, LosesFirst}
+use Rattle.conversation.specs.Conversation.{at_moment, IsConversation, EndsAs, Counts, LosesFirst}
 use Rattle.connections.specs.Calls.{UserTable}
 use Rattle.connections.specs.Doors.{LinkSeen, IsFresh, Ending, Connection, Shown, after_accept}
 use Rattle.serving.specs.declared.accepting.Served.{Served}
@@ -58,6 +58,12 @@ pub record IsVisit {E K W : Type 0} (answers : AnswersAt E K W) (desk : Desk E K
   pub read : ending.ended ≡ how.ReadFault → Rose arrival.link.read_faults ending.link.read_faults
   pub write : ending.ended ≡ how.WriteFault → Rose arrival.link.write_faults ending.link.write_faults
   pub shortages : arrival.link.shortages ≤ ending.link.shortages
+  pub input : Counts arrival.link.read_faults ending.link.read_faults arrival.link.read_steady ending.link.read_steady
+  pub output : Counts arrival.link.write_faults ending.link.write_faults arrival.link.write_steady
+      ending.link.write_steady
+  pub steady_read : IsTrue arrival.link.read_steady → ending.ended ≢ how.ReadFault
+  pub steady_write : IsTrue arrival.link.write_steady → ending.ended ≢ how.WriteFault
+  pub references : ending.link.references ≡ arrival.link.references
 
 -- the caller isn't the one with that number, and no item since the opening that it had seen before was its own
 pub record IsAnother {E K W : Type 0} (desk : Desk E K W) (number : ℕ) (arrival : Arrival) : Type 0 where
@@ -122,7 +128,7 @@ counted_up (suc more) count = one_more (counted_up more count)
 
 -- a connection that is back, as doors show it
 abbrev pub connection_of : Visit → Connection
-connection_of visit = record { held = visit.arrival.link.left; back = Some visit.ending }
+connection_of visit = record { came = visit.arrival.link; back = Some visit.ending }
 
 -- what doors show that were asked for connections so often, and accepted these
 abbrev pub showing : ℕ → List Connection → Shown → Shown
@@ -232,7 +238,7 @@ start_of (over visit) = visit.arrival
 
 -- as doors show it
 abbrev pub shown_course : Course → Connection
-shown_course (under_way arrival) = record { held = arrival.link.left; back = None }
+shown_course (under_way arrival) = record { came = arrival.link; back = None }
 shown_course (over visit) = connection_of visit
 
 -- those that are over
@@ -332,7 +338,7 @@ pub record HasAsked {E K W : Type 0} (answers : AnswersAt E K W) (acceptor : Acc
   pub stands : Stands answers acceptor before
   pub end_is : acceptor.end ≡ served.All
   pub fresh : IsFresh link
-  pub shown_is : shown ≡ option_map (after_accept link.left) before
+  pub shown_is : shown ≡ option_map (after_accept link) before
 
 -- nothing changed but the pass and the threads
 pub record IsSame {E K W : Type 0} (acceptor acceptor' : Accepting E K W) : Type 0 where

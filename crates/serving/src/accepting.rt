@@ -60,7 +60,7 @@ impl<D: Doors, E: Engine, K: Keeper> Promise<Talked<D::Rest>> for Talking<D, E, 
     ghost kept_by = { λ promise talked. IsTalked (IsAnswer E.plain K.failures K.steady)
         promise.desk.value promise.users.value
         (arrival_of promise.pass.value (link_seen D.Link.left D.Link.written D.Link.faults D.Link.sink_faults
-        D.Link.sink_shortages promise.link.value)) (count_of promise.pass.value)
+        D.Link.sink_shortages D.Link.steady D.Link.sink_steady D.Link.references promise.link.value)) (count_of promise.pass.value)
         (record { ended = talked.ended; link = D.rest_seen talked.rest }) talked.pass };
 }
 
@@ -82,7 +82,7 @@ impl<D: Doors, E: Engine, K: Keeper> Model for Started<D, E, K> {
     ghost view = { λ s. record {
       number = s.number;
       arrival = arrival_of s.thread.promise.pass.value (link_seen D.Link.left D.Link.written D.Link.faults
-          D.Link.sink_faults D.Link.sink_shortages s.thread.promise.link.value);
+          D.Link.sink_faults D.Link.sink_shortages D.Link.steady D.Link.sink_steady D.Link.references s.thread.promise.link.value);
       count = count_of s.thread.promise.pass.value;
       desk = s.thread.promise.desk.value;
       users = s.thread.promise.users.value;
@@ -127,7 +127,7 @@ fn talk<R: Wait, D: Doors, E: Engine, K: Keeper>(
 ) -> Talked<D::Rest>
     requires { IsPass desk.now pass }
     ensures talked { IsTalked (IsAnswer E.plain K.failures K.steady) desk.now users.now
-        (arrival_of pass (link_seen D.Link.left D.Link.written D.Link.faults D.Link.sink_faults D.Link.sink_shortages
+        (arrival_of pass (link_seen D.Link.left D.Link.written D.Link.faults D.Link.sink_faults D.Link.sink_shortages D.Link.steady D.Link.sink_steady D.Link.references
         link)) (count_of pass) (record { ended = result.ended; link = D.rest_seen result.rest }) result.pass }
     ensures drawing { drawing_of result.pass ≡ drawing_of pass }
     ensures met { met_by result.pass ≡ met_by pass }
@@ -173,13 +173,13 @@ where
     ensures started { IfOk result (λ started. started ≡ record {
       number = number;
       arrival = arrival_of pass (link_seen D.Link.left D.Link.written D.Link.faults D.Link.sink_faults
-          D.Link.sink_shortages link);
+          D.Link.sink_shortages D.Link.steady D.Link.sink_steady D.Link.references link);
       count = count_of pass;
       desk = desk.now;
       users = users.now;
     }) }
     ensures talked { IfErr result (λ talked. IsTalked (IsAnswer E.plain K.failures K.steady) desk.now users.now
-        (arrival_of pass (link_seen D.Link.left D.Link.written D.Link.faults D.Link.sink_faults D.Link.sink_shortages
+        (arrival_of pass (link_seen D.Link.left D.Link.written D.Link.faults D.Link.sink_faults D.Link.sink_shortages D.Link.steady D.Link.sink_steady D.Link.references
         link)) (count_of pass) (record { ended = talked.ended; link = D.rest_seen talked.rest }) talked.pass) }
 {
     let (ended, there) = signal;
@@ -195,7 +195,7 @@ where
             requires { IsPass desk.now pass }
             ensures { IsTalked (IsAnswer E.plain K.failures K.steady) desk.entry.now users.entry.now
                 (arrival_of pass (link_seen D.Link.left D.Link.written D.Link.faults D.Link.sink_faults
-                D.Link.sink_shortages link)) (count_of pass)
+                D.Link.sink_shortages D.Link.steady D.Link.sink_steady D.Link.references link)) (count_of pass)
                 (record { ended = result.ended; link = D.rest_seen result.rest }) result.pass }
         {
             let talked = talk::<R, D, E, K>(rt, alloc, desk, users, pass, link);
@@ -367,7 +367,7 @@ impl<'s, D: Doors, E: Engine, K: Keeper> Acceptor<'s, D, E, K> {
     // Serves the connection that was accepted last, with its own pass.
     fn serve_here<R: Wait>(self, rt: &R, doors: &mut D, link: D::Link) -> Acceptor<'s, D, E, K>
         requires asked { HasAsked (IsAnswer E.plain K.failures K.steady) self
-            (link_seen D.Link.left D.Link.written D.Link.faults D.Link.sink_faults D.Link.sink_shortages link)
+            (link_seen D.Link.left D.Link.written D.Link.faults D.Link.sink_faults D.Link.sink_shortages D.Link.steady D.Link.sink_steady D.Link.references link)
             (D.shown doors.old) }
         requires room { self.accepted < 4294967295 }
         ensures stands { Stands (IsAnswer E.plain K.failures K.steady) result (D.shown doors.new) }
@@ -451,7 +451,7 @@ fn admit<
 where
     E::World: Send,
     requires asked { HasAsked (IsAnswer E.plain K.failures K.steady) acceptor
-        (link_seen D.Link.left D.Link.written D.Link.faults D.Link.sink_faults D.Link.sink_shortages link)
+        (link_seen D.Link.left D.Link.written D.Link.faults D.Link.sink_faults D.Link.sink_shortages D.Link.steady D.Link.sink_steady D.Link.references link)
         (D.shown doors.old) }
     requires room { acceptor.accepted < 4294967295 }
     ensures stands { Stands (IsAnswer E.plain K.failures K.steady) result (D.shown doors.new) }

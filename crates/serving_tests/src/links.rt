@@ -32,8 +32,8 @@ pub struct TurnLink {
 }
 
 impl TurnLink {
-    /// A link with these pieces, in order. Each of its writes counts as a response in `own`, and it waits for the count
-    /// of `other`.
+    /// A link with these pieces, in order, that has not failed yet. Each of its writes counts as a response in `own`,
+    /// and it waits for the count of `other`.
     ///
     /// # Errors
     ///
@@ -43,7 +43,9 @@ impl TurnLink {
         pieces: &[Piece],
         own: &Arc<AtomicU64>,
         other: &Arc<AtomicU64>,
-    ) -> Result<TurnLink, AllocError> {
+    ) -> Result<TurnLink, AllocError>
+        ensures { IfOk result (λ link. (link.faults ≡ 0) × (link.shortages ≡ 0)) }
+    {
         let mut pieces = Vec::from_slice(alloc, pieces)?;
         pieces.reverse();
         Ok(TurnLink {
@@ -213,14 +215,37 @@ impl TurnDoors {
         Ok(TurnDoors::new(coming, Vec::new(alloc)))
     }
 
+    /// Doors with so many links of these pieces, which wait for none.
+    ///
+    /// # Errors
+    ///
+    /// [`AllocError`] where memory runs out.
+    pub fn of_many(alloc: Global, count: u32, pieces: &[Piece]) -> Result<TurnDoors, AllocError> {
+        let counts = Arc::new(alloc, AtomicU64::new(0))?;
+        let mut coming = Vec::new(alloc);
+        for _ in 0..count {
+            coming.push(TurnLink::new(alloc, pieces, &counts, &counts)?)?;
+        }
+        Ok(TurnDoors::new(coming, Vec::new(alloc)))
+    }
+
     /// The connections that are back, in the order in which they came back.
     pub fn back(&self) -> &[Visitor] {
         self.back.as_slice()
     }
+
+    /// Whether the connection of that number is back once, ended so, and was answered so.
+    pub fn is_back(&self, number: u32, ended: Ended, said: &[u8]) -> bool {
+        let mut those = self.back.iter().filter(|visitor| visitor.number == number);
+        match (those.next(), those.next()) {
+            (Some(visitor), None) => visitor.ended == ended && visitor.link.written() == said,
+            _ => false,
+        }
+    }
 }
 
 impl Doors for TurnDoors {
-    ghost use Rattle.std.specs.Prelude.{None, false};
+    ghost use Rattle.std.specs.Prelude.{None, false, []};
     ghost use Rattle.std.proofs.Common.{rules};
     ghost use Rattle.connections.specs.Doors.{link_seen};
 
@@ -236,7 +261,8 @@ impl Doors for TurnDoors {
 
     ghost shown = { λ _. None };
 
-    ghost rest_seen = { link_seen (λ _. None) (λ _. None) (λ link. link.faults) (λ _. 0) (λ link. link.shortages) };
+    ghost rest_seen = { link_seen (λ _. None) (λ _. None) (λ link. link.faults) (λ _. 0) (λ link. link.shortages) (λ _. false)
+        (λ _. false) (λ _. []) };
 
     fn open(&mut self, _port: u16) -> Result<(), Failed> {
         Ok(())

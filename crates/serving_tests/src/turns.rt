@@ -1,12 +1,9 @@
-use crate::{Piece, TurnDoors, TurnLink, Visitor};
+use crate::{Piece, TurnDoors};
 use conversation::Ended;
 use desk::{Desk, SteadyKeeper};
 use desk_tests::Appends;
 use serving::{Served, serve_all};
 use sheets_http::Users;
-use std::alloc::{AllocError, Global};
-use std::sync::Arc;
-use std::sync::atomic::AtomicU64;
 use std::test::Fail;
 
 /// The first gives its head, and waits for the second one's first response; then its body, and waits for the second
@@ -58,25 +55,6 @@ static ASKS: [Piece; 1] = [Piece {
 static ASKED: &[u8] =
     b"HTTP/1.1 200 OK\r\nContent-Type: application/json; charset=UTF-8\r\nContent-Length: 0\r\n\r\n";
 
-/// Doors with so many links of one request each.
-fn many_doors(alloc: Global, count: u32) -> Result<TurnDoors, AllocError> {
-    let counts = Arc::new(alloc, AtomicU64::new(0))?;
-    let mut coming = Vec::new(alloc);
-    for _ in 0..count {
-        coming.push(TurnLink::new(alloc, &ASKS, &counts, &counts)?)?;
-    }
-    Ok(TurnDoors::new(coming, Vec::new(alloc)))
-}
-
-/// Whether the connection of that number is back once, read to its end, and was answered so.
-fn is_back(back: &[Visitor], number: u32, said: &[u8]) -> bool {
-    let mut those = back.iter().filter(|visitor| visitor.number == number);
-    match (those.next(), those.next()) {
-        (Some(visitor), None) => visitor.ended == Ended::End && visitor.link.written() == said,
-        _ => false,
-    }
-}
-
 #[test]
 fn two_connections_are_served_beside_one_another(rt: HostRuntime) -> Result<(), Fail> {
     let alloc = rt.alloc();
@@ -89,15 +67,15 @@ fn two_connections_are_served_beside_one_another(rt: HostRuntime) -> Result<(), 
     let (served, history, _) = serve_all(&rt, alloc, &mut doors, desk, pass, &users, 2);
     assert!(rt; served == Served::All);
     assert!(rt; history.summary().accepted == 3);
-    assert!(rt; is_back(doors.back(), 0, FIRST_SAID));
-    assert!(rt; is_back(doors.back(), 1, SECOND_SAID));
+    assert!(rt; doors.is_back(0, Ended::End, FIRST_SAID));
+    assert!(rt; doors.is_back(1, Ended::End, SECOND_SAID));
     Ok(())
 }
 
 #[test]
 fn a_connection_without_a_pass_is_served_in_turn(rt: HostRuntime) -> Result<(), Fail> {
     let alloc = rt.alloc();
-    let mut doors = many_doors(alloc, 3)?;
+    let mut doors = TurnDoors::of_many(alloc, 3, &ASKS)?;
     let users = Users::anyone();
     let keeper = SteadyKeeper::new(Vec::new(alloc));
     let Ok((desk, pass)) = Desk::<Appends, SteadyKeeper>::open(alloc, keeper, 1000, 2) else {
@@ -108,7 +86,7 @@ fn a_connection_without_a_pass_is_served_in_turn(rt: HostRuntime) -> Result<(), 
     assert!(rt; history.summary().accepted == 0);
     assert!(rt; doors.back().len() == 3);
     for number in 0..3 {
-        assert!(rt; is_back(doors.back(), number, ASKED));
+        assert!(rt; doors.is_back(number, Ended::End, ASKED));
     }
     Ok(())
 }
@@ -116,7 +94,7 @@ fn a_connection_without_a_pass_is_served_in_turn(rt: HostRuntime) -> Result<(), 
 #[test]
 fn the_doors_fail_behind_the_last_connection(rt: HostRuntime) -> Result<(), Fail> {
     let alloc = rt.alloc();
-    let mut doors = many_doors(alloc, 40)?;
+    let mut doors = TurnDoors::of_many(alloc, 40, &ASKS)?;
     let users = Users::anyone();
     let keeper = SteadyKeeper::new(Vec::new(alloc));
     let Ok((desk, pass)) = Desk::<Appends, SteadyKeeper>::open(alloc, keeper, 1000, 50) else {
@@ -127,7 +105,7 @@ fn the_doors_fail_behind_the_last_connection(rt: HostRuntime) -> Result<(), Fail
     assert!(rt; history.summary().accepted == 0);
     assert!(rt; doors.back().len() == 40);
     for number in 0..40 {
-        assert!(rt; is_back(doors.back(), number, ASKED));
+        assert!(rt; doors.is_back(number, Ended::End, ASKED));
     }
     Ok(())
 }

@@ -1,6 +1,6 @@
 -- The command `serve`: connections that are served at a desk of their own, and the lines that tell what their history
 -- comes to.
-use Rattle.std.specs.Prelude.{◌≡◌, ◌≢◌, ◌⊎◌, ℕ, true, List, [], ◌++◌, All, map, length, codes, Option, Some, Result, Ok, Err}
+use Rattle.std.specs.Prelude.{◌≡◌, ◌≢◌, ℕ, true, List, [], ◌++◌, All, map, length, codes, Option, Some, Result, Ok, Err}
 use Rattle.std.specs.Option.{option_map}
 use Rattle.std.specs.List.{Contains}
 use Rattle.sheets_http.specs.declared.outside.SinkFault.{SinkFault}
@@ -117,13 +117,12 @@ abbrev pub opened_on : ℕ → Moment (Option Shown) → Moment (Option Shown)
 opened_on port before = at_moment (option_map (after_open port) before.state) before.written before.shortages
 
 -- The command `serve` with this port and this number of connections: there was no memory for a desk, and nothing was
--- done; or the doors failed as they were to be opened; or they were opened once, on the port, and connections were
--- served.
+-- done; or the doors were opened once, on the port, which failed, and nothing else was done; or they were opened so, and
+-- connections were served.
 pub data Serves (E W : Type 0) (plain : List Entry → Ask → Outcome → Type 0) (cells : List Entry → ℕ → Type 0)
     (port limit : ℕ) (before after : Moment (Option Shown)) (end : Ended) : Type 0 where
   no_desk : end ≡ NoMemory → IsIdle before after → Serves E W plain cells port limit before after end
-  no_doors : end ≡ ReadFault → after.written ≡ before.written
-      → (after.state ≡ (opened_on port before).state) ⊎ (after.state ≡ before.state)
+  no_doors : end ≡ ReadFault → IsIdle (opened_on port before) after
       → Serves E W plain cells port limit before after end
   served_all : ServesAll E W plain cells limit (opened_on port before) after end
       → Serves E W plain cells port limit before after end

@@ -1,5 +1,5 @@
 -- Doors over TCP, of which contracts see how often they have failed, and how often each connection has.
-use Rattle.std.specs.Prelude.{ℕ, None}
+use Rattle.std.specs.Prelude.{ℕ, false, [], None}
 use Rattle.connections.specs.Doors.{LinkSeen}
 use Rattle.sheets_cli.specs.declared.tcp.TcpDoors.{TcpDoors}
 use Rattle.sheets_cli.specs.declared.tcp.TcpLink.{TcpLink}
@@ -25,4 +25,7 @@ told_by_faults faults = record {
   read_faults = faults.reads;
   write_faults = faults.writes;
   shortages = 0;
+  read_steady = false;
+  write_steady = false;
+  references = [];
 }

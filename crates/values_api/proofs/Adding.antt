@@ -1,14 +1,17 @@
 -- Lines that are added to a sheet, on one axis after the other.
 use Rattle.std.proofs.Common.{◌≡◌, ℕ, ◌+◌, ◌<◌, ◌≤◌, List, [], ◌∷◌, refl, sym, subst, ap, ◌∙◌, cond, Bool, true, false, arith}
 use Rattle.std.specs.Prelude.{Option, Some, None, Result, Ok, Err, IsSomeAnd, ◌==◌}
-use Rattle.std.specs.List.{AllZip}
+use Rattle.std.specs.List.{AllZip, list_any}
 use Rattle.std.specs.Option.{option_map_or}
 use Rattle.std.proofs.lemmas.Bool.{false≢true, eqb-true, eq-eqb, ne_eqb}
+use Rattle.std.proofs.lemmas.List.Folds.{list_any_none}
 use Rattle.grid_range.specs.Change.{count_after}
+use Rattle.grid_range.specs.declared.area.Area.{Area}
 use Rattle.grid_range.specs.declared.axis.Axis.{Axis}
 use Rattle.grid_range.specs.declared.axis.Axis.TheVariants.{Rows, Columns}
 use Rattle.grid_range.specs.declared.change.Change.TheVariants.{Insert}
 use Rattle.cell_store.specs.Moved.{size_after}
+use Rattle.merge_ranges.specs.Tests.{tears_merge}
 use Rattle.world_model.specs.Book.{PlaceBook}
 use Rattle.world_model.specs.BookChange.{AreChanges, BookChange}
 use Rattle.world_model.specs.ChangingLaws.{ChangesInTurn}
@@ -34,11 +37,18 @@ use Rattle.values_api.proofs.Sizes.{AreWithin, cols_both, found_id, none_passed,
 err_ok : (rule : Rule) → ◌≡◌ {A = Result (Unit {0}) Rule} (Err rule) (Ok tt) → ⊥
 err_ok rule e = cc
 
-none_broken : (last : Bool) (limit : Option Limit) → last ≡ false → limit ≡ None
-    → judged_by {A = Unit {0}} (record unbroken { last_line = last; past_limit = limit }) tt ≡ Ok tt
-none_broken last limit stays none =
-    ap (λ b. judged_by {A = Unit {0}} (record unbroken { last_line = b; past_limit = limit }) tt) stays
-    ∙ ap (λ l. judged_by {A = Unit {0}} (record unbroken { past_limit = l }) tt) none
+none_broken : (last : Bool) (limit : Option Limit) (cut : Bool) → last ≡ false → limit ≡ None → cut ≡ false
+    → judged_by {A = Unit {0}} (record unbroken { last_line = last; past_limit = limit; merge_cut = cut }) tt ≡ Ok tt
+none_broken last limit cut stays none whole =
+    ap (λ b. judged_by {A = Unit {0}} (record unbroken { last_line = b; past_limit = limit; merge_cut = cut }) tt) stays
+    ∙ ap (λ l. judged_by {A = Unit {0}} (record unbroken { past_limit = l; merge_cut = cut }) tt) none
+    ∙ ap (λ b. judged_by {A = Unit {0}} (record unbroken { merge_cut = b }) tt) whole
+
+-- lines that are inserted tear no merge
+none_torn : (axis : Axis) (lines at count : ℕ) (merges : List Area)
+    → list_any (tears_merge axis lines (Insert at count)) merges ≡ false
+none_torn axis lines at count merges =
+    list_any_none (tears_merge axis lines (Insert at count)) merges (λ k d there. refl)
 
 some_left : (axis : Axis) (at count lines : ℕ) → 0 < count → (count_after (Insert at count) lines == 0) ≡ false
 some_left axis at count lines some = ne_eqb (lines + count) 0 (λ e. omega arith)
@@ -58,15 +68,18 @@ module _ (id : ℕ) (axis : Axis) (at count : ℕ) where
         last_line = count_after (Insert at count) (lines_of_sheet axis sheet) == 0;
         past_limit = first_passed (passes_size (size_after axis (Insert at count) sheet.table.rows sheet.table.cols)
             (places_changed id axis (Insert at count) sheets));
+        merge_cut = list_any (tears_merge axis (lines_of_sheet axis sheet) (Insert at count)) sheet.merges;
       }) found unbroken) tt) room.there
       ∙ none_broken (count_after (Insert at count) (lines_of_sheet axis room.own) == 0)
       (first_passed (passes_size (size_after axis (Insert at count) room.own.table.rows room.own.table.cols)
       (places_changed id axis (Insert at count) sheets)))
+      (list_any (tears_merge axis (lines_of_sheet axis room.own) (Insert at count)) room.own.merges)
       (some_left axis at count (lines_of_sheet axis room.own) some)
       (none_passed (size_after axis (Insert at count) room.own.table.rows room.own.table.cols)
       (places_changed id axis (Insert at count) sheets)
       (size_within axis at count room.own (places_changed id axis (Insert at count) sheets) room.lines room.rows
       room.cols room.places))
+      (none_torn axis (lines_of_sheet axis room.own) at count room.own.merges)
 
   -- so only memory can be missing
   pub only_no_memory : (before after : PlaceBook) (fault : RuleOr)

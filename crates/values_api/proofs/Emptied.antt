@@ -18,16 +18,18 @@ use Rattle.world_model.specs.Sound.{IsSound, place_sheet_with}
 use Rattle.dimension_ops.specs.Found.{ArePlacesOf}
 use Rattle.values_api.specs.Ranges.{IsThere}
 use Rattle.values_api.proofs.Finding.{some_and, sound_sheet}
-use Rattle.values_api.proofs.Listed.{both_true, is_listed, listed_of, listed_there, there_listed}
+use Rattle.values_api.specs.Given.{is_listed}
+use Rattle.values_api.proofs.Listed.{both_true, listed_of, listed_there, there_listed}
 use Rattle.world_model.specs.Updating.{Updates}
-use Rattle.values_api.specs.Updates.{has_line, cleared}
+use Rattle.merge_ranges.specs.Tests.{has_line}
+use Rattle.values_api.specs.Updates.{cleared}
 
 abbrev pub emptied : List (ℕ × ℕ) → Updates
 emptied places = listed_of (λ row col. Some None) places
 
 -- ---- a cleared area
 
-line_is : (band : Band) (line : ℕ) → HasLine band line → has_line band line ≡ true
+pub line_is : (band : Band) (line : ℕ) → HasLine band line → has_line band line ≡ true
 line_is Whole line has = refl
 line_is (From start) line has = le-leb start line has
 line_is (Span start end) line has =

@@ -1,15 +1,20 @@
 -- The cells that values are given for, and the places of those values.
 use Rattle.std.proofs.Common.{◌≡◌, ℕ, ◌+◌, ◌-◌, ◌<◌, ◌≤◌, List, [], ◌∷◌, ◌++◌, length, get_or, min, cond, Bool, true, false, refl, sym, subst, ap, ◌∙◌, arith, inl, inr}
-use Rattle.std.specs.Prelude.{Option, None, Contains, ◌↔◌, ◌⊎◌, ◌&&◌, nat_le, nat_lt}
-use Rattle.std.specs.Option.{IsSome}
+use Rattle.std.specs.Prelude.{Option, None, Some, Contains, ◌≢◌, ◌⊎◌, ◌&&◌, not, nat_le, nat_lt}
+use Rattle.std.specs.List.{AllPairs}
+use Rattle.std.specs.Option.{IsSome, is_some}
 use Rattle.std.proofs.lemmas.Bool.{and_parts, cases_order, false≢true, leb-true, ltb-true, le-leb, lt-ltb}
-use Rattle.std.proofs.lemmas.List.Elements.{Contains-append_left, Contains-push, Contains-push_cases}
+use Rattle.std.proofs.lemmas.List.Elements.{Contains-append_left, Contains-get_or, Contains-push, Contains-push_cases}
+use Rattle.std.proofs.lemmas.List.Quantifiers.{all_pairs_push}
 use Rattle.std.proofs.lemmas.List.{get_or_past}
 use Rattle.cell_value.specs.declared.entered.Input.{Input}
 use Rattle.cell_value.specs.declared.entered.Input.TheVariants.{Skip}
+use Rattle.grid_range.specs.declared.area.Area.{Area}
 use Rattle.values_api.specs.declared.given.Given.{Given}
-use Rattle.values_api.specs.Blocks.{given_value, input_at, is_given, lies_in}
-use Rattle.values_api.specs.Given.{first_row, first_col, value_by, turned, room, cell_for, line_given, IsBefore}
+use Rattle.merge_ranges.specs.Merges.{is_covered}
+use Rattle.values_api.specs.Blocks.{AreCells, given_value, input_at, lies_in}
+use Rattle.values_api.specs.Given.{first_row, first_col, value_by, value_uncovered, turned, room, cell_for, line_given}
+use Rattle.values_api.specs.Given.{AreGivenBefore, IsBefore, is_written}
 use Rattle.values_api.specs.Shown.{cell_along}
 use Rattle.values_api.proofs.Listed.{both_true}
 
@@ -44,9 +49,20 @@ along_above false line place rows cols few short = (few, short)
 
 -- ---- what is made of a cell
 
-some_where : {A : Type 0} (b : Bool) (x : Option A) → IsSome (cond b x None) → (b ≡ true) × IsSome x
+pub some_where : {A : Type 0} (b : Bool) (x : Option A) → IsSome (cond b x None) → (b ≡ true) × IsSome x
 some_where true x some = (refl, some)
 some_where false x some = absurd (false≢true some)
+
+-- what merges cover is made nothing
+some_uncovered : {A : Type 0} (covered : Bool) (x : Option A) → IsSome (cond covered None x) → IsSome x
+some_uncovered true x some = absurd (false≢true some)
+some_uncovered false x some = some
+
+is_uncovered : {A : Type 0} (covered : Bool) (x : Option A) → is_some (cond covered None x) ≡ (is_some x && not covered)
+is_uncovered true None = refl
+is_uncovered true (Some x) = refl
+is_uncovered false None = refl
+is_uncovered false (Some x) = refl
 
 not_left_out : (value : Input) → value ≡ Skip → IsSome (given_value value) → ⊥
 not_left_out value is some = false≢true (subst (λ one. IsSome (given_value one)) is some)
@@ -188,118 +204,159 @@ module _ (given : Given) where
 
   -- ---- the cells of the values before a place
 
-  abbrev IsOf : ℕ → ℕ → ℕ → ℕ → Type 0
-  IsOf line place row col = IsSome (value_by given row col) × IsBefore line place (at row col)
+  module _ (merges : List Area) where
+    abbrev IsOf : ℕ → ℕ → ℕ → ℕ → Type 0
+    IsOf line place row col = IsSome (value_uncovered merges given row col) × IsBefore line place (at row col)
 
-  later : (line place : ℕ) (other : ℕ × ℕ) → IsBefore line place other → IsBefore line (place + 1) other
-  later line place other (inl above) = inl above
-  later line place other (inr (same, before)) = inr (same, omega (arith, before))
+    abbrev AreOf : ℕ → ℕ → List (ℕ × ℕ) → Type 0
+    AreOf line place cells = AreGivenBefore merges given line place cells
 
-  pair_is : (p : ℕ × ℕ) (line place : ℕ) → p.0 ≡ line → p.1 ≡ place → p ≡ (line, place)
-  pair_is p line place is is' = ap (λ n. (n, p.1)) is ∙ ap (λ n. (line, n)) is'
+    has_value : (row col : ℕ) → IsSome (value_uncovered merges given row col) → IsSome (value_by given row col)
+    has_value row col = some_uncovered (is_covered merges row col) (value_by given row col)
 
-  module _ (line place : ℕ) (few : line < (room given).0) (short : place < (room given).1) where
-    -- a cell of the values before the next place is one before this, or is the one of the value here
-    earlier : (row col : ℕ) → IsOf line (place + 1) row col → IsOf line place row col ⊎ (cell_for given line place ≡ (row, col))
-    earlier row col (some, inl above) = inl (some, inl above)
-    earlier row col (some, inr (same, before)) = elim (cases_order (at row col).1 place) [
-      | inl here ↦ inr (is_cell row col line place (made_inside row col some)
-          (pair_is (at row col) line place same here))
-      | inr apart ↦ elim apart [
-        | inl below ↦ inl (some, inr (same, below))
-        | inr behind ↦ absurd (omega (arith, before, behind))
-      ]
-    ]
+    later : (line place : ℕ) (other : ℕ × ℕ) → IsBefore line place other → IsBefore line (place + 1) other
+    later line place other (inl above) = inl above
+    later line place other (inr (same, before)) = inr (same, omega (arith, before))
 
-    -- a value that is given adds its cell
-    pub added : (cells cells' : List (ℕ × ℕ)) → IsSome (given_value (value_at (line, place)))
-        → cells' ≡ cells ++ cell_for given line place ∷ []
-        → ((row col : ℕ) → Contains cells (row, col) ↔ IsOf line place row col)
-        → (row col : ℕ) → Contains cells' (row, col) ↔ IsOf line (place + 1) row col
-    added cells cells' is_given pushed so_far row col = (
-      (λ has. elim (Contains-push_cases cells (cell_for given line place) (row, col)
-          (subst (λ list. Contains list (row, col)) pushed has)) [
-            | inl old ↦ let of = (so_far row col).0 old in (of.0, later line place (at row col) of.1)
-            | inr here ↦ subst (λ (p : ℕ × ℕ). IsOf line (place + 1) p.0 p.1) here its_own
-          ]),
-      (λ of. subst (λ list. Contains list (row, col)) (sym pushed) (elim (earlier row col of) [
-        | inl before ↦ Contains-append_left cells (cell_for given line place ∷ []) (row, col) ((so_far row col).1 before)
-        | inr here ↦ subst (Contains (cells ++ cell_for given line place ∷ [])) here
-            (Contains-push cells (cell_for given line place))
-      ])),
-    )
-      where
-        its_own : IsOf line (place + 1) (cell_for given line place).0 (cell_for given line place).1
-        its_own = (
-          subst IsSome (sym (made_of line place few short)) is_given,
-          subst (IsBefore line (place + 1)) (sym (cell_at line place)) (inr (refl, omega arith)),
-        )
+    pair_is : (p : ℕ × ℕ) (line place : ℕ) → p.0 ≡ line → p.1 ≡ place → p ≡ (line, place)
+    pair_is p line place is is' = ap (λ n. (n, p.1)) is ∙ ap (λ n. (line, n)) is'
 
-    -- one that is left out adds none
-    pub left_out : (cells : List (ℕ × ℕ)) → is_given (value_at (line, place)) ≡ false
-        → ((row col : ℕ) → Contains cells (row, col) ↔ IsOf line place row col)
-        → (row col : ℕ) → Contains cells (row, col) ↔ IsOf line (place + 1) row col
-    left_out cells not_given so_far row col = (
-      (λ has. let of = (so_far row col).0 has in (of.0, later line place (at row col) of.1)),
-      (λ of. elim (earlier row col of) [
-        | inl before ↦ (so_far row col).1 before
-        | inr here ↦ absurd (false≢true (sym not_given ∙ subst IsSome (made_of line place few short)
-            (subst (λ (p : ℕ × ℕ). IsSome (value_by given p.0 p.1)) (sym here) of.0)))
-      ]),
-    )
+    module _ (line place : ℕ) (few : line < (room given).0) (short : place < (room given).1) where
+      abbrev here : ℕ × ℕ
+      here = cell_for given line place
 
-  -- behind the last place of a line the next line begins
-  pub line_ended : (line place : ℕ) (cells : List (ℕ × ℕ)) → place ≡ min (length (line_given given line)) (room given).1
-      → ((row col : ℕ) → Contains cells (row, col) ↔ IsOf line place row col)
-      → (row col : ℕ) → Contains cells (row, col) ↔ IsOf (line + 1) 0 row col
-  line_ended line place cells ended so_far row col = (
-    (λ has. let of = (so_far row col).0 has in (of.0, onwards (at row col) of.1)),
-    (λ of. (so_far row col).1 (of.0, back (at row col) refl (made_from row col of.0) of.1)),
-  )
-    where
-      onwards : (other : ℕ × ℕ) → IsBefore line place other → IsBefore (line + 1) 0 other
-      onwards other (inl above) = inl (omega (arith, above))
-      onwards other (inr (same, before)) = inl (omega (arith, same))
+      -- a value is written to its cell, unless it is left out or the cell is covered
+      pub written_here : (value : Input) (covered : Bool) → value ≡ value_at (line, place)
+          → covered ≡ is_covered merges here.0 here.1
+          → is_some (value_uncovered merges given here.0 here.1) ≡ is_written value covered
+      written_here value covered value_is covered_is =
+          is_uncovered (is_covered merges here.0 here.1) (value_by given here.0 here.1)
+          ∙ ap (λ found. is_some found && not (is_covered merges here.0 here.1))
+          (made_of line place few short ∙ ap given_value (sym value_is))
+          ∙ ap (λ b. is_written value b) (sym covered_is)
 
-      back : (other : ℕ × ℕ) → at row col ≡ other
-          → ((at row col).0 < length given.block.now.values) × ((at row col).1 < length (line_given given (at row col).0))
-          × ((at row col).0 < (room given).0) × ((at row col).1 < (room given).1)
-          → IsBefore (line + 1) 0 other → IsBefore line place other
-      back other is from (inr (same, before)) = absurd (omega (arith, before))
-      back other is from (inl above) = elim (cases_order other.0 line) [
-        | inl here ↦
-            let at_line : (at row col).0 ≡ line = ap (λ (p : ℕ × ℕ). p.0) is ∙ here in
-            let at_place : (at row col).1 ≡ other.1 = ap (λ (p : ℕ × ℕ). p.1) is in
-            let short : (at row col).1 < length (line_given given line) =
-            subst (λ n. (at row col).1 < length (line_given given n)) at_line from.1 in
-            let within : (at row col).1 < (room given).1 = from.3 in
-            inr (here, omega (arith, short, within, at_place, ended))
+      -- a cell of the values before the next place is one before this, or is the one of the value here
+      earlier : (row col : ℕ) → IsOf line (place + 1) row col → IsOf line place row col ⊎ (here ≡ (row, col))
+      earlier row col (some, inl above) = inl (some, inl above)
+      earlier row col (some, inr (same, before)) = elim (cases_order (at row col).1 place) [
+        | inl at_place ↦ inr (is_cell row col line place (made_inside row col (has_value row col some))
+            (pair_is (at row col) line place same at_place))
         | inr apart ↦ elim apart [
-          | inl below ↦ inl below
-          | inr behind ↦ absurd (omega (arith, above, behind))
+          | inl below ↦ inl (some, inr (same, below))
+          | inr behind ↦ absurd (omega (arith, before, behind))
         ]
       ]
 
-  -- behind the last line these are all
-  pub all_ended : (line : ℕ) (cells : List (ℕ × ℕ)) → line ≡ min (length given.block.now.values) (room given).0
-      → ((row col : ℕ) → Contains cells (row, col) ↔ IsOf line 0 row col)
-      → (row col : ℕ) → Contains cells (row, col) ↔ IsSome (value_by given row col)
-  all_ended line cells ended so_far row col = (
-    (λ has. ((so_far row col).0 has).0),
-    (λ some.
-        let from = made_from row col some in
-        let there : (at row col).0 < length given.block.now.values = from.0 in
-        let within : (at row col).0 < (room given).0 = from.2 in
-        (so_far row col).1 (some, inl (omega (arith, there, within, ended)))),
-  )
+      not_before : (other : ℕ × ℕ) → other ≡ (line, place) → IsBefore line place other → ⊥
+      not_before other is (inl above) = let same = ap (λ (p : ℕ × ℕ). p.0) is in omega (arith, above, same)
+      not_before other is (inr (same, before)) =
+          let same_place = ap (λ (p : ℕ × ℕ). p.1) is in omega (arith, before, same_place)
 
-  -- before the first place there are none
-  pub none_before : (row col : ℕ) → Contains {X = ℕ × ℕ} [] (row, col) ↔ IsOf 0 0 row col
-  none_before row col = (
-    (λ has. absurd (omega (arith, has.1))),
-    (λ of. absurd (none (at row col) of.1)),
-  )
-    where
-      none : (other : ℕ × ℕ) → IsBefore 0 0 other → ⊥
-      none other (inl above) = omega (arith, above)
-      none other (inr (same, before)) = omega (arith, before)
+      -- the cells before aren't the one here
+      new_here : (cells : List (ℕ × ℕ)) → AreOf line place cells → (k : ℕ) (d : ℕ × ℕ) → k < length cells
+          → get_or cells k d ≢ here
+      new_here cells so_far k d there is =
+          let cell = get_or cells k d in
+          let of = (so_far.exactly cell.0 cell.1).0 (Contains-get_or cells k d there) in
+          not_before (at cell.0 cell.1) (ap (λ (p : ℕ × ℕ). at p.0 p.1) is ∙ cell_at line place) of.1
+
+      -- a value that is written adds its cell
+      pub added : (cells cells' : List (ℕ × ℕ)) → is_some (value_uncovered merges given here.0 here.1) ≡ true
+          → cells' ≡ cells ++ here ∷ [] → AreOf line place cells → AreOf line (place + 1) cells'
+      added cells cells' is_given pushed so_far = record {
+        exactly = λ row col. (
+          (λ has. elim (Contains-push_cases cells here (row, col)
+              (subst (λ list. Contains list (row, col)) pushed has)) [
+                | inl old ↦ let of = (so_far.exactly row col).0 old in (of.0, later line place (at row col) of.1)
+                | inr it ↦ subst (λ (p : ℕ × ℕ). IsOf line (place + 1) p.0 p.1) it its_own
+              ]),
+          (λ of. subst (λ list. Contains list (row, col)) (sym pushed) (elim (earlier row col of) [
+            | inl before ↦ Contains-append_left cells (here ∷ []) (row, col) ((so_far.exactly row col).1 before)
+            | inr it ↦ subst (Contains (cells ++ here ∷ [])) it (Contains-push cells here)
+          ])),
+        );
+        once = subst (AllPairs (λ one other. one ≢ other)) (sym pushed)
+            (all_pairs_push (λ one other. one ≢ other) cells here so_far.once (new_here cells so_far));
+      }
+        where
+          its_own : IsOf line (place + 1) here.0 here.1
+          its_own = (is_given, subst (IsBefore line (place + 1)) (sym (cell_at line place)) (inr (refl, omega arith)))
+
+      -- one that isn't adds none
+      pub left_out : (cells : List (ℕ × ℕ)) → is_some (value_uncovered merges given here.0 here.1) ≡ false
+          → AreOf line place cells → AreOf line (place + 1) cells
+      left_out cells not_given so_far = record {
+        exactly = λ row col. (
+          (λ has. let of = (so_far.exactly row col).0 has in (of.0, later line place (at row col) of.1)),
+          (λ of. elim (earlier row col of) [
+            | inl before ↦ (so_far.exactly row col).1 before
+            | inr it ↦ absurd (false≢true (sym not_given
+                ∙ subst (λ (p : ℕ × ℕ). IsSome (value_uncovered merges given p.0 p.1)) (sym it) of.0))
+          ]),
+        );
+        once = so_far.once;
+      }
+
+    -- behind the last place of a line the next line begins
+    pub line_ended : (line place : ℕ) (cells : List (ℕ × ℕ))
+        → ((other : ℕ) → other < length (line_given given line) → other < (room given).1 → other < place)
+        → AreOf line place cells → AreOf (line + 1) 0 cells
+    line_ended line place cells ended so_far = record {
+      exactly = λ row col. (
+        (λ has. let of = (so_far.exactly row col).0 has in (of.0, onwards (at row col) of.1)),
+        (λ of.
+            (so_far.exactly row col).1
+            (of.0, back row col (at row col) refl (made_from row col (has_value row col of.0)) of.1)),
+      );
+      once = so_far.once;
+    }
+      where
+        onwards : (other : ℕ × ℕ) → IsBefore line place other → IsBefore (line + 1) 0 other
+        onwards other (inl above) = inl (omega (arith, above))
+        onwards other (inr (same, before)) = inl (omega (arith, same))
+
+        back : (row col : ℕ) (other : ℕ × ℕ) → at row col ≡ other
+            → ((at row col).0 < length given.block.now.values)
+            × ((at row col).1 < length (line_given given (at row col).0))
+            × ((at row col).0 < (room given).0) × ((at row col).1 < (room given).1)
+            → IsBefore (line + 1) 0 other → IsBefore line place other
+        back row col other is from (inr (same, before)) = absurd (omega (arith, before))
+        back row col other is from (inl above) = elim (cases_order other.0 line) [
+          | inl same ↦
+              let at_line : (at row col).0 ≡ line = ap (λ (p : ℕ × ℕ). p.0) is ∙ same in
+              let at_place : (at row col).1 ≡ other.1 = ap (λ (p : ℕ × ℕ). p.1) is in
+              let short : (at row col).1 < length (line_given given line) =
+              subst (λ n. (at row col).1 < length (line_given given n)) at_line from.1 in
+              let before : (at row col).1 < place = ended (at row col).1 short from.3 in
+              inr (same, omega (arith, before, at_place))
+          | inr apart ↦ elim apart [
+            | inl below ↦ inl below
+            | inr behind ↦ absurd (omega (arith, above, behind))
+          ]
+        ]
+
+    -- behind the last line these are all
+    pub all_ended : (line : ℕ) (cells : List (ℕ × ℕ)) → line ≡ min (length given.block.now.values) (room given).0
+        → AreOf line 0 cells → AreCells (value_uncovered merges given) cells
+    all_ended line cells ended so_far = record {
+      exactly = λ row col. (
+        (λ has. ((so_far.exactly row col).0 has).0),
+        (λ some.
+            let from = made_from row col (has_value row col some) in
+            let there : (at row col).0 < length given.block.now.values = from.0 in
+            let within : (at row col).0 < (room given).0 = from.2 in
+            (so_far.exactly row col).1 (some, inl (omega (arith, there, within, ended)))),
+      );
+      once = so_far.once;
+    }
+
+    -- before the first place there are none
+    pub none_before : AreOf 0 0 []
+    none_before = record {
+      exactly = λ row col. ((λ has. absurd (omega (arith, has.1))), (λ of. absurd (none (at row col) of.1)));
+      once = λ i j d less there. absurd (omega (arith, there));
+    }
+      where
+        none : (other : ℕ × ℕ) → IsBefore 0 0 other → ⊥
+        none other (inl above) = omega (arith, above)
+        none other (inr (same, before)) = omega (arith, before)

@@ -10,7 +10,7 @@ pub mod CellsShown
 pub mod Readable
 pub mod LinesRead
 pub mod GivenCells
-pub mod GivenCount
+pub mod Covering
 pub mod SameSheets
 pub mod KnownSheets
 pub mod FirstPassed
@@ -21,6 +21,7 @@ pub mod WriteEnds
 pub mod AreaText
 pub mod Told
 pub mod SameLines
+pub mod SameCells
 pub mod Kept
 pub mod WriteOnce
 pub mod AppendOnce

@@ -1,7 +1,6 @@
 -- Cells of a list that are given something one after another.
 use Rattle.std.proofs.Common.{◌≡◌, ℕ, ◌+◌, ◌<◌, List, length, take, get_or, refl, sym, subst, ap, ◌∙◌, cond, Bool, true, false}
-use Rattle.std.specs.Prelude.{Option, Some, None, IsSomeAnd, ◌==◌, ◌&&◌, ◌||◌, Contains}
-use Rattle.std.specs.List.{list_any}
+use Rattle.std.specs.Prelude.{Option, Some, None, IsSomeAnd, ◌==◌, ◌&&◌, ◌||◌, ◌↔◌, Contains}
 use Rattle.std.specs.Option.{IsSome, option_map}
 use Rattle.std.proofs.Math.Path.{fun_ext}
 use Rattle.std.proofs.lemmas.Bool.{and_parts, eqb-true, eq-eqb, false≢true}
@@ -9,6 +8,7 @@ use Rattle.std.proofs.lemmas.List.Folds.{list_any_more, list_any_at, Any-from_li
 use Rattle.cell_store.specs.Table.{HasPlace}
 use Rattle.world_model.specs.Laws.{size_of}
 use Rattle.world_model.specs.Sheet.{PlaceSheet}
+use Rattle.values_api.specs.Given.{is_listed}
 
 pub both_true : (one other : Bool) → one ≡ true → other ≡ true → (one && other) ≡ true
 both_true true true is is' = refl
@@ -16,9 +16,6 @@ both_true true false is is' = absurd (false≢true is')
 both_true false other is is' = absurd (false≢true is)
 
 -- ---- the cells of a list
-
-abbrev pub is_listed : List (ℕ × ℕ) → ℕ → ℕ → Bool
-is_listed cells row col = list_any (λ cell. row == cell.0 && col == cell.1) cells
 
 pub listed_there : (cells : List (ℕ × ℕ)) (row col : ℕ) → is_listed cells row col ≡ true → Contains cells (row, col)
 listed_there cells row col is =
@@ -70,16 +67,22 @@ module _ {A : Type 0} where
       ap (λ n. items n col) (eqb-true row cell.0 parts.0) ∙ ap (λ n. items cell.0 n) (eqb-true col cell.1 parts.1)
       ∙ made))))
 
-  chosen : (listed : Bool) (found : Option A) → (IsSome found → listed ≡ true) → cond listed found None ≡ found
-  chosen true found all = refl
-  chosen false None all = refl
-  chosen false (Some item) all = absurd (false≢true (all refl))
+  same_item : (listed covered : Bool) (found : Option A) → (listed ≡ true → IsSome (cond covered None found))
+      → (IsSome (cond covered None found) → listed ≡ true) → cond listed found None ≡ cond covered None found
+  same_item true true found has all = absurd (false≢true (has refl))
+  same_item true false found has all = refl
+  same_item false true found has all = refl
+  same_item false false None has all = refl
+  same_item false false (Some item) has all = absurd (false≢true (all refl))
 
-  -- where each place that has an item is listed, these are all items
-  pub all_listed : (items : ℕ → ℕ → Option A) (cells : List (ℕ × ℕ))
-      → ((row col : ℕ) → IsSome (items row col) → Contains cells (row, col)) → listed_of items cells ≡ items
-  all_listed items cells all = fun_ext (λ row. fun_ext (λ col.
-      chosen (is_listed cells row col) (items row col) (λ some. there_listed cells row col (all row col some))))
+  -- where just the places that have an item and aren't covered are listed, their items are these
+  pub listed_uncovered : (items : ℕ → ℕ → Option A) (covered : ℕ → ℕ → Bool) (cells : List (ℕ × ℕ))
+      → ((row col : ℕ) → Contains cells (row, col) ↔ IsSome (cond (covered row col) None (items row col)))
+      → listed_of items cells ≡ (λ row col. cond (covered row col) None (items row col))
+  listed_uncovered items covered cells exactly = fun_ext (λ row. fun_ext (λ col.
+      same_item (is_listed cells row col) (covered row col) (items row col)
+      (λ is. (exactly row col).0 (listed_there cells row col is))
+      (λ some. there_listed cells row col ((exactly row col).1 some))))
 
 -- ---- sizes that stay
 

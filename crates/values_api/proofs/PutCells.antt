@@ -17,11 +17,12 @@ use Rattle.world_model.specs.Sheet.{PlaceSheet}
 use Rattle.world_model.specs.Sound.{place_sheet_with}
 use Rattle.world_model.specs.Writing.{book_put}
 use Rattle.values_api.specs.Blocks.{Entry, IsEntry, given_value, input_at}
-use Rattle.values_api.specs.Given.{AreGiven, IsWithinSheet, first_of, first_row, first_col, value_by}
+use Rattle.values_api.specs.Given.{AreGiven, IsWithinSheet, first_of, first_row, first_col, is_listed}
+use Rattle.values_api.specs.Given.{value_by, value_listed}
 use Rattle.values_api.specs.declared.given.Given.{Given}
-use Rattle.values_api.proofs.GivenCells.{IsInside, made_inside, made_there}
+use Rattle.values_api.proofs.GivenCells.{IsInside, made_inside, made_there, some_where}
 use Rattle.values_api.proofs.Entering.{AreEntered, next_entered}
-use Rattle.values_api.proofs.Listed.{is_listed, listed_of, listed_next, all_listed, still_of}
+use Rattle.values_api.proofs.Listed.{listed_of, listed_next, still_of}
 
 some_so : {A : Type 0} (P Q : A → Type 0) → ((x : A) → P x → Q x) → (found : Option A) → IsSomeAnd found P
     → IsSomeAnd found Q
@@ -58,7 +59,9 @@ module _ (given : Given) (cells : List (ℕ × ℕ)) (are : AreGiven given cells
     cell = get_or cells k (0, 0)
 
     cell_some : IsSome (value_by given cell.0 cell.1)
-    cell_some = (are.exactly cell.0 cell.1).0 (Contains-get_or cells k (0, 0) below)
+    cell_some =
+        (some_where (is_listed cells cell.0 cell.1) (value_by given cell.0 cell.1)
+        ((are.exactly cell.0 cell.1).0 (Contains-get_or cells k (0, 0) below))).1
 
     pub listed_inside : IsInside given cell.0 cell.1
     listed_inside = made_inside given cell.0 cell.1 cell_some
@@ -108,8 +111,7 @@ module _ (given : Given) (cells : List (ℕ × ℕ)) (are : AreGiven given cells
   pub put_all : (sheets : Sheets) (k : ℕ) (before after : PlaceBook)
       (limit : Option FormulaFault) → length cells ≤ k
       → AreEntered sheets id (listed_of (value_by given) (take k cells)) before after limit
-      → AreEntered sheets id (value_by given) before after limit
+      → AreEntered sheets id (value_listed cells given) before after limit
   put_all sheets k before after limit past entered =
       subst (λ values. AreEntered sheets id values before after limit)
-      (ap (listed_of (value_by given)) (take_all k cells past)
-      ∙ all_listed (value_by given) cells (λ row col some. (are.exactly row col).1 some)) entered
+      (ap (listed_of (value_by given)) (take_all k cells past)) entered

@@ -1,6 +1,9 @@
 -- A write as far as the ends is the write of the area.
 use Rattle.std.proofs.Common.{◌≡◌, ℕ, ◌+◌, ◌-◌, ◌<◌, ◌≤◌, cond, Bool, true, false, refl, sym, subst, ap, arith}
-use Rattle.std.specs.Prelude.{Option, Some, None, IsSomeAnd, Result, Ok, Err, IfOk, MatchResult, ◌&&◌, nat_le, nat_lt}
+use Rattle.std.specs.Prelude.{Option, Some, None, IsSomeAnd, Result, Ok, Err, IfOk, MatchResult}
+use Rattle.std.specs.Prelude.{◌&&◌, not, nat_le, nat_lt}
+use Rattle.std.proofs.Math.Path.{fun_ext}
+use Rattle.std.proofs.lemmas.Bool.{and_parts, leb-true}
 use Rattle.cell_value.specs.declared.entered.Input.{Input}
 use Rattle.formula_reader.specs.declared.fault.FormulaFault.{FormulaFault}
 use Rattle.grid_range.specs.Area.{AreaWithin}
@@ -8,6 +11,7 @@ use Rattle.grid_range.specs.Band.{Within, first_line, end_line}
 use Rattle.grid_range.specs.declared.area.Area.{Area}
 use Rattle.grid_range.specs.declared.band.Band.{Band}
 use Rattle.grid_range.specs.declared.band.Band.TheVariants.{Whole, From, Span}
+use Rattle.merge_ranges.specs.Merges.{is_covered}
 use Rattle.world_model.specs.Book.{PlaceBook}
 use Rattle.world_model.specs.Counts.{filled_of, formulas_of}
 use Rattle.world_model.specs.Sheet.{PlaceSheet}
@@ -20,14 +24,14 @@ use Rattle.dimension_ops.specs.declared.rule.RuleOr.{RuleOr}
 use Rattle.dimension_ops.specs.declared.rule.RuleOr.TheVariants as refusal
 use Rattle.values_api.specs.Blocks.{Entry, AreEntries, end_row, end_col, given_value, input_at, lies_in, rows_needed, cols_needed, area_written}
 use Rattle.values_api.specs.Blocks.{broken_by_formulas, broken_by_write, contents_of, most_formulas, most_stored, rule_of_limit, IsWrite, IsWritten}
-use Rattle.values_api.specs.Given.{HasRoom, IsWithinSheet, IsDone, first_row, first_col, fits_by}
+use Rattle.values_api.specs.Given.{HasRoom, IsWithinSheet, IsDone, IsDoneOnSheet, first_row, first_col, fits_by}
+use Rattle.values_api.specs.Given.{value_uncovered}
 use Rattle.values_api.specs.Ranges.{IsThere}
 use Rattle.values_api.specs.Sheets.{formula_sheets}
 use Rattle.values_api.specs.declared.given.Given.{Given}
 use Rattle.values_api.specs.declared.writing.Written.{Written}
 use Rattle.values_api.proofs.Ends.{end_small}
 use Rattle.values_api.proofs.Finding.{some_and, sound_sheet}
-use Rattle.values_api.proofs.GivenCount.{fit_parts}
 use Rattle.values_api.proofs.Kept.{stays_there}
 
 pub first_before : (band : Band) (count : ℕ) → Within band count → 0 < count → first_line band < end_line band count
@@ -64,6 +68,26 @@ fits_from false true fit limit is = absurd (some_none (PastLimit Formulas) is)
 fits_from false false fit (Some limit) is = absurd (some_none (rule_of_limit limit) is)
 fits_from false false true None is = refl
 fits_from false false false None is = absurd (some_none ValuesPastRange is)
+
+-- a value that is passed over where a merge covers its cell
+passed_over : {A : Type 0} (covered rows cols : Bool) (value : Option A)
+    → cond covered None (cond (rows && cols) value None) ≡ cond (rows && cols && not covered) value None
+passed_over true true true value = refl
+passed_over true true false value = refl
+passed_over true false cols value = refl
+passed_over false true true value = refl
+passed_over false true false value = refl
+passed_over false false cols value = refl
+
+fit_parts : (given : Given) → fits_by given ≡ true
+    → (first_row given + rows_needed given.block.now ≤ given.end_row)
+    × (first_col given + cols_needed given.block.now ≤ given.end_col)
+fit_parts given fit =
+    let parts = and_parts (nat_le (first_row given + rows_needed given.block.now) given.end_row)
+    (nat_le (first_col given + cols_needed given.block.now) given.end_col) fit in (
+      leb-true (first_row given + rows_needed given.block.now) given.end_row parts.0,
+      leb-true (first_col given + cols_needed given.block.now) given.end_col parts.1,
+    )
 
 module _ (given : Given) (one_cell : Bool) (book : PlaceBook) where
   abbrev area : Area
@@ -144,7 +168,8 @@ module _ (given : Given) (one_cell : Bool) (book : PlaceBook) where
     -- which values are written, and whether they fit, by the ends
     abbrev values_to : ℕ × ℕ → ℕ → ℕ → Option Input
     values_to ends row col =
-        cond (lies_in (first_row given) ends.0 row && lies_in (first_col given) ends.1 col)
+        cond (lies_in (first_row given) ends.0 row && lies_in (first_col given) ends.1 col
+        && not (is_covered sheet.merges row col))
         (given_value (input_at given.block.now (row - first_row given) (col - first_col given))) None
 
     abbrev fits_to : ℕ × ℕ → Bool
@@ -159,9 +184,17 @@ module _ (given : Given) (one_cell : Bool) (book : PlaceBook) where
         (λ done. (broken_by_write limit (fits_to ends) after ≡ None) × IsWritten area given.block.now (values_to ends) done)
         (λ rule. broken_by_write limit (fits_to ends) after ≡ Some rule)
 
-    write_done : (after : PlaceBook) (answer : Result Written Rule) → IsDone given book after answer
+    values_are : value_uncovered sheet.merges given ≡ values_to (given.end_row, given.end_col)
+    values_are = fun_ext (λ row. fun_ext (λ col.
+        passed_over (is_covered sheet.merges row col) (lies_in (first_row given) given.end_row row)
+        (lies_in (first_col given) given.end_col col)
+        (given_value (input_at given.block.now (row - first_row given) (col - first_col given)))))
+
+    write_done : (after : PlaceBook) (answer : Result Written Rule)
+        → IsDone given (value_uncovered sheet.merges given) book after answer
         → IsWrite one_cell area given.block.now sheet book after answer
-    write_done after answer done =
+    write_done after answer is =
+        let done = subst (λ values. IsDone given values book after answer) values_are is in
         let now : IsAnswerTo after answer done.put.entries done.limit (given.end_row, given.end_col) =
         (done.put.entered, done.answered) in
         let both : IsAnswerTo after answer done.put.entries done.limit
@@ -176,16 +209,24 @@ module _ (given : Given) (one_cell : Bool) (book : PlaceBook) where
           answered = both.1;
         }
 
-    pub is_write : (after : PlaceBook) (answer : Result Written RuleOr) → IsUnlessNoMemory (IsDone given book after) answer
+    own_done : (after : PlaceBook) (answer : Result Written RuleOr) → IsDoneOnSheet given book after answer
+        → IsUnlessNoMemory (IsDone given (value_uncovered sheet.merges given) book after) answer
+    own_done after answer is =
+        subst (λ found. IsSomeAnd found (λ (one : PlaceSheet).
+        IsUnlessNoMemory (IsDone given (value_uncovered one.merges given) book after) answer)) has_sheet.found is
+
+    pub is_write : (after : PlaceBook) (answer : Result Written RuleOr) → IsDoneOnSheet given book after answer
         → Found (λ sheet. IsUnlessNoMemory (IsWrite one_cell area given.block.now sheet book after) answer)
     is_write after answer is =
         subst (λ found. IsSomeAnd found (λ sheet. IsUnlessNoMemory (IsWrite one_cell area given.block.now sheet book after) answer))
         (sym has_sheet.found)
-        (unless (IsDone given book after) (IsWrite one_cell area given.block.now sheet book after) (write_done after) answer is)
+        (unless (IsDone given (value_uncovered sheet.merges given) book after)
+        (IsWrite one_cell area given.block.now sheet book after) (write_done after) answer (own_done after answer is))
 
     -- the rectangle of what is written is on the sheet
     was_there : (after : PlaceBook) (answer : Result Written RuleOr)
-        → IsUnlessNoMemory (IsDone given book after) answer → IfOk answer (λ written. IsThere book.sheets written.area)
+        → IsUnlessNoMemory (IsDone given (value_uncovered sheet.merges given) book after) answer
+        → IfOk answer (λ written. IsThere book.sheets written.area)
     was_there after (Ok written) is =
         let fit : fits_by given ≡ true =
         fits_from (nat_lt most_stored (filled_of after.sheets)) (nat_lt most_formulas (formulas_of after.sheets))
@@ -206,10 +247,11 @@ module _ (given : Given) (one_cell : Bool) (book : PlaceBook) where
     was_there after (Err (refusal.Rule rule)) is = tt
     was_there after (Err refusal.NoMemory) is = tt
 
-    pub written_there : (after : PlaceBook) (answer : Result Written RuleOr)
-        → IsUnlessNoMemory (IsDone given book after) answer → IfOk answer (λ written. IsThere after.sheets written.area)
+    pub written_there : (after : PlaceBook) (answer : Result Written RuleOr) → IsDoneOnSheet given book after answer
+        → IfOk answer (λ written. IsThere after.sheets written.area)
     written_there after (Ok written) is =
-        stays_there area.sheet (contents_of is.put.entries) written.area book.sheets after.sheets
-        is.put.updated.places.sheets (was_there after (Ok written) is)
+        let done = own_done after (Ok written) is in
+        stays_there area.sheet (contents_of done.put.entries) written.area book.sheets after.sheets
+        done.put.updated.places.sheets (was_there after (Ok written) done)
     written_there after (Err (refusal.Rule rule)) is = tt
     written_there after (Err refusal.NoMemory) is = tt

@@ -13,7 +13,8 @@ use Rattle.world_model.specs.Sheet.{PlaceSheet}
 use Rattle.world_model.specs.Sound.{IsSound}
 use Rattle.world_model.specs.Updating.{Updates, book_updated}
 use Rattle.dimension_ops.specs.declared.rule.Rule.{Rule}
-use Rattle.values_api.specs.Blocks.{IsWrite, IsWritten, AreLines, IsFirstPassed, broken_by_write, contents_of, fits, written}
+use Rattle.values_api.specs.Blocks.{IsWrite, IsWritten, IsNumberOfCells, AreLines, IsFirstPassed}
+use Rattle.values_api.specs.Blocks.{broken_by_write, contents_of, fits, written}
 use Rattle.values_api.specs.Laws.{UpdatesOnce, WritesOnce}
 use Rattle.values_api.specs.Sheets.{formula_sheets}
 use Rattle.values_api.specs.Updates.{AreUpdated}
@@ -21,6 +22,7 @@ use Rattle.values_api.specs.declared.writing.Written.{Written}
 use Rattle.values_api.proofs.Entering.{entries_once}
 use Rattle.values_api.proofs.FirstPassed.{first_once}
 use Rattle.values_api.proofs.Kept.{kept_sheet}
+use Rattle.values_api.proofs.SameCells.{same_length}
 use Rattle.values_api.proofs.SameLines.{same_lines}
 
 some_same : {A : Type 0} (one other : A) → Some one ≡ Some other → one ≡ other
@@ -34,6 +36,15 @@ lines_once IsLine lines lines' are are' =
     same_lines lines lines' are.in_order are'.in_order
     (λ n has. (are'.exactly n).1 ((are.exactly n).0 has)) (λ n has. (are.exactly n).1 ((are'.exactly n).0 has))
 
+number_once : (values : ℕ → ℕ → Option Input) (number number' : ℕ) → IsNumberOfCells values number
+    → IsNumberOfCells values number' → number ≡ number'
+number_once values number number' is is' =
+    is.many
+    ∙ same_length is.cells is'.cells is.are.once is'.are.once
+    (λ cell has. (is'.are.exactly cell.0 cell.1).1 ((is.are.exactly cell.0 cell.1).0 has))
+    (λ cell has. (is.are.exactly cell.0 cell.1).1 ((is'.are.exactly cell.0 cell.1).0 has))
+    ∙ sym is'.many
+
 abbrev written_as : Area → List ℕ → List ℕ → ℕ → Written
 written_as area rows cols cells = record { area = area; rows = rows; cols = cols; cells = cells }
 
@@ -45,7 +56,8 @@ written_once area block values one other is is' =
     (lines_once (λ row. (col : ℕ) × IsSome (values row col)) one.rows other.rows is.rows_are is'.rows_are)
     ∙ ap (λ cols. written_as other.area other.rows cols one.cells)
     (lines_once (λ col. (row : ℕ) × IsSome (values row col)) one.cols other.cols is.cols_are is'.cols_are)
-    ∙ ap (λ cells. written_as other.area other.rows other.cols cells) (is.cells_are ∙ sym is'.cells_are)
+    ∙ ap (λ cells. written_as other.area other.rows other.cols cells)
+    (number_once values one.cells other.cells is.cells_are is'.cells_are)
 
 module _ (fit : Bool) (area : Area) (block : Block) (values : ℕ → ℕ → Option Input) where
   abbrev Answers : Option FormulaFault → PlaceBook → Result Written Rule → Type 0

@@ -1,10 +1,11 @@
 -- What a write of values makes of the cells, and what its answer counts (Google Sheets API v4 reference,
 -- spreadsheets.values.update, ValueRange and UpdateValuesResponse).
-use Rattle.std.specs.Prelude.{◌≡◌, ◌<◌, ◌≤◌, ◌↔◌, ◌+◌, ◌-◌, ℕ, Bool, ◌&&◌, List, [], length, max, get_or, nat_le, nat_lt}
+use Rattle.std.specs.Prelude.{◌≡◌, ◌≢◌, ◌<◌, ◌≤◌, ◌↔◌, ◌+◌, ◌-◌, ℕ, Bool, ◌&&◌, not, nat_le, nat_lt}
+use Rattle.std.specs.Prelude.{List, [], length, max, get_or}
 use Rattle.std.specs.Prelude.{if◌then◌else◌, Option, None, Some, Result, MatchResult, Contains, IfSome, IsSomeAnd}
 use Rattle.std.specs.Prelude.{option_map, option_and_then}
-use Rattle.std.specs.List.{fold, AllPairs, count_by, sum_by}
-use Rattle.std.specs.Option.{IsSome, is_some}
+use Rattle.std.specs.List.{fold, AllPairs}
+use Rattle.std.specs.Option.{IsSome}
 use Rattle.cell_value.specs.declared.cell.Block.{Block}
 use Rattle.cell_value.specs.declared.entered.Input.{Input}
 use Rattle.cell_value.specs.declared.entered.Input.TheVariants as input
@@ -12,6 +13,7 @@ use Rattle.grid_range.specs.Band.{first_line, end_line}
 use Rattle.grid_range.specs.declared.area.Area.{Area}
 use Rattle.grid_range.specs.declared.band.Band.{Band}
 use Rattle.grid_range.specs.declared.band.Band.TheVariants.{Span}
+use Rattle.merge_ranges.specs.Merges.{is_covered}
 use Rattle.ref_rewrite.specs.declared.cell_content.Content.{Content}
 use Rattle.ref_rewrite.specs.declared.cell_content.Content.TheVariants as content
 use Rattle.world_model.specs.Book.{PlaceBook}
@@ -77,11 +79,13 @@ fits one_cell area block sheet =
 abbrev pub lies_in : ℕ → ℕ → ℕ → Bool
 lies_in first end line = nat_le first line && nat_lt line end
 
--- the value that is written to a place, from the area's corner on and as far as the ends
+-- the value that is written to a place, from the area's corner on and as far as the ends; a cell that a merge covers is
+-- passed over
 abbrev pub written : Bool → Area → Block → PlaceSheet → ℕ → ℕ → Option Input
 written one_cell area block sheet row col =
     if lies_in (first_line area.rows) (end_row one_cell area sheet) row
     && lies_in (first_line area.cols) (end_col one_cell area sheet) col
+    && not (is_covered sheet.merges row col)
     then given_value (input_at block (row - first_line area.rows) (col - first_line area.cols))
     else None
 
@@ -193,8 +197,16 @@ pub record AreLines (IsLine : ℕ → Type 0) (lines : List ℕ) : Type 0 where
   pub in_order : AllPairs (λ one other. one < other) lines
   pub exactly : (line : ℕ) → Contains lines line ↔ IsLine line
 
-abbrev pub is_given : Input → Bool
-is_given value = is_some (given_value value)
+-- the list has just the cells with a value, each once
+pub record AreCells (values : ℕ → ℕ → Option Input) (cells : List (ℕ × ℕ)) : Type 0 where
+  pub exactly : (row col : ℕ) → Contains cells (row, col) ↔ IsSome (values row col)
+  pub once : AllPairs (λ one other. one ≢ other) cells
+
+-- there are so many of them
+pub record IsNumberOfCells (values : ℕ → ℕ → Option Input) (number : ℕ) : Type 0 where
+  pub cells : List (ℕ × ℕ)
+  pub are : AreCells values cells
+  pub many : number ≡ length cells
 
 -- what was written or emptied: the rectangle of the values, the rows and the columns with such a cell, and the number
 -- of these cells
@@ -202,7 +214,7 @@ pub record IsWritten (area : Area) (block : Block) (values : ℕ → ℕ → Opt
   pub area_is : written.area ≡ area_written area block
   pub rows_are : AreLines (λ row. (col : ℕ) × IsSome (values row col)) written.rows
   pub cols_are : AreLines (λ col. (row : ℕ) × IsSome (values row col)) written.cols
-  pub cells_are : written.cells ≡ sum_by (count_by is_given) block.values
+  pub cells_are : IsNumberOfCells values written.cells
 
 -- a write of the block to the area of the sheet makes that of the spreadsheet, and is answered so
 pub record IsWrite (one_cell : Bool) (area : Area) (block : Block) (sheet : PlaceSheet) (before after : PlaceBook)

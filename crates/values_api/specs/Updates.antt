@@ -1,18 +1,11 @@
 -- What a clear makes of the cells of an area (Google Sheets API v4 reference, spreadsheets.values.clear), and what an
 -- update is by the names of lines.
-use Rattle.std.specs.Prelude.{ℕ, Bool, true, None, Some, ◌&&◌, nat_le, nat_lt, if◌then◌else◌}
+use Rattle.std.specs.Prelude.{ℕ, None, Some, ◌&&◌, if◌then◌else◌}
 use Rattle.grid_range.specs.declared.area.Area.{Area}
-use Rattle.grid_range.specs.declared.band.Band.{Band}
-use Rattle.grid_range.specs.declared.band.Band.TheVariants.{Whole, From, Span}
+use Rattle.merge_ranges.specs.Tests.{has_line}
 use Rattle.world_model.specs.Book.{NameBook, PlaceBook}
 use Rattle.world_model.specs.StandsFor.{BookStandsFor}
 use Rattle.world_model.specs.Updating.{Updates, BookUpdated, book_updated}
-
--- whether the line is one of the band's
-abbrev pub has_line : Band → ℕ → Bool
-has_line Whole line = true
-has_line (From start) line = nat_le start line
-has_line (Span start end) line = nat_le start line && nat_lt line end
 
 -- each place of the area is emptied
 abbrev pub cleared : Area → Updates

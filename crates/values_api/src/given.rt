@@ -1,10 +1,16 @@
-ghost use Rattle.std.specs.Prelude.{◌≡◌, ◌+◌, ◌-◌, ◌<◌, ◌≤◌, IfOk, IfSome, IsTrue, OnOk, Contains, length, map, nat_le, get_or, unwrap_or};
+ghost use Rattle.std.specs.Prelude.{◌≡◌, ◌+◌, ◌-◌, ◌<◌, ◌≤◌, IfOk, IfSome, IsTrue};
+ghost use Rattle.std.specs.Prelude.{Contains, map, nat_le, get_or, unwrap_or};
 ghost use Rattle.std.specs.Option.{IsSome, option_copied};
 ghost use Rattle.world_model.specs.Sound.{IsContentWithin, place_sheet_with};
 ghost use Rattle.values_api.specs.Sheets.{formula_sheets};
 ghost use Rattle.cell_value.specs.declared.entered.Input.TheVariants.{Skip};
-ghost use Rattle.values_api.specs.Blocks.{longest, rows_needed, cols_needed, input_at, given_value, is_given, IsEntry, lines_from, area_written, AreLines};
-ghost use Rattle.values_api.specs.Given.{HasRoom, IsWithinSheet, AreGiven, AreGivenBefore, ArePut, entry_of, first_row, first_col, value_by, fits_by, turned, room, cell_for, line_given, line_on};
+ghost use Rattle.values_api.specs.Blocks.{longest, rows_needed, cols_needed, input_at, given_value, lines_from};
+ghost use Rattle.values_api.specs.Blocks.{IsEntry, area_written, AreLines};
+ghost use Rattle.values_api.specs.Given.{HasRoom, IsWithinSheet, AreGiven, ArePut, entry_of, value_listed, fits_by};
+ghost use Rattle.values_api.specs.Given.{first_row, first_col, turned, axis_of, corner, room};
+ghost use Rattle.values_api.specs.Given.{area_reached, cell_for, line_given, line_on};
+ghost use Rattle.grid_range.specs.Band.{cut_band};
+ghost use Rattle.merge_ranges.specs.Merges.{HasEnds, IsRectangle};
 
 use crate::entry::{Entry, entry, first_of};
 use cell_value::{Block, Input, Items, NoMemory};
@@ -27,43 +33,28 @@ pub(crate) struct Given<'a> {
 }
 
 impl<'a> Given<'a> {
-    /// The cells that are written or emptied, line by line.
-    pub(crate) fn cells(&self) -> Result<Items<(u32, u32)>, NoMemory>
-        requires { HasRoom self.now }
-        ensures { IfOk result (AreGiven self.now) }
+    /// Whether the lines of values are rows or columns.
+    pub(crate) fn axis(&self) -> Axis
+        ensures { result ≡ axis_of self.now }
     {
-        let values = self.block.values.as_slice();
-        let mut cells = Vec::new(self.alloc);
-        for line in 0..values.len().min(self.room().0) {
-            self.add_line(&mut cells, line, values[line].as_slice())?;
+        if self.block.columns_first {
+            Axis::Columns
+        } else {
+            Axis::Rows
         }
-        Ok(Items::of(cells))
     }
 
-    /// Adds those of a line.
-    fn add_line(
-        &self,
-        cells: &mut Vec<(u32, u32)>,
-        line: usize,
-        inputs: &[Input],
-    ) -> Result<(), NoMemory>
-        requires room { HasRoom self.now }
-        requires there { line < (room self.now).0 }
-        requires few { line < length self.now.block.now.values }
-        requires inputs { inputs.now ≡ line_given self.now line }
-        requires before { AreGivenBefore self.now line 0 cells.old.items }
-        ensures { OnOk result (AreGivenBefore self.now (line + 1) 0 cells.new.items) }
+    /// The sheet's line in which the first line of values stands, and the first place in it.
+    pub(crate) fn corner(&self) -> (usize, usize)
+        ensures { result ≡ corner self.now }
     {
-        for place in 0..inputs.len().min(self.room().1) {
-            if is_given(&inputs[place]) {
-                cells.push(self.cell_for(line, place))?;
-            }
-        }
-        Ok(())
+        let row = self.area.rows.first_line();
+        let col = self.area.cols.first_line();
+        self.turned(row as usize, col as usize)
     }
 
     /// How many lines of values there may be, and how many places in each.
-    fn room(&self) -> (usize, usize)
+    pub(crate) fn room(&self) -> (usize, usize)
         requires { HasRoom self.now }
         ensures { result ≡ room self.now }
     {
@@ -73,7 +64,7 @@ impl<'a> Given<'a> {
     }
 
     /// The cell of the value at a place of a line.
-    fn cell_for(&self, line: usize, place: usize) -> (u32, u32)
+    pub(crate) fn cell_for(&self, line: usize, place: usize) -> (u32, u32)
         requires room { HasRoom self.now }
         requires line { line < (room self.now).0 }
         requires place { place < (room self.now).1 }
@@ -105,7 +96,7 @@ impl<'a> Given<'a> {
     ) -> Result<Option<FormulaFault>, NoMemory>
         requires sheet { IsWithinSheet book.old.sheets self.now }
         requires cells { AreGiven self.now cells.now }
-        ensures { IfOk result (ArePut self.now book.old book.new) }
+        ensures { IfOk result (ArePut self.now (value_listed cells.now self.now) book.old book.new) }
     {
         updates_are_writes();
         updates_follow();
@@ -173,6 +164,20 @@ impl<'a> Given<'a> {
         }
     }
 
+    /// The rectangle of the values as far as the ends, which has one cell at least.
+    pub(crate) fn reached(&self) -> Area
+        requires { HasRoom self.now }
+        ensures area { result ≡ area_reached self.now }
+        ensures ends { IsRectangle result }
+    {
+        let (rows, cols) = self.needed();
+        Area {
+            sheet: self.area.sheet,
+            rows: lines_before(self.area.rows.first_line(), rows, self.end_row),
+            cols: lines_before(self.area.cols.first_line(), cols, self.end_col),
+        }
+    }
+
     /// How many rows and columns the values need.
     fn needed(&self) -> (usize, usize)
         ensures { result ≡ (rows_needed self.now.block.now, cols_needed self.now.block.now) }
@@ -207,11 +212,14 @@ fn lines_from(first: u32, count: usize) -> Band
     Band::Span(first, first + (count as u32).max(1))
 }
 
-/// Whether a value is for a cell: it isn't left out.
-fn is_given(input: &Input) -> bool
-    ensures { result ≡ is_given input.now }
+/// The same, as far as the end.
+fn lines_before(first: u32, count: usize, end: u32) -> Band
+    requires { first < end }
+    ensures lines { result ≡ cut_band (lines_from first count) end }
+    ensures ends { HasEnds result }
 {
-    !matches!(input, Input::Skip)
+    let lines = count.max(1).min((end - first) as usize);
+    Band::Span(first, first + lines as u32)
 }
 
 /// The cells' rows, or their columns, in order, each once.

@@ -14,6 +14,7 @@ mod ranges;
 mod sheets;
 mod shown;
 mod table;
+mod uncovered;
 mod writing;
 
 pub use appending::{append_values, rows_needed};

@@ -2,10 +2,11 @@ ghost use Rattle.std.specs.Prelude.{◌≡◌, IfOk, IsSomeAnd};
 ghost use Rattle.world_model.specs.Sound.{place_sheet_with};
 ghost use Rattle.dimension_ops.specs.Rules.{IsUnlessNoMemory};
 ghost use Rattle.values_api.specs.Blocks.{IsWrite, broken_by_write, rule_of_limit, end_row, end_col};
-ghost use Rattle.values_api.specs.Given.{HasRoom, IsWithinSheet, AreGiven, IsAnswer, IsDone};
+ghost use Rattle.values_api.specs.Given.{HasRoom, IsWithinSheet, AreGiven, IsAnswer, IsDoneOnSheet, value_listed};
 ghost use Rattle.values_api.specs.Ranges.{IsThere};
 
 use crate::given::{Given, lines_on};
+use crate::uncovered::uncovered_cells;
 use cell_value::{Block, Items};
 use dimension_ops::{Book, Limit, Rule, RuleOr};
 use formula_reader::FormulaFault;
@@ -33,7 +34,8 @@ pub struct Written {
 
 /// Writes values from the first corner of an area on (Sheets API v4 reference, spreadsheets.values.update).
 /// Where the area was named as one cell they may go on to the end of the sheet, and else to the area's
-/// end. A formula's text is read as a formula of the sheet. Nothing denies a user a cell yet.
+/// end. A cell that a merge covers is passed over, whatever its value. A formula's text is read as a formula of
+/// the sheet. Nothing denies a user a cell yet.
 ///
 /// # Errors
 ///
@@ -93,11 +95,12 @@ fn ends(book: &Book, area: &Area, one_cell: bool) -> (u32, u32)
 fn write(given: &Given<'_>, book: &mut Book) -> Result<Written, RuleOr>
     requires room { HasRoom given.now }
     requires sheet { IsWithinSheet book.old.sheets given.now }
-    ensures { IsUnlessNoMemory (IsDone given.now book.old book.new) result }
+    ensures { IsDoneOnSheet given.now book.old book.new result }
 {
-    let cells = given.cells()?;
-    let limit = given.put(book, cells.as_slice())?;
-    answer(given, book, cells.as_slice(), limit)
+    let uncovered = uncovered_cells(given, book)?;
+    let cells = uncovered.as_slice();
+    let limit = given.put(book, cells)?;
+    answer(given, book, cells, limit)
 }
 
 /// The answer to a write, of which these cells were written or emptied, and of whose formulas one passes
@@ -110,7 +113,7 @@ fn answer(
 ) -> Result<Written, RuleOr>
     requires room { HasRoom given.now }
     requires cells { AreGiven given.now cells.now }
-    ensures { IsUnlessNoMemory (IsAnswer given.now limit book.now) result }
+    ensures { IsUnlessNoMemory (IsAnswer given.now (value_listed cells.now given.now) limit book.now) result }
 {
     if let Some(rule) = broken(limit, given.fits(), book) {
         return Err(RuleOr::Rule(rule));

@@ -5,22 +5,26 @@ use Rattle.std.specs.List.{All, AllZip}
 use Rattle.std.proofs.lemmas.Option.{slice_get_cases}
 use Rattle.cell_store.specs.Laws.{TablesByItems}
 use Rattle.cell_store.specs.Table.{HasPlace, item_at}
+use Rattle.merge_ranges.specs.Calls.{ListsAreSame}
 use Rattle.ref_rewrite.specs.declared.cell_content.Content.{Content}
 use Rattle.world_model.specs.Book.{NameBook, PlaceBook}
 use Rattle.world_model.specs.Sheet.{NameSheet, PlaceSheet}
-use Rattle.world_model.specs.Sound.{IsSheetSound}
+use Rattle.world_model.specs.Sound.{IsOnSheet, IsSheetSound}
 use Rattle.world_model.specs.StandsFor.{SheetStandsFor, BookStandsFor}
 use Rattle.world_model.proofs.ContentsApart.{same_held}
+use Rattle.world_model.proofs.Found.{merges_on}
+use Rattle.world_model.proofs.MergesApart.{merges_apart}
 use Rattle.world_model.proofs.RangesNamed.{ranges_apart}
 
 nothing_there : {T : Type 0} (P : Type 0) (held : Option T) → (is_some held ≡ true → P) → ¬ P → held ≡ None
 nothing_there P None there out = refl
 nothing_there P (Some item) there out = absurd (out (there refl))
 
-module _ (tables : TablesByItems Content) (sheets : List NameSheet) (ones others : List PlaceSheet)
+module _ (tables : TablesByItems Content) (lists : ListsAreSame) (sheets : List NameSheet) (ones others : List PlaceSheet)
     (stand : AllZip (SheetStandsFor sheets) ones sheets) (stand' : AllZip (SheetStandsFor sheets) others sheets) where
   module _ (one other : PlaceSheet) (names : NameSheet) (stands : SheetStandsFor sheets one names)
-      (stands' : SheetStandsFor sheets other names) (sound : IsSheetSound ones one) (sound' : IsSheetSound others other) where
+      (stands' : SheetStandsFor sheets other names) (sound : IsSheetSound ones one) (sound' : IsSheetSound others other)
+      (on : All (IsOnSheet ones) one.merges) (on' : All (IsOnSheet others) other.merges) where
     -- past the last line there is nothing
     nothing_past : (row col : ℕ) → ¬ ((row < length names.rows) × (col < length names.cols))
         → item_at one.table row col ≡ item_at other.table row col
@@ -47,39 +51,48 @@ module _ (tables : TablesByItems Content) (sheets : List NameSheet) (ones others
         sheet_of_same one other (stands.id ∙ sym stands'.id) (stands.title ∙ sym stands'.title)
         (stands.hidden ∙ sym stands'.hidden)
         (tables.same one.table other.table (stands.rows ∙ sym stands'.rows) (stands.cols ∙ sym stands'.cols) same_item)
+        (merges_apart lists sheets ones others stand stand' one.merges other.merges on on' sound.merges.0.in_order
+        sound'.merges.0.in_order (λ area listed. (stands'.merges area).0 ((stands.merges area).1 listed))
+        (λ area listed. (stands.merges area).0 ((stands'.merges area).1 listed)))
       where
         sheet_of_same : (one other : PlaceSheet) → one.id ≡ other.id → one.title ≡ other.title
-            → one.hidden ≡ other.hidden → one.table ≡ other.table → one ≡ other
-        sheet_of_same one other id title hidden table =
+            → one.hidden ≡ other.hidden → one.table ≡ other.table → one.merges ≡ other.merges → one ≡ other
+        sheet_of_same one other id title hidden table merges =
             ap (λ n. record one { id = n }) id
             ∙ ap (λ text. record one { id = other.id; title = text }) title
-            ∙ ap (λ b. record other { hidden = b; table = one.table }) hidden
-            ∙ ap (λ found. record other { table = found }) table
+            ∙ ap (λ b. record other { hidden = b; table = one.table; merges = one.merges }) hidden
+            ∙ ap (λ found. record other { table = found; merges = one.merges }) table
+            ∙ ap (λ areas. record other { merges = areas }) merges
 
   same_sheets : (some more : List PlaceSheet) (names : List NameSheet) → AllZip (SheetStandsFor sheets) some names
       → AllZip (SheetStandsFor sheets) more names → All (IsSheetSound ones) some → All (IsSheetSound others) more
+      → All (λ sheet. All (IsOnSheet ones) sheet.merges) some → All (λ sheet. All (IsOnSheet others) sheet.merges) more
       → some ≡ more
-  same_sheets [] [] names all all' sound sound' = refl
-  same_sheets [] (o ∷ os) [] all all' sound sound' = absurd all'
-  same_sheets [] (o ∷ os) (n ∷ ns) all all' sound sound' = absurd all
-  same_sheets (s ∷ ss) [] [] all all' sound sound' = absurd all
-  same_sheets (s ∷ ss) [] (n ∷ ns) all all' sound sound' = absurd all'
-  same_sheets (s ∷ ss) (o ∷ os) [] all all' sound sound' = absurd all
-  same_sheets (s ∷ ss) (o ∷ os) (n ∷ ns) all all' sound sound' =
-      ap (λ sheet. sheet ∷ ss) (same_sheet s o n all.0 all'.0 (sound 0 s (omega arith)) (sound' 0 o (omega arith)))
+  same_sheets [] [] names all all' sound sound' on on' = refl
+  same_sheets [] (o ∷ os) [] all all' sound sound' on on' = absurd all'
+  same_sheets [] (o ∷ os) (n ∷ ns) all all' sound sound' on on' = absurd all
+  same_sheets (s ∷ ss) [] [] all all' sound sound' on on' = absurd all
+  same_sheets (s ∷ ss) [] (n ∷ ns) all all' sound sound' on on' = absurd all'
+  same_sheets (s ∷ ss) (o ∷ os) [] all all' sound sound' on on' = absurd all
+  same_sheets (s ∷ ss) (o ∷ os) (n ∷ ns) all all' sound sound' on on' =
+      ap (λ sheet. sheet ∷ ss) (same_sheet s o n all.0 all'.0 (sound 0 s (omega arith)) (sound' 0 o (omega arith))
+      (on 0 s (omega arith)) (on' 0 o (omega arith)))
       ∙ ap (λ rest. o ∷ rest) (same_sheets ss os ns all.1 all'.1 (λ k d there. sound (suc k) d (omega arith))
-      (λ k d there. sound' (suc k) d (omega arith)))
+      (λ k d there. sound' (suc k) d (omega arith)) (λ k d there. on (suc k) d (omega arith))
+      (λ k d there. on' (suc k) d (omega arith)))
 
 -- the law
-pub stands_for_apart : TablesByItems Content → (one other : PlaceBook) (names : NameBook) → BookStandsFor one names
+pub stands_for_apart : TablesByItems Content → ListsAreSame → (one other : PlaceBook) (names : NameBook) → BookStandsFor one names
     → BookStandsFor other names → one ≡ other
-stands_for_apart tables one other names stands stands' =
+stands_for_apart tables lists one other names stands stands' =
     ap (λ text. record one { id = text }) (stands.id ∙ sym stands'.id)
     ∙ ap (λ text. record one { id = other.id; title = text }) (stands.title ∙ sym stands'.title)
     ∙ ap (λ text. record other { owner = text; sheets = one.sheets; ranges = one.ranges }) (stands.owner ∙ sym stands'.owner)
     ∙ ap (λ sheets. record other { sheets = sheets; ranges = one.ranges })
-    (same_sheets tables names.sheets one.sheets other.sheets stands.sheets stands'.sheets one.sheets other.sheets
-    names.sheets stands.sheets stands'.sheets stands.sound.sheets stands'.sound.sheets)
+    (same_sheets tables lists names.sheets one.sheets other.sheets stands.sheets stands'.sheets one.sheets other.sheets
+    names.sheets stands.sheets stands'.sheets stands.sound.sheets stands'.sound.sheets
+    (merges_on one.sheets one.sheets stands.sound.distinct stands.sound.sheets)
+    (merges_on other.sheets other.sheets stands'.sound.distinct stands'.sound.sheets))
     ∙ ap (λ ranges. record other { ranges = ranges })
     (ranges_apart names.sheets one.sheets other.sheets stands.sheets stands'.sheets one.ranges other.ranges
     stands.sound.ranges stands'.sound.ranges (sym stands.ranges ∙ stands'.ranges))

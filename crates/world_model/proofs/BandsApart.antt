@@ -27,7 +27,8 @@ same_from : (order : List ℕ) (start other : ℕ) → start < length order → 
 same_from order start other there there' same =
     omega (arith, sym (length-drop start order) ∙ ap length same ∙ length-drop other order)
 
-length-range : (order : List ℕ) (start end : ℕ) → end ≤ length order → length (slice_range order start end) ≡ end - start
+pub length-range : (order : List ℕ) (start end : ℕ) → end ≤ length order
+    → length (slice_range order start end) ≡ end - start
 length-range order start end there =
     length-take-le (end - start) (drop start order) (omega (arith, length-drop start order))
 

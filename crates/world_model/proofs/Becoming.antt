@@ -1,24 +1,25 @@
 -- Sheets each of whose places holds what becomes of what it held, while sizes stay.
 use Rattle.std.proofs.Common.{◌≡◌, ℕ, ◌+◌, ◌*◌, ◌<◌, refl, sym, ap, subst, ◌∙◌, List, [], ◌∷◌, length, get_or, true, arith, inl, inr}
-use Rattle.std.specs.Prelude.{IfSome, None, Option, Some, is_some, ◌⊎◌}
+use Rattle.std.specs.Prelude.{IfSome, None, Option, Some, is_some, map, ◌⊎◌}
 use Rattle.std.specs.List.{All, AllZip}
 use Rattle.std.specs.Option.{option_map}
 use Rattle.std.proofs.lemmas.List.Elements.{AllZip-get_or, length_all_zip}
 use Rattle.std.proofs.lemmas.List.Sums.{sum_by-cons}
 use Rattle.grid_range.specs.Area.{AreaWithin}
-use Rattle.grid_range.specs.Band.{Within}
 use Rattle.grid_range.specs.declared.area.Area.{Area}
 use Rattle.grid_range.specs.declared.axis.Axis.TheVariants.{Rows, Columns}
 use Rattle.cell_store.specs.Table.{item_at}
 use Rattle.named_ranges.specs.declared.range.NamedRange.{NamedRange}
 use Rattle.ref_rewrite.specs.declared.cell_content.Content.{Content}
+use Rattle.world_model.specs.Area.{area_named}
 use Rattle.world_model.specs.Book.{PlaceBook, orders_of}
 use Rattle.world_model.specs.Content.{NameContent, content_named}
 use Rattle.world_model.specs.Counts.{grid_places}
 use Rattle.world_model.specs.Sheet.{NameSheet, PlaceSheet}
 use Rattle.world_model.specs.Sound.{IsContentWithin, IsLineCount, IsOnSheet, IsSheetSound, IsSound}
 use Rattle.world_model.specs.StandsFor.{SheetStandsFor}
-use Rattle.world_model.proofs.Kept.{KeepsTitle, distinct_stay, still_found, titles_stay, visible_stays}
+use Rattle.world_model.proofs.Kept.{KeepsTitle, distinct_stay, merges_kept, size_within, still_found, titles_stay, visible_stays}
+use Rattle.world_model.proofs.StillStands.{merges_stand}
 use Rattle.world_model.proofs.WrittenSound.{held_within}
 
 -- each place of the sheet holds what becomes of what it held
@@ -29,16 +30,9 @@ pub record EachBecomes (becomes : Content → Content) (before after : PlaceShee
   pub rows : after.table.rows ≡ before.table.rows
   pub cols : after.table.cols ≡ before.table.cols
   pub items : (row col : ℕ) → item_at after.table row col ≡ option_map becomes (item_at before.table row col)
+  pub merges : after.merges ≡ before.merges
 
 -- ---- the sheets are sound
-
-pub size_within : (area : Area) (one other : PlaceSheet) → other.table.rows ≡ one.table.rows
-    → other.table.cols ≡ one.table.cols → AreaWithin area one.table.rows one.table.cols
-    → AreaWithin area other.table.rows other.table.cols
-size_within area one other rows cols within = (
-  subst (Within area.rows) (sym rows) within.0,
-  subst (Within area.cols) (sym cols) within.1,
-)
 
 -- sheets that keep their sizes have as many places
 pub same_places : (Goes : PlaceSheet → PlaceSheet → Type 0)
@@ -94,6 +88,7 @@ module _ (becomes : Content → Content) where
         subst (λ held. IfSome held (IsContentWithin afters)) (sym (is.items row col))
         (held_becomes becomes (IsContentWithin befores) (IsContentWithin afters) contents (item_at one.table row col)
         (sound.within row col));
+    merges = merges_kept one other is.id is.rows is.cols is.merges sound.merges;
   }
 
   -- ---- some sheets are so already
@@ -120,6 +115,7 @@ module _ (becomes : Content → Content) where
     cols = sound.cols;
     inside = sound.inside;
     within = λ row col. held_within befores afters areas (item_at one.table row col) (sound.within row col);
+    merges = sound.merges;
   }
 
   module _ (befores afters : List PlaceSheet) (all : AllZip MayBecome befores afters) where
@@ -176,8 +172,9 @@ module _ (becomes : Content → Content) (by_names : NameContent → NameContent
 
   pub becomes_stands : (one after : PlaceSheet) (names : NameSheet) → SheetStandsFor sheets one names
       → EachBecomes becomes one after
+      → map (area_named (orders_of sheets)) one.merges ≡ map (area_named (orders_of sheets')) one.merges
       → SheetStandsFor sheets' after (record names { cells = λ row col. option_map by_names (names.cells row col) })
-  becomes_stands one after names stands is = record {
+  becomes_stands one after names stands is lines = record {
     id = is.id ∙ stands.id;
     title = is.title ∙ stands.title;
     hidden = is.hidden ∙ stands.hidden;
@@ -190,4 +187,6 @@ module _ (becomes : Content → Content) (by_names : NameContent → NameContent
         ∙ held_named (item_at one.table row col)
         ∙ ap (option_map (content_named (orders_of sheets'))) (sym (is.items row col));
     nowhere_else = λ r c out. ap (option_map by_names) (stands.nowhere_else r c out);
+    merges = merges_stand (orders_of sheets) (orders_of sheets') one.merges after.merges names.merges names.merges refl
+        (lines ∙ ap (map (area_named (orders_of sheets'))) (sym is.merges)) stands.merges;
   }

@@ -1,6 +1,6 @@
 -- A sound spreadsheet stands for the one whose lines are called by their places.
 use Rattle.std.proofs.Common.{◌≡◌, ℕ, suc, ◌<◌, refl, sym, ap, subst, ◌∙◌, List, [], ◌∷◌, cond, Bool, true, false, get_or, arith}
-use Rattle.std.specs.Prelude.{Option, None, Some, is_some, map, slice_get, ◌==◌, Contains}
+use Rattle.std.specs.Prelude.{Option, None, Some, is_some, map, slice_get, ◌==◌, ◌↔◌, Contains}
 use Rattle.std.specs.List.{All, AllZip, range_with_len}
 use Rattle.std.specs.Option.{option_map, option_map_or}
 use Rattle.std.proofs.Math.Path.{fun_ext}
@@ -12,7 +12,7 @@ use Rattle.grid_range.specs.declared.axis.Axis.TheVariants.{Rows, Columns}
 use Rattle.cell_store.specs.Moved.{lines_on}
 use Rattle.cell_store.specs.Table.{HasItemsInside, item_at}
 use Rattle.ref_rewrite.specs.declared.cell_content.Content.{Content}
-use Rattle.world_model.specs.Area.{Orders}
+use Rattle.world_model.specs.Area.{Orders, area_named}
 use Rattle.world_model.specs.Book.{NameBook, PlaceBook, orders_of, sheet_with}
 use Rattle.world_model.specs.Content.{NameContent, content_named}
 use Rattle.world_model.specs.Ranges.{range_named}
@@ -54,6 +54,7 @@ called orders sheet = record {
   rows = by_places sheet.table.rows;
   cols = by_places sheet.table.cols;
   cells = λ row col. option_map (content_named orders) (item_at sheet.table row col);
+  merges = map (area_named orders) sheet.merges;
 }
 
 abbrev called_orders : List PlaceSheet → Orders
@@ -107,6 +108,10 @@ sheet_stands orders sheets sheet same inside = record {
   nowhere_else = λ r c out. nothing_named (content_named orders) (item_at sheet.table r c) (λ some.
       let there = inside r c some in
       out (is_listed sheet.table.rows r there.0, is_listed sheet.table.cols c there.1));
+  merges = λ area.
+      subst (λ other. Contains (map (area_named orders) sheet.merges) area
+      ↔ Contains (map (area_named other) sheet.merges) area)
+      (sym same) (λ listed. listed, λ listed. listed);
 }
 
 sheets_stand : (orders : Orders) (sheets : List NameSheet) (placed some : List PlaceSheet) → orders_of sheets ≡ orders

@@ -1,16 +1,18 @@
 -- A change of lines by places stands for the change by names.
-use Rattle.std.proofs.Common.{◌≡◌, ℕ, ◌<◌, ◌≤◌, refl, sym, ap, subst, ◌∙◌, List, [], ◌∷◌, cond, Bool, true, false, length, ◌&&◌, arith, suc}
-use Rattle.std.specs.Prelude.{Option, None, Some, IfSome, map, slice_get, ◌==◌, Contains}
+use Rattle.std.proofs.Common.{◌≡◌, ℕ, ◌<◌, ◌≤◌, refl, sym, ap, subst, ◌∙◌, List, [], ◌∷◌, cond, Bool, true, false, length, get_or, ◌&&◌, arith, suc}
+use Rattle.std.specs.Prelude.{◌≢◌, ◌↔◌, Option, None, Some, IfSome, map, slice_get, ◌==◌, Contains}
 use Rattle.std.specs.List.{All, AllZip, filter_map}
 use Rattle.std.specs.Option.{option_map}
 use Rattle.std.proofs.lemmas.Bool.{eqb-true, eq-eqb, false≢true, and_parts}
-use Rattle.std.proofs.lemmas.Option.{slice_get_within}
-use Rattle.grid_range.specs.Area.{AreaWithin, band_on}
+use Rattle.std.proofs.lemmas.List.Elements.{All-contains}
+use Rattle.std.proofs.lemmas.Option.{same_Some, slice_get_within}
+use Rattle.grid_range.specs.Area.{AreaWithin, band_on, with_band}
 use Rattle.grid_range.specs.Band.{Within}
 use Rattle.grid_range.specs.Change.{Changes, Fits, count_after, order_change}
 use Rattle.grid_range.specs.Following.{follow}
 use Rattle.grid_range.specs.FollowingLaws.{OrdersStay}
 use Rattle.grid_range.specs.Order.{IsOrder, is_among}
+use Rattle.grid_range.specs.Tracking.{area_followed, track_of}
 use Rattle.grid_range.specs.TrackingLaws.{TracksAll, PlacesAll, TracksStayWithin, PlacesStayBelow}
 use Rattle.grid_range.specs.declared.area.Area.{Area}
 use Rattle.grid_range.specs.declared.axis.Axis.{Axis}
@@ -18,10 +20,12 @@ use Rattle.grid_range.specs.declared.axis.Axis.TheVariants.{Rows, Columns}
 use Rattle.grid_range.specs.declared.change.Change.{Change}
 use Rattle.cell_store.specs.Moved.{lines_on, GoesWithLines}
 use Rattle.cell_store.specs.Table.{Table, item_at}
+use Rattle.merge_ranges.specs.Following.{FollowedStayMerges}
+use Rattle.merge_ranges.specs.Merges.{IsMerge}
 use Rattle.named_ranges.specs.Following.{range_followed}
 use Rattle.named_ranges.specs.declared.range.NamedRange.{NamedRange}
 use Rattle.ref_rewrite.specs.declared.cell_content.Content.{Content}
-use Rattle.world_model.specs.Area.{Orders, band_named}
+use Rattle.world_model.specs.Area.{NameArea, Orders, area_named, band_named}
 use Rattle.world_model.specs.Book.{NameBook, PlaceBook, orders_of, sheet_with}
 use Rattle.world_model.specs.Counts.{grid_places}
 use Rattle.world_model.specs.Content.{content_named}
@@ -29,19 +33,20 @@ use Rattle.world_model.specs.LineChange.{LineChange, line_change, sheet_followed
 use Rattle.world_model.specs.PlaceChange.{SheetChanged, BookChanged}
 use Rattle.world_model.specs.Ranges.{range_named}
 use Rattle.world_model.specs.Sheet.{NameSheet, PlaceSheet, lines_of}
-use Rattle.world_model.specs.Sound.{IsSheetSound, IsLineCount, IsContentWithin, most_places, place_sheet_with}
+use Rattle.world_model.specs.Sound.{AreMergesOf, IsSheetSound, IsLineCount, IsContentWithin, IsOnSheet, most_places, place_sheet_with}
 use Rattle.world_model.specs.StandsFor.{SheetStandsFor, BookStandsFor}
 use Rattle.world_model.proofs.Areas.{FollowsOn, area_follows, other_axis}
 use Rattle.world_model.proofs.Bands.{band_follows}
 use Rattle.world_model.proofs.Contents.{AreasFollow, held_follows}
 use Rattle.world_model.proofs.Counts.{count_after_change}
+use Rattle.world_model.proofs.MergesFollowed.{IsFollowed, IsInLines, merges_follow}
 use Rattle.world_model.proofs.RangesNamed.{AreOnSheets, ranges_follow}
 use Rattle.world_model.proofs.SoundAfter.{changes_stay_sound}
-use Rattle.world_model.proofs.Found.{IsOwn, FoundByName, found_by_name, own_sheets, lines_if_found, as_long, distinct_on}
-use Rattle.world_model.proofs.Lines.{lines_there, listed}
+use Rattle.world_model.proofs.Found.{IsOwn, FoundByName, found_by_name, merges_on, own_sheets, lines_if_found, as_long, distinct_on}
+use Rattle.world_model.proofs.Lines.{lines_there, listed, sheet_with-map}
 use Rattle.world_model.proofs.MovedCells.{among_if_listed, listed_if_among}
 use Rattle.world_model.proofs.MovedTables.{IsPlaced, LinesGo, moved_table, same_size, size_moved, holds_where_moved}
-use Rattle.world_model.proofs.Orders.{on_both, order_here, orders_across, orders_elsewhere, followed_id, followed_title, followed_hidden, followed_cells, followed_here, followed_across, followed_elsewhere}
+use Rattle.world_model.proofs.Orders.{on_both, order_here, orders_across, orders_elsewhere, followed_id, followed_title, followed_hidden, followed_cells, followed_merges, followed_here, followed_across, followed_elsewhere}
 
 within_on : (axis : Axis) (area : Area) (rows cols : ℕ) → AreaWithin area rows cols
     → Within (band_on axis area) (lines_on axis rows cols)
@@ -119,7 +124,8 @@ module _ (tracks : TracksAll) (places : PlacesAll) (orders_stay : OrdersStay) (p
 
     -- a sheet
     module _ (sheet sheet' : PlaceSheet) (names : NameSheet) (stands : SheetStandsFor sheets sheet names)
-        (own : IsOwn sheets names) (sound : IsSheetSound placed sheet) (changed : SheetChanged id axis count change sheet sheet') where
+        (own : IsOwn sheets names) (sound : IsSheetSound placed sheet) (on : All (IsOnSheet placed) sheet.merges)
+        (changed : SheetChanged id axis count change sheet sheet') (can : AreMergesOf sheet' sheet'.merges) where
       abbrev now : NameSheet
       now = sheet_followed to names
 
@@ -218,6 +224,81 @@ module _ (tracks : TracksAll) (places : PlacesAll) (orders_stay : OrdersStay) (p
       distinct false is on =
           subst IsOrder (sym (followed_elsewhere to names is on)) (distinct_on sheets sheet names on stands)
 
+      -- the merges
+      own_sheet : (merge : Area) → Contains sheet.merges merge → merge.sheet ≡ sheet.id
+      own_sheet merge listed =
+          (All-contains (λ one. (one.sheet ≡ sheet.id) × AreaWithin one sheet.table.rows sheet.table.cols) sheet.merges
+          merge
+          sound.merges.1 listed).0
+
+      -- one of another sheet stays
+      merge_stays : (names.id == id) ≡ false → (merge : Area) → Contains sheet.merges merge
+          → area_followed id axis count change merge ≡ Some merge
+      merge_stays is merge listed =
+          ap (λ b. cond b (option_map (with_band axis merge) (track_of (band_on axis merge) count change)) (Some merge))
+          (ap (λ n. n == id) (own_sheet merge listed ∙ stands.id) ∙ is)
+
+      merges_made : (b : Bool) → (names.id == id) ≡ b → (area : Area)
+          → Contains sheet'.merges area ↔ IsFollowed to count change sheet.merges area
+      merges_made true is area =
+          let same : sheet.id ≡ id = stands.id ∙ eqb-true names.id id is in
+          let lists = (changed.merges_follow same).exactly area in (
+            (λ listed.
+                let came = lists.0 listed in (
+                  came.merge,
+                  came.listed,
+                  ap (λ n. area_followed n axis count change came.merge) (sym (own_sheet came.merge came.listed ∙ same))
+                      ∙ came.followed,
+                  came.cells,
+                )),
+            (λ (merge, listed, followed, cells). lists.1 (record {
+              merge = merge;
+              listed = listed;
+              followed = ap (λ n. area_followed n axis count change merge) (own_sheet merge listed ∙ same) ∙ followed;
+              cells = cells;
+            })),
+          )
+      merges_made false is area =
+          let apart : sheet.id ≢ id = λ same. false≢true (sym is ∙ eq-eqb names.id id (sym stands.id ∙ same)) in
+          let stay : sheet'.merges ≡ sheet.merges = changed.merges_stay apart in (
+            (λ listed.
+                let before : Contains sheet.merges area = subst (λ all. Contains all area) stay listed in (
+                  area,
+                  before,
+                  merge_stays is area before,
+                  (All-contains IsMerge sheet.merges area sound.merges.0.each before).1,
+                )),
+            (λ (merge, listed, followed, cells).
+                subst (λ all. Contains all area) (sym stay)
+                (subst (Contains sheet.merges) (same_Some merge area (sym (merge_stays is merge listed) ∙ followed))
+                listed)),
+          )
+
+      -- the lines of the sheet
+      lines_now : (on : Axis) → after names.id on ≡ lines_of now on
+      lines_now on =
+          lines_there (map (sheet_followed to) sheets) names.id on now
+          (sheet_with-map (sheet_followed to) (followed_id to) names.id sheets
+          ∙ ap (option_map (sheet_followed to)) own)
+
+      merges_in_lines : All (IsInLines after) sheet'.merges
+      merges_in_lines k d there =
+          let merge = get_or sheet'.merges k d in
+          let here = can.1 k d there in
+          let of : merge.sheet ≡ names.id = here.0 ∙ changed.id ∙ stands.id in
+          let same : (on : Axis) → lines_on on sheet'.table.rows sheet'.table.cols ≡ length (after merge.sheet on) =
+          λ on. long on ∙ ap length (sym (ap (λ n. after n on) of ∙ lines_now on)) in
+          (subst (Within merge.rows) (same Rows) here.1.0, subst (Within merge.cols) (same Columns) here.1.1)
+
+      merges_same : (area : NameArea)
+          → Contains now.merges area ↔ Contains (map (area_named after) sheet'.merges) area
+      merges_same area =
+          subst (λ all. Contains all area ↔ Contains (map (area_named after) sheet'.merges) area)
+          (sym (followed_merges to names))
+          (merges_follow to count change before after sheet.merges sheet'.merges names.merges
+          (λ k d there. areas.follow (get_or sheet.merges k d) (on k d there)) merges_in_lines
+          (merges_made (names.id == id) refl) stands.merges area)
+
       pub sheet_follows : SheetStandsFor (map (sheet_followed to) sheets) sheet' now
       sheet_follows = record {
         id = changed.id ∙ stands.id ∙ sym (followed_id to names);
@@ -229,25 +310,31 @@ module _ (tracks : TracksAll) (places : PlacesAll) (orders_stay : OrdersStay) (p
         cols = long Columns;
         cells = cells_follow;
         nowhere_else = no_others;
+        merges = merges_same;
       }
 
     sheets_follow : (ones others : List PlaceSheet) (names : List NameSheet) → AllZip (SheetStandsFor sheets) ones names
-        → All (IsOwn sheets) names → All (IsSheetSound placed) ones → AllZip (SheetChanged id axis count change) ones others
+        → All (IsOwn sheets) names → All (IsSheetSound placed) ones
+        → All (λ sheet. All (IsOnSheet placed) sheet.merges) ones
+        → AllZip (SheetChanged id axis count change) ones others
+        → All (λ sheet. AreMergesOf sheet sheet.merges) others
         → AllZip (SheetStandsFor (map (sheet_followed to) sheets)) others (map (sheet_followed to) names)
-    sheets_follow [] [] [] stand own sound changed = tt
-    sheets_follow [] [] (n ∷ ns) stand own sound changed = absurd stand
-    sheets_follow [] (o ∷ os) names stand own sound changed = absurd changed
-    sheets_follow (s ∷ ss) [] names stand own sound changed = absurd changed
-    sheets_follow (s ∷ ss) (o ∷ os) [] stand own sound changed = absurd stand
-    sheets_follow (s ∷ ss) (o ∷ os) (n ∷ ns) stand own sound changed = (
-      sheet_follows s o n stand.0 (own 0 n (omega arith)) (sound 0 s (omega arith)) changed.0,
+    sheets_follow [] [] [] stand own sound on changed can = tt
+    sheets_follow [] [] (n ∷ ns) stand own sound on changed can = absurd stand
+    sheets_follow [] (o ∷ os) names stand own sound on changed can = absurd changed
+    sheets_follow (s ∷ ss) [] names stand own sound on changed can = absurd changed
+    sheets_follow (s ∷ ss) (o ∷ os) [] stand own sound on changed can = absurd stand
+    sheets_follow (s ∷ ss) (o ∷ os) (n ∷ ns) stand own sound on changed can = (
+      sheet_follows s o n stand.0 (own 0 n (omega arith)) (sound 0 s (omega arith)) (on 0 s (omega arith)) changed.0
+          (can 0 o (omega arith)),
       sheets_follow ss os ns stand.1 (λ k d there. own (suc k) d (omega arith))
-          (λ k d there. sound (suc k) d (omega arith)) changed.1,
+          (λ k d there. sound (suc k) d (omega arith)) (λ k d there. on (suc k) d (omega arith)) changed.1
+          (λ k d there. can (suc k) d (omega arith)),
     )
 
 -- the law
 module _ (tracks : TracksAll) (places : PlacesAll) (orders_stay : OrdersStay) (within : TracksStayWithin)
-    (below : PlacesStayBelow) where
+    (below : PlacesStayBelow) (stay : FollowedStayMerges) where
   pub changes_follow : (before after : PlaceBook) (names : NameBook) (id : ℕ) (axis : Axis) (count : ℕ) (change : Change)
       (fresh order : List ℕ) → BookStandsFor before names
       → Fits change count → IsLineCount axis (count_after change count)
@@ -263,18 +350,21 @@ module _ (tracks : TracksAll) (places : PlacesAll) (orders_stay : OrdersStay) (w
         made = changes.made;
         result = refl;
       } in
+      let sound = changes_stay_sound within below stay before after id axis count change stands.sound fits room
+      (subst (λ n. IfSome (place_sheet_with id before.sheets)
+      (λ sheet. lines_on axis sheet.table.rows sheet.table.cols ≡ n)) changes.long
+      (lines_if_found before.sheets names.sheets id axis stands.sheets))
+      changed few in
       record {
-        sound = changes_stay_sound within below before after id axis count change stands.sound fits room
-            (subst (λ n. IfSome (place_sheet_with id before.sheets)
-            (λ sheet. lines_on axis sheet.table.rows sheet.table.cols ≡ n)) changes.long
-            (lines_if_found before.sheets names.sheets id axis stands.sheets))
-            changed few;
+        sound = sound;
         id = changed.id ∙ stands.id;
         title = changed.title ∙ stands.title;
         owner = changed.owner ∙ stands.owner;
         sheets = sheets_follow tracks places orders_stay before.sheets names.sheets stands.sheets id axis count change fresh fits
             made before.sheets after.sheets names.sheets stands.sheets
-            (own_sheets before.sheets names.sheets stands.sheets stands.sound.distinct) stands.sound.sheets changed.sheets;
+            (own_sheets before.sheets names.sheets stands.sheets stands.sound.distinct) stands.sound.sheets
+            (merges_on before.sheets before.sheets stands.sound.distinct stands.sound.sheets) changed.sheets
+            (λ k d there. (sound.sheets k d there).merges);
         ranges = ap (filter_map (name_range_followed to)) stands.ranges
             ∙ named_follow tracks places orders_stay before.sheets names.sheets stands.sheets id axis count change fresh fits
             made before.ranges stands.sound.ranges

@@ -1,15 +1,16 @@
 -- A sheet that is found by its id, among those that a program keeps and among those that these stand for.
-use Rattle.std.proofs.Common.{◌≡◌, ◌≢◌, ℕ, ◌<◌, zero, suc, refl, sym, ap, ◌∙◌, List, [], ◌∷◌, cond, Bool, true, false, length, get_or, arith}
+use Rattle.std.proofs.Common.{◌≡◌, ◌≢◌, ℕ, ◌<◌, zero, suc, refl, sym, ap, subst, ◌∙◌, List, [], ◌∷◌, cond, Bool, true, false, length, get_or, arith}
 use Rattle.std.specs.Prelude.{Option, Some, IfSome, IsSomeAnd, ◌==◌}
 use Rattle.std.specs.List.{All, AllPairs, AllZip, find}
 use Rattle.std.proofs.lemmas.Bool.{eqb-true, eq-eqb, false≢true, false_from_ne_true}
+use Rattle.grid_range.specs.Area.{AreaWithin}
 use Rattle.grid_range.specs.Order.{IsOrder}
 use Rattle.grid_range.specs.declared.axis.Axis.{Axis}
 use Rattle.grid_range.specs.declared.axis.Axis.TheVariants.{Rows, Columns}
 use Rattle.cell_store.specs.Moved.{lines_on}
 use Rattle.world_model.specs.Book.{sheet_with, orders_of}
 use Rattle.world_model.specs.Sheet.{NameSheet, PlaceSheet, lines_of}
-use Rattle.world_model.specs.Sound.{place_sheet_with}
+use Rattle.world_model.specs.Sound.{IsOnSheet, IsSheetSound, place_sheet_with}
 use Rattle.world_model.specs.StandsFor.{SheetStandsFor}
 use Rattle.world_model.proofs.Lines.{lines_there}
 
@@ -39,6 +40,17 @@ module _ {A : Type 0} (number : A → ℕ) where
       (false_from_ne_true (number t == number thing) (λ is.
       distinct 0 (suc k) d (omega arith) there (eqb-true (number t) (number thing) is)))
       (each_found ts (λ i j e below inside. distinct (suc i) (suc j) e (omega arith) (omega arith)) k d (omega arith))
+
+-- a merge of a sheet is on a sheet that is there
+pub merges_on : (placed sheets : List PlaceSheet) → AllPairs (λ one other. one.id ≢ other.id) sheets
+    → All (IsSheetSound placed) sheets → All (λ sheet. All (IsOnSheet sheets) sheet.merges) sheets
+merges_on placed sheets distinct sound k d there i e below =
+    let sheet = get_or sheets k d in
+    let merge = get_or sheet.merges i e in
+    let here = (sound k d there).merges.1 i e below in
+    subst (λ found. IsSomeAnd found (λ one. AreaWithin merge one.table.rows one.table.cols))
+    (sym (ap (λ n. place_sheet_with n sheets) here.0
+    ∙ each_found (λ (one : PlaceSheet). one.id) sheets distinct k d there)) here.1
 
 -- where no two have one id, each is found
 pub each_own : (sheets : List NameSheet) → AllPairs (λ one other. one.id ≢ other.id) sheets

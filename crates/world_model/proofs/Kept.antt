@@ -1,17 +1,44 @@
--- Sheets that keep their ids, titles and marks, and the one that is found by its id.
+-- Sheets that keep their ids, titles and marks, or their merges, and the one that is found by its id.
 use Rattle.std.proofs.Common.{◌≡◌, ◌≢◌, ℕ, ◌<◌, zero, suc, refl, sym, ap, subst, ◌∙◌, List, [], ◌∷◌, cond, Bool, true, false, length, get_or, arith, ◌&&◌}
 use Rattle.std.specs.Prelude.{Option, None, Some, IfSome, IsSomeAnd, ◌==◌}
 use Rattle.std.specs.List.{AllPairs, AllZip, list_all}
 use Rattle.std.specs.Str.{str_eq_ignore_ascii_case}
 use Rattle.std.proofs.lemmas.Bool.{eqb-true, eq-eqb, false≢true}
 use Rattle.std.proofs.lemmas.List.Elements.{AllZip-get_or, length_all_zip}
+use Rattle.grid_range.specs.Area.{AreaWithin}
+use Rattle.grid_range.specs.Band.{Within}
+use Rattle.grid_range.specs.declared.area.Area.{Area}
 use Rattle.world_model.specs.Sheet.{PlaceSheet}
-use Rattle.world_model.specs.Sound.{place_sheet_with}
+use Rattle.world_model.specs.Sound.{AreMergesOf, place_sheet_with}
 
 pub record KeepsTitle (before after : PlaceSheet) : Type 0 where
   pub id : after.id ≡ before.id
   pub title : after.title ≡ before.title
   pub hidden : after.hidden ≡ before.hidden
+
+-- what is within a sheet is within one of its size
+pub size_within : (area : Area) (one other : PlaceSheet) → other.table.rows ≡ one.table.rows
+    → other.table.cols ≡ one.table.cols → AreaWithin area one.table.rows one.table.cols
+    → AreaWithin area other.table.rows other.table.cols
+size_within area one other rows cols within = (
+  subst (Within area.rows) (sym rows) within.0,
+  subst (Within area.cols) (sym cols) within.1,
+)
+
+-- and what merges a sheet can have, one of its id and size can have
+pub merges_fit : (one other : PlaceSheet) (merges : List Area) → other.id ≡ one.id → other.table.rows ≡ one.table.rows
+    → other.table.cols ≡ one.table.cols → AreMergesOf one merges → AreMergesOf other merges
+merges_fit one other merges id rows cols are = (
+  are.0,
+  λ k d there. let merge = are.1 k d there in
+      (merge.0 ∙ sym id, size_within (get_or merges k d) one other rows cols merge.1),
+)
+
+pub merges_kept : (one other : PlaceSheet) → other.id ≡ one.id → other.table.rows ≡ one.table.rows
+    → other.table.cols ≡ one.table.cols → other.merges ≡ one.merges → AreMergesOf one one.merges
+    → AreMergesOf other other.merges
+merges_kept one other id rows cols same are =
+    subst (AreMergesOf other) (sym same) (merges_fit one other one.merges id rows cols are)
 
 -- no other sheet has the id of the one that is found
 module _ (id : ℕ) (P : PlaceSheet → Type 0) where

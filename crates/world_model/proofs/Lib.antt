@@ -12,6 +12,7 @@ pub mod Orders
 pub mod Contents
 pub mod Counts
 pub mod MovedTables
+pub mod MergesFollowed
 pub mod Changed
 pub mod Forms
 pub mod SoundAfter
@@ -20,6 +21,7 @@ pub mod BandsApart
 pub mod ContentsApart
 pub mod StillStands
 pub mod RangesNamed
+pub mod MergesApart
 pub mod Apart
 pub mod Filled
 pub mod Replaced
@@ -35,3 +37,4 @@ pub mod SheetDeleted
 pub mod Renamed
 pub mod RangesChanged
 pub mod SheetMarked
+pub mod MergesSet

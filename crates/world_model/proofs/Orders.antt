@@ -1,6 +1,7 @@
 -- The lines of each sheet after a change of the lines of one.
 use Rattle.std.proofs.Common.{◌≡◌, ℕ, refl, sym, ap, ◌∙◌, List, [], ◌∷◌, cond, Bool, true, false}
 use Rattle.std.specs.Prelude.{Option, None, Some, map, ◌==◌, ◌&&◌}
+use Rattle.std.specs.List.{filter_map}
 use Rattle.std.specs.Option.{option_map, option_map_or}
 use Rattle.std.proofs.lemmas.Bool.{eqb-true}
 use Rattle.std.proofs.lemmas.Option.{none-some, same_Some}
@@ -8,7 +9,7 @@ use Rattle.grid_range.specs.Order.{is_among}
 use Rattle.grid_range.specs.declared.axis.Axis.{Axis}
 use Rattle.grid_range.specs.declared.axis.Axis.TheVariants.{Rows, Columns}
 use Rattle.world_model.specs.Book.{orders_of, sheet_with}
-use Rattle.world_model.specs.LineChange.{LineChange, sheet_followed, name_content_followed, with_lines, with_cells_followed}
+use Rattle.world_model.specs.LineChange.{LineChange, sheet_followed, name_content_followed, with_lines, with_all_followed, name_merge_followed}
 use Rattle.world_model.specs.Sheet.{NameSheet, lines_of}
 use Rattle.world_model.proofs.Areas.{other_axis}
 use Rattle.world_model.proofs.Lines.{sheet_with-map}
@@ -21,6 +22,7 @@ record MayHaveLines (b : Bool) (axis : Axis) (order : List ℕ) (one other : Nam
   pub on : lines_of one axis ≡ cond b order (lines_of other axis)
   pub across : lines_of one (other_axis axis) ≡ lines_of other (other_axis axis)
   pub cells : (r c : ℕ) → one.cells r c ≡ other.cells r c
+  pub merges : one.merges ≡ other.merges
 
 lines_replaced : (b : Bool) (axis : Axis) (order : List ℕ) (sheet : NameSheet)
     → MayHaveLines b axis order (cond b (with_lines axis order sheet) sheet) sheet
@@ -31,6 +33,7 @@ lines_replaced true Rows order sheet = record {
   on = refl;
   across = refl;
   cells = λ r c. refl;
+  merges = refl;
 }
 lines_replaced true Columns order sheet = record {
   id = refl;
@@ -39,6 +42,7 @@ lines_replaced true Columns order sheet = record {
   on = refl;
   across = refl;
   cells = λ r c. refl;
+  merges = refl;
 }
 lines_replaced false axis order sheet = record {
   id = refl;
@@ -47,6 +51,7 @@ lines_replaced false axis order sheet = record {
   on = refl;
   across = refl;
   cells = λ r c. refl;
+  merges = refl;
 }
 
 -- the sheet with an id has it
@@ -61,11 +66,11 @@ sheet_has_id id [] sheet found = absurd (none-some sheet found)
 sheet_has_id id (first ∷ sheets) sheet found =
     first_has_id (first.id == id) id first sheet (sheet_with id sheets) refl (sheet_has_id id sheets sheet) found
 
--- cells don't matter for lines
-lines_with_cells : (to : LineChange) (sheet : NameSheet) (axis : Axis)
-    → lines_of (with_cells_followed to sheet) axis ≡ lines_of sheet axis
-lines_with_cells to sheet Rows = refl
-lines_with_cells to sheet Columns = refl
+-- cells and merges don't matter for lines
+lines_with_all : (to : LineChange) (sheet : NameSheet) (axis : Axis)
+    → lines_of (with_all_followed to sheet) axis ≡ lines_of sheet axis
+lines_with_all to sheet Rows = refl
+lines_with_all to sheet Columns = refl
 
 -- what holds on an axis and on the other holds on both
 pub on_both : (P : Axis → Type 0) (axis on : Axis) → P axis → P (other_axis axis) → P on
@@ -91,13 +96,13 @@ module _ (to : LineChange) where
   pub followed_on : (sheet : NameSheet)
       → lines_of (sheet_followed to sheet) to.axis ≡ cond (sheet.id == to.sheet) to.order (lines_of sheet to.axis)
   followed_on sheet =
-      lines_with_cells to (cond (sheet.id == to.sheet) (with_lines to.axis to.order sheet) sheet) to.axis
+      lines_with_all to (cond (sheet.id == to.sheet) (with_lines to.axis to.order sheet) sheet) to.axis
       ∙ (replaced sheet).on
 
   pub followed_across : (sheet : NameSheet)
       → lines_of (sheet_followed to sheet) (other_axis to.axis) ≡ lines_of sheet (other_axis to.axis)
   followed_across sheet =
-      lines_with_cells to (cond (sheet.id == to.sheet) (with_lines to.axis to.order sheet) sheet) (other_axis to.axis)
+      lines_with_all to (cond (sheet.id == to.sheet) (with_lines to.axis to.order sheet) sheet) (other_axis to.axis)
       ∙ (replaced sheet).across
 
   -- another sheet keeps all its lines
@@ -118,6 +123,11 @@ module _ (to : LineChange) where
   followed_cells sheet r c =
       ap (λ held. cond (is_among (sheet_followed to sheet).rows r && is_among (sheet_followed to sheet).cols c)
       (option_map (name_content_followed to) held) None) ((replaced sheet).cells r c)
+
+  -- and each merge follows
+  pub followed_merges : (sheet : NameSheet)
+      → (sheet_followed to sheet).merges ≡ filter_map (name_merge_followed to) sheet.merges
+  followed_merges sheet = ap (filter_map (name_merge_followed to)) (replaced sheet).merges
 
   lines_found : (found : Option NameSheet) (axis : Axis)
       → option_map_or (λ sheet. lines_of sheet axis) (option_map (sheet_followed to) found) []

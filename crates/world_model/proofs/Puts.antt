@@ -53,6 +53,7 @@ pub record SameSheet (one other : PlaceSheet) : Type 0 where
   pub hidden : one.hidden ≡ other.hidden
   pub rows : one.table.rows ≡ other.table.rows
   pub cols : one.table.cols ≡ other.table.cols
+  pub merges : one.merges ≡ other.merges
 
 pub put_is_same : (b : Bool) (row col : ℕ) (item : Option Content) (sheet : PlaceSheet)
     → SameSheet (cond b (record sheet { table = table_written row col item sheet.table }) sheet) sheet
@@ -62,5 +63,13 @@ put_is_same true row col item sheet = record {
   hidden = refl;
   rows = (size_written row col item sheet.table).0;
   cols = (size_written row col item sheet.table).1;
+  merges = refl;
 }
-put_is_same false row col item sheet = record { id = refl; title = refl; hidden = refl; rows = refl; cols = refl }
+put_is_same false row col item sheet = record {
+  id = refl;
+  title = refl;
+  hidden = refl;
+  rows = refl;
+  cols = refl;
+  merges = refl;
+}

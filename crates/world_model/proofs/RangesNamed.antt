@@ -19,19 +19,13 @@ use Rattle.world_model.specs.Sheet.{NameSheet, PlaceSheet}
 use Rattle.world_model.specs.Sound.{IsOnSheet}
 use Rattle.world_model.specs.StandsFor.{SheetStandsFor}
 use Rattle.world_model.proofs.ContentsApart.{in_orders, same_area}
-use Rattle.world_model.proofs.StillStands.{area_same}
+use Rattle.world_model.proofs.StillStands.{area_same, map_same}
 
 -- each range is on one of the sheets
 abbrev pub AreOnSheets : List PlaceSheet → List NamedRange → Type 0
 AreOnSheets sheets ranges = All (λ range. IsOnSheet sheets range.area) ranges
 
 -- ---- lists of what is named
-
-pub map_same : {A B : Type 0} (f g : A → B) (xs : List A) → All (λ x. f x ≡ g x) xs → map f xs ≡ map g xs
-map_same f g [] same = refl
-map_same f g (x ∷ xs) same =
-    ap (λ y. y ∷ map f xs) (same 0 x (omega arith))
-    ∙ ap (λ ys. g x ∷ ys) (map_same f g xs (λ k d there. same (suc k) d (omega arith)))
 
 -- what is left of what is named is named what is left
 module _ {A B : Type 0} (f g : A → B) (test : A → Bool) (test' : B → Bool) (same_test : (x : A) → test' (f x) ≡ test x) where

@@ -12,7 +12,7 @@ use Rattle.ref_rewrite.specs.declared.cell_content.Content.{Content}
 use Rattle.ref_rewrite.specs.declared.cell_content.Content.TheVariants as content
 use Rattle.ref_rewrite.specs.declared.pieces.Piece.{Piece}
 use Rattle.ref_rewrite.specs.declared.pieces.Piece.TheVariants as piece
-use Rattle.world_model.specs.Area.{Orders}
+use Rattle.world_model.specs.Area.{Orders, area_named}
 use Rattle.world_model.specs.Book.{PlaceBook, orders_of}
 use Rattle.world_model.specs.BookChange.{AreChanges, BookChange, Named, NamedStandsFor, name_content_renamed, name_piece_renamed, sheet_renamed, words_renamed}
 use Rattle.world_model.specs.Content.{NameContent, NamePiece, content_named, piece_named}
@@ -35,6 +35,7 @@ module _ (old new : List ℕ) where
     rows = renamed.rows;
     cols = renamed.cols;
     items = renamed.items;
+    merges = renamed.merges;
   }
 
   -- ---- the spreadsheet is sound: no reference is another one
@@ -148,7 +149,7 @@ module _ (old new : List ℕ) where
     all_stand (s ∷ ss) (a ∷ more) [] all renamed = absurd all
     all_stand (s ∷ ss) (a ∷ more) (n ∷ ns) all renamed = (
       becomes_stands (content_renamed old new) (name_content_renamed old new) sheets renamed_sheets content_stands s a n
-          all.0 (renamed_is s a renamed.0),
+          all.0 (renamed_is s a renamed.0) (ap (λ orders. map (area_named orders) s.merges) (sym same_orders)),
       all_stand ss more ns all.1 renamed.1,
     )
 

@@ -2,6 +2,7 @@
 use Rattle.std.proofs.Common.{◌≡◌, ◌≢◌, ℕ, zero, suc, ◌+◌, ◌*◌, ◌<◌, ◌≤◌, refl, sym, ap, subst, ◌∙◌, List, [], ◌∷◌, get_or, length, Bool, true, false, cond, arith}
 use Rattle.std.specs.Prelude.{IfSome, IsSomeAnd, None, Option, Some, map, ◌==◌}
 use Rattle.std.specs.List.{All, AllPairs, AllZip, insert, list_all, range_with_len}
+use Rattle.std.specs.List.Sorted.{IsStrictlySortedBy}
 use Rattle.std.specs.Option.{IsSome, option_map, option_map_or}
 use Rattle.std.specs.Str.{bytes_eq, str_eq_ignore_ascii_case, str_to_ascii_lowercase}
 use Rattle.std.proofs.Math.Path.{fun_ext}
@@ -14,6 +15,7 @@ use Rattle.grid_range.specs.Area.{AreaWithin}
 use Rattle.grid_range.specs.Order.{IsOrder}
 use Rattle.grid_range.specs.declared.area.Area.{Area}
 use Rattle.cell_store.specs.Table.{empty_table, item_at}
+use Rattle.merge_ranges.specs.Merges.{AreMerges, by_first_cell}
 use Rattle.ref_rewrite.specs.declared.cell_content.Content.{Content}
 use Rattle.world_model.specs.Book.{NameBook, PlaceBook, orders_of}
 use Rattle.world_model.specs.BookChange.{AreChanges, BookChange, Named, NewSheet, new_sheet, sheet_added}
@@ -28,7 +30,7 @@ use Rattle.world_model.specs.StandsFor.{BookStandsFor, SheetStandsFor}
 use Rattle.world_model.specs.World.{HasNamesBelow}
 use Rattle.world_model.proofs.Inserted.{All-inserted, AllPairs-inserted, AllZip-inserted, find-inserted, length-inserted, still_not_all}
 use Rattle.world_model.proofs.RangesNamed.{AreOnSheets, ranges_same}
-use Rattle.world_model.proofs.StillStands.{held_same, still_stands}
+use Rattle.world_model.proofs.StillStands.{held_same, merges_same, still_stands}
 use Rattle.world_model.proofs.WrittenSound.{held_within}
 
 -- ---- fresh names
@@ -76,6 +78,19 @@ apart_if_found : (P : PlaceSheet → Type 0) (sheets : List PlaceSheet) (id new 
 apart_if_found P sheets id new none found = false_from_ne_true (new == id) (λ same.
     subst (λ held. IsSomeAnd held P)
     (ap (λ n. place_sheet_with n sheets) (sym (eqb-true new id same)) ∙ none) found)
+
+-- ---- no merges
+
+none_in_order : IsStrictlySortedBy by_first_cell []
+unfolding IsStrictlySortedBy
+none_in_order = tt
+
+no_merges : AreMerges []
+no_merges = record {
+  each = λ k d there. absurd (omega (arith, there));
+  apart = λ i j d less there. absurd (omega (arith, there));
+  in_order = none_in_order;
+}
 
 -- ---- a spreadsheet all of whose sheets may be hidden still
 
@@ -168,6 +183,7 @@ module _ (empty : (rows cols row col : ℕ) → item_at (empty_table {T = Conten
     cols = sound.cols;
     inside = sound.inside;
     within = λ row col. held_within book.sheets after area_stays (item_at one.table row col) (sound.within row col);
+    merges = sound.merges;
   }
 
   no_some : (held : Option Content) → held ≡ None → IsSome held → ⊥
@@ -187,6 +203,7 @@ module _ (empty : (rows cols row col : ℕ) → item_at (empty_table {T = Conten
         absurd (no_some (item_at new.table row col) (empty sheet.rows sheet.cols row col) some);
     within = λ row col.
         if_none (IsContentWithin after) (item_at new.table row col) (empty sheet.rows sheet.cols row col);
+    merges = (no_merges, λ k d there. absurd (omega (arith, there)));
   }
 
   pub added_nearly : IsNearlySound book → IsNearlySound added
@@ -236,21 +253,26 @@ module _ (empty : (rows cols row col : ℕ) → item_at (empty_table {T = Conten
         same_lines area.sheet
         (apart_if_found (λ one. AreaWithin area one.table.rows one.table.cols) book.sheets area.sheet sheet.id room.id on)
 
-    old_stands : (one : PlaceSheet) (other : NameSheet) → IsSheetSound book.sheets one
+    old_stands : (one : PlaceSheet) (other : NameSheet) → IsSheetSound book.sheets one → (one.id == sheet.id) ≡ false
         → SheetStandsFor named.book.sheets one other → SheetStandsFor names one other
-    old_stands one other sound is =
+    old_stands one other sound apart is =
         still_stands named.book.sheets names one other
         (λ row col. held_same book.sheets (orders_of named.book.sheets) (orders_of names) same_area
-        (item_at one.table row col) (sound.within row col)) is
+        (item_at one.table row col) (sound.within row col))
+        (merges_same (orders_of named.book.sheets) (orders_of names) one
+        (same_lines one.id (false_from_ne_true (sheet.id == one.id)
+        (λ is. false≢true (sym apart ∙ eq-eqb one.id sheet.id (sym (eqb-true sheet.id one.id is))))))
+        sound.merges) is
 
     all_old : (ones : List PlaceSheet) (others : List NameSheet) → All (IsSheetSound book.sheets) ones
-        → AllZip (SheetStandsFor named.book.sheets) ones others → AllZip (SheetStandsFor names) ones others
-    all_old [] [] sound all = tt
-    all_old [] (n ∷ ns) sound all = absurd all
-    all_old (s ∷ ss) [] sound all = absurd all
-    all_old (s ∷ ss) (n ∷ ns) sound all = (
-      old_stands s n (sound 0 s (omega arith)) all.0,
-      all_old ss ns (λ k d there. sound (suc k) d (omega arith)) all.1,
+        → All (λ one. (one.id == sheet.id) ≡ false) ones → AllZip (SheetStandsFor named.book.sheets) ones others
+        → AllZip (SheetStandsFor names) ones others
+    all_old [] [] sound apart all = tt
+    all_old [] (n ∷ ns) sound apart all = absurd all
+    all_old (s ∷ ss) [] sound apart all = absurd all
+    all_old (s ∷ ss) (n ∷ ns) sound apart all = (
+      old_stands s n (sound 0 s (omega arith)) (apart 0 s (omega arith)) all.0,
+      all_old ss ns (λ k d there. sound (suc k) d (omega arith)) (λ k d there. apart (suc k) d (omega arith)) all.1,
     )
 
     new_stands : SheetStandsFor names new meant
@@ -265,6 +287,7 @@ module _ (empty : (rows cols row col : ℕ) → item_at (empty_table {T = Conten
       cells = λ row col r c at_row at_col.
           ap (option_map (content_named (orders_of names))) (sym (empty sheet.rows sheet.cols row col));
       nowhere_else = λ r c out. refl;
+      merges = λ area. (λ none. none, λ none. none);
     }
 
     pub added_stands : NearlyStands added (sheet_added at meant named.book)
@@ -274,7 +297,7 @@ module _ (empty : (rows cols row col : ℕ) → item_at (empty_table {T = Conten
       title = stands.title;
       owner = stands.owner;
       sheets = AllZip-inserted (SheetStandsFor names) at new meant book.sheets named.book.sheets new_stands
-          (all_old book.sheets named.book.sheets stands.sound.sheets stands.sheets);
+          (all_old book.sheets named.book.sheets stands.sound.sheets no_other stands.sheets);
       ranges = stands.ranges
           ∙ ranges_same book.sheets (orders_of named.book.sheets) (orders_of names) same_area book.ranges
           stands.sound.ranges;

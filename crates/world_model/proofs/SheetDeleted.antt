@@ -21,7 +21,7 @@ use Rattle.ref_rewrite.specs.declared.cell_content.Content.TheVariants as conten
 use Rattle.ref_rewrite.specs.declared.pieces.Piece.{Piece}
 use Rattle.ref_rewrite.specs.declared.pieces.Piece.TheVariants as piece
 use Rattle.ref_rewrite.specs.declared.reference.Ref.{Ref as Reference}
-use Rattle.world_model.specs.Area.{NameArea, Orders, area_named, band_named}
+use Rattle.world_model.specs.Area.{NameArea, Orders, area_named}
 use Rattle.world_model.specs.Book.{PlaceBook, orders_of}
 use Rattle.world_model.specs.BookChange.{AreChanges, BookChange, name_content_without, name_piece_without, without_references}
 use Rattle.world_model.specs.Content.{NameContent, NamePiece, content_named, piece_named}
@@ -29,12 +29,13 @@ use Rattle.world_model.specs.Counts.{grid_places}
 use Rattle.world_model.specs.Ranges.{name_ranges_elsewhere, range_named}
 use Rattle.world_model.specs.Sheet.{NameSheet, PlaceSheet, lines_of}
 use Rattle.world_model.specs.SheetChange.{LosesReferences, PlaceSheetDeleted, SomeLoseReferences, content_without, other_sheets}
-use Rattle.world_model.specs.Sound.{IsAreaWithin, IsContentWithin, IsOnSheet, IsPieceWithin, IsSheetSound, IsSound}
+use Rattle.world_model.specs.Sound.{AreMergesOf, IsAreaWithin, IsContentWithin, IsOnSheet, IsPieceWithin, IsSheetSound, IsSound}
 use Rattle.world_model.specs.StandsFor.{SheetStandsFor}
-use Rattle.world_model.proofs.Becoming.{EachBecomes, all_sound, becomes_keeps, becomes_stands, same_places, sheet_becomes, size_within, some_sound}
-use Rattle.world_model.proofs.Kept.{KeepsTitle, distinct_stay, still_found, titles_stay}
+use Rattle.world_model.proofs.Becoming.{EachBecomes, all_sound, becomes_keeps, becomes_stands, same_places, sheet_becomes, some_sound}
+use Rattle.world_model.proofs.Kept.{KeepsTitle, distinct_stay, size_within, still_found, titles_stay}
 use Rattle.world_model.proofs.Lines.{KeepsLines, orders_stay_same}
 use Rattle.world_model.proofs.RangesNamed.{All-left, AreOnSheets, filter-named, range_same}
+use Rattle.world_model.proofs.StillStands.{lines_same, merges_same}
 
 -- ---- another sheet is found as before
 
@@ -74,6 +75,7 @@ loses_is sheet one other loses = record {
   rows = loses.rows;
   cols = loses.cols;
   items = loses.items;
+  merges = loses.merges;
 }
 
 loses_keeps : (sheet : ℕ) (one other : PlaceSheet) → LosesReferences sheet one other → KeepsTitle one other
@@ -198,12 +200,7 @@ without_keeps sheet = record { id = λ one. refl; lines = lines_kept }
 module _ (deleted : ℕ) (orders orders' : Orders)
     (same : (other : ℕ) → (other == deleted) ≡ false → orders' other ≡ orders other) where
   pub area_same : (area : Area) → (area.sheet == deleted) ≡ false → area_named orders area ≡ area_named orders' area
-  area_same area apart =
-      ap (λ lines. record {
-        sheet = area.sheet;
-        rows = band_named (lines Rows) area.rows;
-        cols = band_named (lines Columns) area.cols;
-      }) (sym (same area.sheet apart))
+  area_same area apart = lines_same orders orders' area (sym (same area.sheet apart))
 
   reference_without : (b : Bool) (reference : Reference) → (reference.area.sheet == deleted) ≡ b
       → cond b NamePiece.Lost (piece_named orders (piece.Ref reference))
@@ -247,12 +244,17 @@ module _ (deleted : ℕ) (sheets : List NameSheet) where
       ∙ fun_ext (λ axis. ap (λ (found : Option NameSheet). option_map_or (λ one. lines_of one axis) found [])
       (find-others (λ (one : NameSheet). one.id) deleted other apart sheets))
 
-  left_stands : (one after : PlaceSheet) (names : NameSheet) → SheetStandsFor sheets one names
+  -- a sheet that isn't deleted, and its merges
+  abbrev IsLeft : PlaceSheet → Type 0
+  IsLeft one = ((one.id == deleted) ≡ false) × AreMergesOf one one.merges
+
+  left_stands : (one after : PlaceSheet) (names : NameSheet) → IsLeft one → SheetStandsFor sheets one names
       → LosesReferences deleted one after → SheetStandsFor left after (without_references deleted names)
-  left_stands one after names stands loses =
+  left_stands one after names is stands loses =
       becomes_stands (content_without deleted) (name_content_without deleted) sheets left
       (content_named_without deleted (orders_of sheets) (orders_of left) same_lines) one after names stands
       (loses_is deleted one after loses)
+      (merges_same (orders_of sheets) (orders_of left) one (sym (same_lines one.id is.0)) is.1)
 
   -- the ranges that are left name the lines that they named
   pub ranges_left : (ranges : List NamedRange)
@@ -282,16 +284,24 @@ module _ (deleted : ℕ) (sheets : List NameSheet) where
       both_left (s.id == deleted) (n.id == deleted) s n (other_sheets deleted ss)
       (filter (λ one. not (one.id == deleted)) ns) (ap (λ m. m == deleted) all.0.id) all.0 (filtered ss ns all.1)
 
-  all_left : (ones afters : List PlaceSheet) (others : List NameSheet) → AllZip (SheetStandsFor sheets) ones others
-      → AllZip (LosesReferences deleted) ones afters
+  all_left : (ones afters : List PlaceSheet) (others : List NameSheet) → All IsLeft ones
+      → AllZip (SheetStandsFor sheets) ones others → AllZip (LosesReferences deleted) ones afters
       → AllZip (SheetStandsFor left) afters (map (without_references deleted) others)
-  all_left [] [] [] all loses = tt
-  all_left [] [] (n ∷ ns) all loses = absurd all
-  all_left [] (a ∷ more) others all loses = absurd loses
-  all_left (s ∷ ss) [] others all loses = absurd loses
-  all_left (s ∷ ss) (a ∷ more) [] all loses = absurd all
-  all_left (s ∷ ss) (a ∷ more) (n ∷ ns) all loses =
-      (left_stands s a n all.0 loses.0, all_left ss more ns all.1 loses.1)
+  all_left [] [] [] are all loses = tt
+  all_left [] [] (n ∷ ns) are all loses = absurd all
+  all_left [] (a ∷ more) others are all loses = absurd loses
+  all_left (s ∷ ss) [] others are all loses = absurd loses
+  all_left (s ∷ ss) (a ∷ more) [] are all loses = absurd all
+  all_left (s ∷ ss) (a ∷ more) (n ∷ ns) are all loses = (
+    left_stands s a n (are 0 s (omega arith)) all.0 loses.0,
+    all_left ss more ns (λ k d there. are (suc k) d (omega arith)) all.1 loses.1,
+  )
+
+  -- the sheets that are left
+  pub are_left : (ones : List PlaceSheet) → All (IsSheetSound ones) ones → All IsLeft (other_sheets deleted ones)
+  are_left ones sound =
+      All-left (λ one. not (one.id == deleted)) (IsSheetSound ones) IsLeft
+      (λ one elsewhere is. (not_true (one.id == deleted) elsewhere, is.merges)) ones sound
 
 pub deleted_changes : (before after : PlaceBook) (sheet : ℕ) → IsSound after → PlaceSheetDeleted sheet before after
     → AreChanges (BookChange.SheetDeleted sheet ∷ []) before after
@@ -305,6 +315,7 @@ deleted_changes before after sheet sound gone = record {
       owner = gone.owner ∙ is.stands.owner;
       sheets = all_left sheet named.book.sheets (other_sheets sheet before.sheets) after.sheets
           (filter (λ one. not (one.id == sheet)) named.book.sheets)
+          (are_left sheet named.book.sheets before.sheets is.stands.sound.sheets)
           (filtered sheet named.book.sheets before.sheets named.book.sheets is.stands.sheets) gone.sheets;
       ranges = ap (name_ranges_elsewhere sheet) is.stands.ranges ∙ ranges_left sheet named.book.sheets before.ranges
           ∙ ap (map (range_named (orders_of (left sheet named.book.sheets)))) (sym gone.ranges);

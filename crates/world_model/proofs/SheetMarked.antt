@@ -15,6 +15,7 @@ use Rattle.grid_range.specs.declared.axis.Axis.TheVariants.{Rows, Columns}
 use Rattle.cell_store.specs.Table.{HasItemsInside, Table, item_at}
 use Rattle.named_ranges.specs.declared.range.NamedRange.{NamedRange}
 use Rattle.ref_rewrite.specs.declared.cell_content.Content.{Content}
+use Rattle.world_model.specs.Area.{area_named}
 use Rattle.world_model.specs.Book.{PlaceBook}
 use Rattle.world_model.specs.BookChange.{AreChanges, BookChange, Named, NamedStandsFor, marked_hidden, on_sheet, titled}
 use Rattle.world_model.specs.Content.{content_named}
@@ -22,8 +23,9 @@ use Rattle.world_model.specs.Counts.{grid_places}
 use Rattle.world_model.specs.Ranges.{range_named}
 use Rattle.world_model.specs.Sheet.{NameSheet, PlaceSheet, lines_of}
 use Rattle.world_model.specs.SheetChange.{on_place_sheet, place_marked_hidden, place_titled}
-use Rattle.world_model.specs.Sound.{IsContentWithin, IsLineCount, IsOnSheet, IsSheetSound, IsSound, most_places, most_sheets, place_sheet_with}
+use Rattle.world_model.specs.Sound.{AreMergesOf, IsContentWithin, IsLineCount, IsOnSheet, IsSheetSound, IsSound, most_places, most_sheets, place_sheet_with}
 use Rattle.world_model.specs.StandsFor.{SheetStandsFor}
+use Rattle.world_model.proofs.Kept.{merges_fit}
 use Rattle.world_model.proofs.Lines.{KeepsLines, orders_stay_same}
 use Rattle.world_model.proofs.SheetAdded.{titles_apart}
 use Rattle.world_model.proofs.StillStands.{still_stands}
@@ -36,7 +38,7 @@ pub record KeepsTable (change : PlaceSheet → PlaceSheet) : Type 0 where
   pub id : (sheet : PlaceSheet) → (change sheet).id ≡ sheet.id
   pub table : (sheet : PlaceSheet) → (change sheet).table ≡ sheet.table
 
-chosen_keeps : (id : ℕ) (change : PlaceSheet → PlaceSheet) → KeepsTable change
+pub chosen_keeps : (id : ℕ) (change : PlaceSheet → PlaceSheet) → KeepsTable change
     → KeepsTable (λ sheet. cond (sheet.id == id) (change sheet) sheet)
 chosen_keeps id change keeps = record {
   id = λ sheet. own_id (sheet.id == id) sheet;
@@ -73,9 +75,9 @@ module _ (change : PlaceSheet → PlaceSheet) (keeps : KeepsTable change) where
     area_stays : (area : Area) → IsOnSheet sheets area → IsOnSheet (map change sheets) area
     area_stays area on = found_changed (λ table. AreaWithin area table.rows table.cols) area.sheet sheets on
 
-    table_sound : (one other : PlaceSheet) → other.table ≡ one.table → 0 < length other.title → IsSheetSound sheets one
-        → IsSheetSound (map change sheets) other
-    table_sound one other same titled sound = record {
+    table_sound : (one other : PlaceSheet) → other.id ≡ one.id → other.table ≡ one.table → 0 < length other.title
+        → AreMergesOf one other.merges → IsSheetSound sheets one → IsSheetSound (map change sheets) other
+    table_sound one other id same titled merges sound = record {
       titled = titled;
       rows = subst (λ (table : Table Content). IsLineCount Rows table.rows) (sym same) sound.rows;
       cols = subst (λ (table : Table Content). IsLineCount Columns table.cols) (sym same) sound.cols;
@@ -83,6 +85,8 @@ module _ (change : PlaceSheet → PlaceSheet) (keeps : KeepsTable change) where
       within = subst (λ (table : Table Content). (row col : ℕ) → IfSome (item_at table row col) (IsContentWithin (map change sheets)))
           (sym same)
           (λ row col. held_within sheets (map change sheets) area_stays (item_at one.table row col) (sound.within row col));
+      merges = merges_fit one other other.merges id (ap (λ (table : Table Content). table.rows) same)
+          (ap (λ (table : Table Content). table.cols) same) merges;
     }
 
   places_kept : (sheets : List PlaceSheet) → grid_places (map change sheets) ≡ grid_places sheets
@@ -93,13 +97,14 @@ module _ (change : PlaceSheet → PlaceSheet) (keeps : KeepsTable change) where
       ∙ ap (λ n. s.table.rows * s.table.cols + n) (places_kept ss)
       ∙ sym (sum_by-cons (λ (sheet : PlaceSheet). sheet.table.rows * sheet.table.cols) s ss)
 
-  -- the sheets are sound if no two titles are one, each has one, and one is shown
+  -- the sheets are sound if no two titles are one, each has one and can have its merges, and one is shown
   pub changed_sound : (book after : PlaceBook) → after.sheets ≡ map change book.sheets → after.ranges ≡ book.ranges
       → IsSound book
       → All (λ sheet. 0 < length (change sheet).title) book.sheets
       → AllPairs (λ one other. str_eq_ignore_ascii_case (change one).title (change other).title ≡ false) book.sheets
-      → list_all (λ sheet. sheet.hidden) (map change book.sheets) ≡ false → IsSound after
-  changed_sound book after made same sound titled apart visible = record {
+      → list_all (λ sheet. sheet.hidden) (map change book.sheets) ≡ false
+      → All (λ sheet. AreMergesOf sheet (change sheet).merges) book.sheets → IsSound after
+  changed_sound book after made same sound titled apart visible merges = record {
     distinct = subst (λ sheets. AllPairs (λ (one other : PlaceSheet). one.id ≢ other.id) sheets) (sym made)
         (λ i j d below there.
         let inside : j < length book.sheets = subst (λ n. j < n) (length-map book.sheets change) there in
@@ -122,7 +127,8 @@ module _ (change : PlaceSheet → PlaceSheet) (keeps : KeepsTable change) where
     sheets = subst (λ sheets. All (IsSheetSound sheets) sheets) (sym made)
         (All-map (IsSheetSound (map change book.sheets)) change book.sheets
         (λ k d there. table_sound book.sheets (get_or book.sheets k d) (change (get_or book.sheets k d))
-        (keeps.table (get_or book.sheets k d)) (titled k d there) (sound.sheets k d there)));
+        (keeps.id (get_or book.sheets k d)) (keeps.table (get_or book.sheets k d)) (titled k d there) (merges k d there)
+        (sound.sheets k d there)));
     few_sheets = subst (λ sheets. length sheets ≤ most_sheets) (sym made)
         (subst (λ n. n ≤ most_sheets) (sym (length-map book.sheets change)) sound.few_sheets);
     few_places = subst (λ sheets. grid_places sheets ≤ most_places) (sym made)
@@ -131,6 +137,20 @@ module _ (change : PlaceSheet → PlaceSheet) (keeps : KeepsTable change) where
         (subst (λ ranges. All (λ (range : NamedRange). IsOnSheet (map change book.sheets) range.area) ranges) (sym same)
         (λ k d there. area_stays book.sheets (get_or book.ranges k d).area (sound.ranges k d there)));
   }
+
+-- a sheet that may be changed keeps its merges
+chosen_merges : (change : PlaceSheet → PlaceSheet) → ((sheet : PlaceSheet) → (change sheet).merges ≡ sheet.merges)
+    → (b : Bool) (sheet : PlaceSheet) → (cond b (change sheet) sheet).merges ≡ sheet.merges
+chosen_merges change keeps true sheet = keeps sheet
+chosen_merges change keeps false sheet = refl
+
+merges_stay : (id : ℕ) (change : PlaceSheet → PlaceSheet)
+    → ((sheet : PlaceSheet) → (change sheet).merges ≡ sheet.merges)
+    → (sheets placed : List PlaceSheet) → All (IsSheetSound placed) sheets
+    → All (λ sheet. AreMergesOf sheet (cond (sheet.id == id) (change sheet) sheet).merges) sheets
+merges_stay id change keeps sheets placed sound k d there =
+    let sheet = get_or sheets k d in
+    subst (AreMergesOf sheet) (sym (chosen_merges change keeps (sheet.id == id) sheet)) (sound k d there).merges
 
 -- ---- another title
 
@@ -186,6 +206,7 @@ module _ (id : ℕ) (title : List ℕ) where
       (get_or book.sheets j d) refl refl (sound.distinct i j d below there) (sound.titles i j d below there)
       (free i d inside) (free j d there))
       (all_hidden book.sheets ∙ sound.visible)
+      (merges_stay id (place_titled title) (λ sheet. refl) book.sheets book.sheets sound.sheets)
 
 -- ---- another mark
 
@@ -215,14 +236,17 @@ module _ (id : ℕ) (hidden : Bool) where
       ap (λ title. str_eq_ignore_ascii_case title (with_mark other).title) (title_kept (one.id == id) one)
       ∙ ap (str_eq_ignore_ascii_case one.title) (title_kept (other.id == id) other)
       ∙ sound.titles i j d below there)
-      visible
+      visible (merges_stay id (place_marked_hidden hidden) (λ sheet. refl) book.sheets book.sheets sound.sheets)
 
 -- ---- and stands for the one by names
 
 module _ (id : ℕ) (by_names : NameSheet → NameSheet) (by_places : PlaceSheet → PlaceSheet)
-    (keeps : KeepsLines by_names)
-    (follows : (sheets : List NameSheet) (sheet : PlaceSheet) (names : NameSheet) → SheetStandsFor sheets sheet names
-    → SheetStandsFor sheets (by_places sheet) (by_names names)) where
+    (keeps : KeepsLines by_names) where
+  -- the changed sheet stands for the changed one
+  abbrev Follows : List NameSheet → Type 0
+  Follows sheets = (sheet : PlaceSheet) (names : NameSheet) → SheetStandsFor sheets sheet names
+      → SheetStandsFor sheets (by_places sheet) (by_names names)
+
   abbrev on_names : NameSheet → NameSheet
   on_names sheet = cond (sheet.id == id) (by_names sheet) sheet
 
@@ -242,25 +266,26 @@ module _ (id : ℕ) (by_names : NameSheet → NameSheet) (by_places : PlaceSheet
       own_lines false sheet axis = refl
 
   one_stands : (b b' : Bool) (sheets : List NameSheet) (sheet : PlaceSheet) (names : NameSheet) → b ≡ b'
-      → SheetStandsFor sheets sheet names
+      → Follows sheets → SheetStandsFor sheets sheet names
       → SheetStandsFor sheets (cond b (by_places sheet) sheet) (cond b' (by_names names) names)
-  one_stands true true sheets sheet names same stands = follows sheets sheet names stands
-  one_stands true false sheets sheet names same stands = absurd (false≢true (sym same))
-  one_stands false true sheets sheet names same stands = absurd (false≢true same)
-  one_stands false false sheets sheet names same stands = stands
+  one_stands true true sheets sheet names same follows stands = follows sheet names stands
+  one_stands true false sheets sheet names same follows stands = absurd (false≢true (sym same))
+  one_stands false true sheets sheet names same follows stands = absurd (false≢true same)
+  one_stands false false sheets sheet names same follows stands = stands
 
-  each_stands : (sheets : List NameSheet) (ones : List PlaceSheet) (others : List NameSheet)
+  each_stands : (sheets : List NameSheet) → Follows sheets → (ones : List PlaceSheet) (others : List NameSheet)
       → AllZip (SheetStandsFor sheets) ones others
       → AllZip (SheetStandsFor (map on_names sheets)) (map on_places ones) (map on_names others)
-  each_stands sheets [] [] all = tt
-  each_stands sheets [] (n ∷ ns) all = absurd all
-  each_stands sheets (s ∷ ss) [] all = absurd all
-  each_stands sheets (s ∷ ss) (n ∷ ns) all = (
+  each_stands sheets follows [] [] all = tt
+  each_stands sheets follows [] (n ∷ ns) all = absurd all
+  each_stands sheets follows (s ∷ ss) [] all = absurd all
+  each_stands sheets follows (s ∷ ss) (n ∷ ns) all = (
     still_stands sheets (map on_names sheets) (on_places s) (on_names n)
         (λ row col. ap (λ orders. option_map (content_named orders) (item_at (on_places s).table row col))
         (sym (orders_stay_same on_names on_keeps sheets)))
-        (one_stands (s.id == id) (n.id == id) sheets s n (ap (λ m. m == id) all.0.id) all.0),
-    each_stands sheets ss ns all.1,
+        (ap (λ orders. map (area_named orders) (on_places s).merges) (sym (orders_stay_same on_names on_keeps sheets)))
+        (one_stands (s.id == id) (n.id == id) sheets s n (ap (λ m. m == id) all.0.id) follows all.0),
+    each_stands sheets follows ss ns all.1,
   )
 
   names_below : (next : ℕ) (sheet : NameSheet) → All (λ name. name < next) sheet.rows × All (λ name. name < next) sheet.cols
@@ -271,15 +296,15 @@ module _ (id : ℕ) (by_names : NameSheet → NameSheet) (by_places : PlaceSheet
   )
 
   pub marked_stands : (book : PlaceBook) → IsSound (on_place_sheet id by_places book) → (named : Named)
-      → NamedStandsFor book named
+      → Follows named.book.sheets → NamedStandsFor book named
       → NamedStandsFor (on_place_sheet id by_places book) (record named { book = on_sheet id by_names named.book })
-  marked_stands book sound named is = record {
+  marked_stands book sound named follows is = record {
     stands = record {
       sound = sound;
       id = is.stands.id;
       title = is.stands.title;
       owner = is.stands.owner;
-      sheets = each_stands named.book.sheets book.sheets named.book.sheets is.stands.sheets;
+      sheets = each_stands named.book.sheets follows book.sheets named.book.sheets is.stands.sheets;
       ranges = is.stands.ranges
           ∙ ap (λ orders. map (range_named orders) book.ranges) (sym (orders_stay_same on_names on_keeps named.book.sheets));
     };
@@ -315,6 +340,7 @@ titled_follows title sheets sheet names stands = record {
   cols = stands.cols;
   cells = stands.cells;
   nowhere_else = stands.nowhere_else;
+  merges = stands.merges;
 }
 
 hidden_follows : (hidden : Bool) (sheets : List NameSheet) (sheet : PlaceSheet) (names : NameSheet)
@@ -330,13 +356,16 @@ hidden_follows hidden sheets sheet names stands = record {
   cols = stands.cols;
   cells = stands.cells;
   nowhere_else = stands.nowhere_else;
+  merges = stands.merges;
 }
 
 pub titled_changes : (book : PlaceBook) (id : ℕ) (title : List ℕ) → IsSound (on_place_sheet id (place_titled title) book)
     → AreChanges (BookChange.SheetTitled id title ∷ []) book (on_place_sheet id (place_titled title) book)
 titled_changes book id title sound = record {
   id = refl;
-  names = marked_stands id (titled title) (place_titled title) (titled_lines title) (titled_follows title) book sound;
+  names = λ named.
+      marked_stands id (titled title) (place_titled title) (titled_lines title) book sound named
+      (titled_follows title named.book.sheets);
 }
 
 pub hidden_changes : (book : PlaceBook) (id : ℕ) (hidden : Bool)
@@ -344,6 +373,7 @@ pub hidden_changes : (book : PlaceBook) (id : ℕ) (hidden : Bool)
     → AreChanges (BookChange.SheetHidden id hidden ∷ []) book (on_place_sheet id (place_marked_hidden hidden) book)
 hidden_changes book id hidden sound = record {
   id = refl;
-  names = marked_stands id (marked_hidden hidden) (place_marked_hidden hidden) (hidden_lines hidden)
-      (hidden_follows hidden) book sound;
+  names = λ named.
+      marked_stands id (marked_hidden hidden) (place_marked_hidden hidden) (hidden_lines hidden) book sound named
+      (hidden_follows hidden named.book.sheets);
 }

@@ -4,7 +4,8 @@ use Rattle.std.specs.Prelude.{Option, None, Some, IfSome, IsSomeAnd, is_some, ma
 use Rattle.std.specs.List.{All, AllPairs, AllZip, filter_map}
 use Rattle.std.specs.Option.{option_map, option_map_or}
 use Rattle.std.proofs.lemmas.Bool.{eqb-true, eq-eqb, false≢true}
-use Rattle.std.proofs.lemmas.List.Elements.{AllZip-get_or}
+use Rattle.std.proofs.lemmas.List.Elements.{All-contains, AllZip-get_or, Contains-get_or}
+use Rattle.std.proofs.lemmas.Option.{IfSome_then}
 use Rattle.grid_range.specs.Area.{AreaWithin, band_on, with_band}
 use Rattle.grid_range.specs.Band.{Within}
 use Rattle.grid_range.specs.Change.{Fits, count_after}
@@ -17,6 +18,7 @@ use Rattle.grid_range.specs.declared.band.Band.{Band}
 use Rattle.grid_range.specs.declared.change.Change.{Change}
 use Rattle.cell_store.specs.Moved.{lines_on, GoesWithLines}
 use Rattle.cell_store.specs.Table.{Table, HasItemsInside, HasPlace, item_at}
+use Rattle.merge_ranges.specs.Following.{AreWithin, CameFrom, FollowedStayMerges}
 use Rattle.named_ranges.specs.Following.{range_followed}
 use Rattle.named_ranges.specs.declared.range.NamedRange.{NamedRange}
 use Rattle.ref_rewrite.specs.Following.{piece_followed}
@@ -29,10 +31,10 @@ use Rattle.world_model.specs.Book.{PlaceBook}
 use Rattle.world_model.specs.Counts.{grid_places}
 use Rattle.world_model.specs.PlaceChange.{SheetChanged, BookChanged, content_followed}
 use Rattle.world_model.specs.Sheet.{PlaceSheet}
-use Rattle.world_model.specs.Sound.{IsSheetSound, IsSound, IsLineCount, HasNotation, IsContentWithin, IsOnSheet, IsPieceWithin, IsAreaWithin, most_places, most_sheets, place_sheet_with}
+use Rattle.world_model.specs.Sound.{AreMergesOf, IsSheetSound, IsSound, IsLineCount, HasNotation, IsContentWithin, IsOnSheet, IsPieceWithin, IsAreaWithin, most_places, most_sheets, place_sheet_with}
 use Rattle.world_model.proofs.Areas.{other_axis}
 use Rattle.world_model.proofs.Forms.{notation_kept}
-use Rattle.world_model.proofs.Kept.{KeepsTitle, only_one, found_both, found_too, still_found, visible_stays, distinct_stay, titles_stay, there_before, same_length}
+use Rattle.world_model.proofs.Kept.{KeepsTitle, merges_kept, only_one, found_both, found_too, still_found, visible_stays, distinct_stay, titles_stay, there_before, same_length}
 use Rattle.world_model.proofs.MovedTables.{row_came, col_came, same_size, size_moved, holds_where_moved}
 use Rattle.world_model.proofs.Orders.{on_both}
 use Rattle.world_model.proofs.RangesNamed.{All-filter_map, AreOnSheets}
@@ -95,6 +97,13 @@ bands_within : (axis : Axis) (area : Area) (table : Table Content) → AreaWithi
 bands_within Rows area table within = record { here = within.0; there = within.1 }
 bands_within Columns area table within = record { here = within.1; there = within.0 }
 
+-- an area with other lines on the axis is of its sheet, and within where both bands are
+with_lines_within : (axis : Axis) (area : Area) (band : Band) (table : Table Content)
+    → BandsWithin axis band (band_on (other_axis axis) area) table
+    → ((with_band axis area band).sheet ≡ area.sheet) × AreaWithin (with_band axis area band) table.rows table.cols
+with_lines_within Rows area band table both = (refl, (both.here, both.there))
+with_lines_within Columns area band table both = (refl, (both.there, both.here))
+
 can_have : {sheets : List PlaceSheet} (sheet : PlaceSheet) (on : Axis) → IsSheetSound sheets sheet
     → IsLineCount on (lines_on on sheet.table.rows sheet.table.cols)
 can_have sheet Rows sound = sound.rows
@@ -119,7 +128,8 @@ goes_keeps : (id : ℕ) (axis : Axis) (count : ℕ) (change : Change) (one other
     → SheetChanged id axis count change one other → KeepsTitle one other
 goes_keeps id axis count change one other goes = record { id = goes.id; title = goes.title; hidden = goes.hidden }
 
-module _ (within : TracksStayWithin) (below : PlacesStayBelow) (befores afters : List PlaceSheet) (id : ℕ) (axis : Axis)
+module _ (within : TracksStayWithin) (below : PlacesStayBelow) (stay : FollowedStayMerges)
+    (befores afters : List PlaceSheet) (id : ℕ) (axis : Axis)
     (count : ℕ) (change : Change) (fits : Fits change count)
     (all : AllZip (SheetChanged id axis count change) befores afters)
     (distinct : AllPairs (λ one other. one.id ≢ other.id) befores)
@@ -299,6 +309,51 @@ module _ (within : TracksStayWithin) (below : PlacesStayBelow) (befores afters :
         subst (λ table. IfSome (item_at table row col) (IsContentWithin befores))
         (sym (goes.stays (λ same. false≢true (sym is ∙ eq-eqb one.id id same)))) (sound.within row col)
 
+    -- its merges are where its lines went
+    merges_within : one.id ≡ id → AreWithin axis count one.merges
+    merges_within same k d there =
+        subst (Within (band_on axis (get_or one.merges k d))) (own same)
+        (bands_within axis (get_or one.merges k d) one.table (sound.merges.1 k d there).1).here
+
+    abbrev IsOwnArea : Area → Type 0
+    IsOwnArea area = (area.sheet ≡ other.id) × AreaWithin area other.table.rows other.table.cols
+
+    own_area : one.id ≡ id → (area : Area) → CameFrom axis count change one.merges area → IsOwnArea area
+    own_area same area came =
+        let merge = came.merge in
+        let here = All-contains (λ m. (m.sheet ≡ one.id) × AreaWithin m one.table.rows one.table.cols) one.merges merge
+        sound.merges.1 came.listed in
+        let bands = bands_within axis merge one.table here.1 in
+        let sizes = size_here one other goes same in
+        let tracked = IfSome_then (track_of (band_on axis merge) count change)
+        (within (band_on axis merge) count change fits (subst (Within (band_on axis merge)) (own same) bands.here))
+        (λ band held.
+        let both = with_lines_within axis merge band other.table (record {
+          here = subst (Within band) (sym (sizes.0 ∙ ap (count_after change) (own same))) held;
+          there = subst (Within (band_on (other_axis axis) merge)) (sym sizes.1) bands.there;
+        }) in
+        (both.0 ∙ here.0 ∙ sym goes.id, both.1)) in
+        subst (λ found. IfSome found IsOwnArea) came.followed
+        (some_of_either IsOwnArea (merge.sheet == merge.sheet)
+        (option_map (with_band axis merge) (track_of (band_on axis merge) count change)) (Some merge)
+        (λ is. mapped_holds (with_band axis merge) IsOwnArea (track_of (band_on axis merge) count change) tracked)
+        (λ is. absurd (false≢true (sym is ∙ eq-eqb merge.sheet merge.sheet refl))))
+
+    merges_moved : (b : Bool) → (one.id == id) ≡ b → AreMergesOf other other.merges
+    merges_moved true is =
+        let same = eqb-true one.id id is in
+        let lists = goes.merges_follow same in (
+          stay.stays axis count change one.merges other.merges fits sound.merges.0 (merges_within same)
+              (goes.whole same) lists,
+          λ k d there. own_area same (get_or other.merges k d)
+              ((lists.exactly (get_or other.merges k d)).0 (Contains-get_or other.merges k d there)),
+        )
+    merges_moved false is =
+        let apart : one.id ≢ id = λ same. false≢true (sym is ∙ eq-eqb one.id id same) in
+        let stays : goes.moved ≡ one.table = goes.stays apart in
+        merges_kept one other goes.id (goes.followed.rows ∙ ap (λ (table : Table Content). table.rows) stays)
+        (goes.followed.cols ∙ ap (λ (table : Table Content). table.cols) stays) (goes.merges_stay apart) sound.merges
+
     -- it has as many lines as a sheet can have
     lines_stay : (b : Bool) → (one.id == id) ≡ b → (on : Axis)
         → IsLineCount on (lines_on on other.table.rows other.table.cols)
@@ -330,6 +385,7 @@ module _ (within : TracksStayWithin) (below : PlacesStayBelow) (befores afters :
       within = λ row col.
           subst (λ held. IfSome held (IsContentWithin afters)) (sym (goes.followed.items row col))
           (held_stays (item_at goes.moved row col) (moved_within (one.id == id) refl row col));
+      merges = merges_moved (one.id == id) refl;
     }
 
   sheets_stay : All (IsSheetSound befores) befores → All (IsSheetSound afters) afters
@@ -340,21 +396,22 @@ module _ (within : TracksStayWithin) (below : PlacesStayBelow) (befores afters :
       (only_one id (λ sheet. lines_on axis sheet.table.rows sheet.table.cols ≡ count) befores distinct long k d inside)
 
 -- the law, where the sheet may be there
-pub changes_stay_sound : TracksStayWithin → PlacesStayBelow → (before after : PlaceBook) (id : ℕ) (axis : Axis) (count : ℕ)
-    (change : Change) → IsSound before → Fits change count → IsLineCount axis (count_after change count)
+pub changes_stay_sound : TracksStayWithin → PlacesStayBelow → FollowedStayMerges → (before after : PlaceBook) (id : ℕ)
+    (axis : Axis) (count : ℕ) (change : Change) → IsSound before → Fits change count
+    → IsLineCount axis (count_after change count)
     → IfSome (place_sheet_with id before.sheets) (λ sheet. lines_on axis sheet.table.rows sheet.table.cols ≡ count)
     → BookChanged id axis count change before after → grid_places after.sheets ≤ most_places → IsSound after
-changes_stay_sound within below before after id axis count change sound fits room long changed few = record {
+changes_stay_sound within below stay before after id axis count change sound fits room long changed few = record {
   distinct = distinct_stay (SheetChanged id axis count change) (goes_keeps id axis count change) before.sheets after.sheets changed.sheets sound.distinct;
   titles = titles_stay (SheetChanged id axis count change) (goes_keeps id axis count change) before.sheets after.sheets changed.sheets sound.titles;
   visible = visible_stays (SheetChanged id axis count change) (goes_keeps id axis count change) before.sheets after.sheets changed.sheets ∙ sound.visible;
-  sheets = sheets_stay within below before.sheets after.sheets id axis count change fits changed.sheets sound.distinct long
-      room sound.sheets;
+  sheets = sheets_stay within below stay before.sheets after.sheets id axis count change fits changed.sheets
+      sound.distinct long room sound.sheets;
   few_sheets = subst (λ n. n ≤ most_sheets)
       (same_length (SheetChanged id axis count change) (goes_keeps id axis count change) before.sheets after.sheets
       changed.sheets) sound.few_sheets;
   few_places = few;
   ranges = subst (AreOnSheets after.sheets) (sym changed.ranges)
-      (ranges_stay within below before.sheets after.sheets id axis count change fits changed.sheets sound.distinct long room
-      before.ranges sound.ranges);
+      (ranges_stay within below stay before.sheets after.sheets id axis count change fits changed.sheets sound.distinct
+      long room before.ranges sound.ranges);
 }

@@ -5,11 +5,11 @@ use Rattle.std.specs.List.{range_with_len}
 use Rattle.std.specs.Option.{option_map}
 use Rattle.std.proofs.lemmas.Bool.{eqb-true, eq-eqb, false≢true, false_from_ne_true}
 use Rattle.grid_range.specs.Change.{inserted_lines, order_change}
-use Rattle.world_model.specs.Area.{Orders}
+use Rattle.world_model.specs.Area.{NameArea, Orders, area_named}
 use Rattle.world_model.specs.Book.{orders_of, sheet_with}
-use Rattle.world_model.specs.BookChange.{BookChange, Named, changed_by, changed_by_all, name_content_renamed, name_content_without, marked_hidden, new_sheet, sheet_renamed, titled, without_references}
+use Rattle.world_model.specs.BookChange.{BookChange, Named, changed_by, changed_by_all, name_content_renamed, name_content_without, marked_hidden, merged, new_sheet, sheet_renamed, titled, without_references}
 use Rattle.world_model.specs.BookChange.BookChange.{CellsUpdated, LinesChanged, SheetAdded, SheetDeleted, SheetTitled, SheetHidden}
-use Rattle.world_model.specs.BookChange.BookChange.{RangeAdded, RangeChanged, RangeDeleted, WordsRenamed}
+use Rattle.world_model.specs.BookChange.BookChange.{RangeAdded, RangeChanged, RangeDeleted, WordsRenamed, MergesSet}
 use Rattle.world_model.specs.Content.{NameContent}
 use Rattle.world_model.specs.LineChange.{LineChange, line_change, name_content_followed, sheet_followed}
 use Rattle.world_model.specs.Sheet.{NameSheet}
@@ -228,6 +228,13 @@ one_stays named (SheetHidden sheet hidden) id row col leaves there =
     cell_kept (λ content. content) row col (sheet_with id named.book.sheets) _ changed
     (find_kept changed (λ one. id_if (one.id == sheet) (marked_hidden hidden one) one refl) id named.book.sheets)
     (if_some (sheet_with id named.book.sheets) (λ one. cell_if (one.id == sheet) (marked_hidden hidden one) one row col refl
+    ∙ kept_as_is (one.cells row col)))
+one_stays named (MergesSet sheet merges) id row col leaves there =
+    let by_names : List NameArea = map (area_named (orders_of named.book.sheets)) merges in
+    let changed : NameSheet → NameSheet = λ one. cond (one.id == sheet) (merged by_names one) one in
+    cell_kept (λ content. content) row col (sheet_with id named.book.sheets) _ changed
+    (find_kept changed (λ one. id_if (one.id == sheet) (merged by_names one) one refl) id named.book.sheets)
+    (if_some (sheet_with id named.book.sheets) (λ one. cell_if (one.id == sheet) (merged by_names one) one row col refl
     ∙ kept_as_is (one.cells row col)))
 one_stays named (RangeAdded range) id row col leaves there = kept_as_is (cell_of id row col named.book)
 one_stays named (RangeChanged range) id row col leaves there = kept_as_is (cell_of id row col named.book)

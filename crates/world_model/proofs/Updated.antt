@@ -11,6 +11,7 @@ use Rattle.ref_rewrite.specs.declared.cell_content.Content.{Content}
 use Rattle.world_model.specs.Content.{NameContent, content_named}
 use Rattle.world_model.specs.Ranges.{range_named}
 use Rattle.world_model.specs.Sheet.{NameSheet, PlaceSheet}
+use Rattle.world_model.specs.Area.{area_named}
 use Rattle.world_model.specs.Book.{NameBook, PlaceBook, orders_of}
 use Rattle.world_model.specs.StandsFor.{SheetStandsFor, BookStandsFor}
 use Rattle.world_model.specs.Updating.{Updates, no_updates, with_update, place_in, update_named, sheet_updated, book_updated}
@@ -21,6 +22,7 @@ use Rattle.world_model.specs.Writing.{sheet_put, book_put}
 use Rattle.world_model.proofs.Found.{each_found}
 use Rattle.world_model.proofs.Lines.{KeepsLines, orders_stay_same}
 use Rattle.world_model.proofs.Written.{SameNames, written_is_same, same_lines, cells_chosen}
+use Rattle.world_model.proofs.StillStands.{merges_stand}
 use Rattle.world_model.proofs.WrittenSound.{put_same, item_put}
 
 -- ---- by one write after another
@@ -39,6 +41,7 @@ none_in id (s ∷ ss) = (
     rows = refl;
     cols = refl;
     items = λ row col. chosen_same (s.id == id) (item_at s.table row col);
+    merges = refl;
   },
   none_in id ss,
 )
@@ -73,6 +76,7 @@ module _ (id row col : ℕ) (content : Option Content) (updates : Updates) where
             (so_far.items row' col')
             ∙ one_more (before.id == id) (row' == row && col' == col) content (updates row' col')
             (item_at before.table row' col');
+        merges = same.merges ∙ so_far.merges;
       }
 
   all_in : (befores betweens : List PlaceSheet) → AllZip (SheetUpdated id updates) befores betweens
@@ -148,6 +152,7 @@ module _ (id : ℕ) (updates updates' : Updates) where
         ∙ same_chosen (before.id == id) (unwrap_or (updates row col) (item_at before.table row col))
         (unwrap_or (updates' row col) (item_at before.table row col)) (item_at before.table row col)
         (λ own. same own row col);
+    merges = is.merges;
   }
 
   all_same : (befores afters : List PlaceSheet) → All (λ sheet. (sheet.id == id) ≡ true → MakesSame sheet) befores
@@ -341,6 +346,10 @@ module _ (sheets : List NameSheet) (id : ℕ) (updates : Updates) where
         cells_chosen (names.id == id) names (cells_after names) r c
         ∙ stays_nothing (names.id == id) (update_named (orders_of sheets) names updates r c) (names.cells r c)
         (entry_nowhere names r c gone) (stands.nowhere_else r c gone);
+    merges = merges_stand (orders_of sheets) (orders_of (map after sheets)) before.merges after'.merges names.merges
+        (after names).merges (after_same names).merges
+        (ap (λ orders. map (area_named orders) before.merges) (sym same_orders)
+        ∙ ap (map (area_named (orders_of (map after sheets)))) (sym updated.merges)) stands.merges;
   }
 
   sheets_follow : (befores afters : List PlaceSheet) (names : List NameSheet)

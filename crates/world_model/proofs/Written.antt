@@ -15,11 +15,13 @@ use Rattle.ref_rewrite.specs.declared.cell_content.Content.{Content}
 use Rattle.world_model.specs.Content.{NameContent, content_named}
 use Rattle.world_model.specs.Ranges.{range_named}
 use Rattle.world_model.specs.Sheet.{NameSheet, PlaceSheet, lines_of}
+use Rattle.world_model.specs.Area.{area_named}
 use Rattle.world_model.specs.Book.{NameBook, PlaceBook, orders_of, sheet_with}
 use Rattle.world_model.specs.StandsFor.{SheetStandsFor, BookStandsFor}
 use Rattle.world_model.specs.Writing.{cells_written, sheet_written, book_written, table_written, sheet_put, book_put}
 use Rattle.world_model.specs.Sound.{IsContentWithin, place_sheet_with}
 use Rattle.world_model.proofs.Puts.{SameSheet, put_is_same, item_written, item_chosen, same_place}
+use Rattle.world_model.proofs.StillStands.{merges_stand}
 use Rattle.world_model.proofs.WrittenSound.{stays_sound}
 use Rattle.world_model.proofs.Found.{IsOwn, own_sheets, holds_if_found}
 use Rattle.world_model.proofs.Lines.{KeepsLines, orders_stay_same, lines_there, line_has_one_place, listed}
@@ -59,11 +61,26 @@ pub record SameNames (one other : NameSheet) : Type 0 where
   pub hidden : one.hidden ≡ other.hidden
   pub rows : one.rows ≡ other.rows
   pub cols : one.cols ≡ other.cols
+  pub merges : one.merges ≡ other.merges
 
 pub written_is_same : (b : Bool) (names : NameSheet) (cells : ℕ → ℕ → Option NameContent)
     → SameNames (cond b (record names { cells = cells }) names) names
-written_is_same true names cells = record { id = refl; title = refl; hidden = refl; rows = refl; cols = refl }
-written_is_same false names cells = record { id = refl; title = refl; hidden = refl; rows = refl; cols = refl }
+written_is_same true names cells = record {
+  id = refl;
+  title = refl;
+  hidden = refl;
+  rows = refl;
+  cols = refl;
+  merges = refl;
+}
+written_is_same false names cells = record {
+  id = refl;
+  title = refl;
+  hidden = refl;
+  rows = refl;
+  cols = refl;
+  merges = refl;
+}
 
 pub same_lines : (one other : NameSheet) (axis : Axis) → SameNames one other → lines_of one axis ≡ lines_of other axis
 same_lines one other Rows same = same.rows
@@ -182,6 +199,10 @@ module _ (sheets : List NameSheet) (id row col r c : ℕ) (content : Option Cont
           cells_chosen (names.id == id) names (cells_written r c (option_map named content) names.cells) r' c'
           ∙ not_there (names.id == id) (r' == r && c' == c) (option_map named content) (names.cells r' c')
           (elsewhere sheet names stands own r' c' gone) (stands.nowhere_else r' c' gone);
+      merges = merges_stand (orders_of sheets) (orders_of (map after sheets)) sheet.merges (put sheet).merges
+          names.merges (after names).merges (after_same names).merges
+          (ap (λ orders. map (area_named orders) sheet.merges) (sym same_orders)
+          ∙ ap (map (area_named (orders_of (map after sheets)))) (sym (put_same sheet).merges)) stands.merges;
     }
 
     sheets_follow : (some : List PlaceSheet) (names : List NameSheet) → AllZip (SheetStandsFor sheets) some names

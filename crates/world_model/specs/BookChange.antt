@@ -1,16 +1,19 @@
 -- What requests make of a spreadsheet, by the names of its lines (Google Sheets API v4 reference, Request): cells are
--- updated, lines of a sheet are inserted, deleted or moved, a sheet is added, deleted, or gets another title or mark, a
--- named range is added, changed or deleted, and words of formulas become another one. A line that is inserted, or that a
--- new sheet has, gets the next name, which no line ever had. A change is told where it can be made: its sheet is there,
--- its places are, and a change of lines fits.
+-- updated, lines of a sheet are inserted, deleted or moved, a sheet is added, deleted, or gets another title, another
+-- mark or other merges, a named range is added, changed or deleted, and words of formulas become another one. A line
+-- that is inserted, or that a new sheet has, gets the next name, which no line ever had. A change is told where it can
+-- be made: its sheet is there, its places are, a change of lines fits and tears no merge, and merges are such as the
+-- sheet can have.
 use Rattle.std.specs.Prelude.{◌≡◌, ℕ, Bool, ◌+◌, ◌++◌, ◌==◌, List, [], ◌∷◌, map, filter, take, drop, not, None, if◌then◌else◌}
 use Rattle.std.specs.List.{fold, range_with_len}
 use Rattle.std.specs.Option.{option_map}
 use Rattle.std.specs.Str.{bytes_eq, str_eq_ignore_ascii_case}
 use Rattle.grid_range.specs.Change.{inserted_lines, order_change}
+use Rattle.grid_range.specs.declared.area.Area.{Area}
 use Rattle.grid_range.specs.declared.axis.Axis.{Axis}
 use Rattle.grid_range.specs.declared.change.Change.{Change}
 use Rattle.named_ranges.specs.declared.range.NamedRange.{NamedRange}
+use Rattle.world_model.specs.Area.{NameArea, area_named}
 use Rattle.world_model.specs.Book.{NameBook, PlaceBook, orders_of}
 use Rattle.world_model.specs.Content.{NameContent, NamePiece}
 use Rattle.world_model.specs.LineChange.{book_changed}
@@ -29,7 +32,7 @@ pub record NewSheet : Type 0 where
   pub cols : ℕ
 
 -- one change of a spreadsheet; sheets and named ranges are known by their ids, and a sheet is added before the one at a
--- place, or last; a range is told by the places of its lines
+-- place, or last; a range and a merge are told by the places of their lines
 pub data BookChange : Type 0 where
   CellsUpdated : (sheet : ℕ) (updates : Updates) → BookChange
   LinesChanged : (sheet : ℕ) (axis : Axis) (change : Change) → BookChange
@@ -41,6 +44,7 @@ pub data BookChange : Type 0 where
   RangeChanged : (range : NamedRange) → BookChange
   RangeDeleted : (id : List ℕ) → BookChange
   WordsRenamed : (old new : List ℕ) → BookChange
+  MergesSet : (sheet : ℕ) (merges : List Area) → BookChange
 
 -- a spreadsheet by the names of its lines, and the name that the next new line gets
 pub record Named : Type 0 where
@@ -61,6 +65,7 @@ new_sheet next sheet = record {
   rows = range_with_len next sheet.rows;
   cols = range_with_len (next + sheet.rows) sheet.cols;
   cells = λ row col. None;
+  merges = [];
 }
 
 abbrev pub sheet_added : ℕ → NameSheet → NameBook → NameBook
@@ -104,6 +109,15 @@ titled title sheet = record sheet { title = title }
 
 abbrev pub marked_hidden : Bool → NameSheet → NameSheet
 marked_hidden hidden sheet = record sheet { hidden = hidden }
+
+-- ---- a sheet gets other merges
+
+abbrev pub merged : List NameArea → NameSheet → NameSheet
+merged merges sheet = record sheet { merges = merges }
+
+-- the merges of the sheet are these and no others
+abbrev pub merges_set : ℕ → List NameArea → NameBook → NameBook
+merges_set id merges book = on_sheet id (merged merges) book
 
 -- ---- a named range is added, changed or deleted
 
@@ -171,6 +185,8 @@ changed_by named (BookChange.RangeChanged range) =
     record named { book = range_changed (range_named (orders_of named.book.sheets) range) named.book }
 changed_by named (BookChange.RangeDeleted id) = record named { book = range_deleted id named.book }
 changed_by named (BookChange.WordsRenamed old new) = record named { book = words_renamed old new named.book }
+changed_by named (BookChange.MergesSet sheet merges) =
+    record named { book = merges_set sheet (map (area_named (orders_of named.book.sheets)) merges) named.book }
 
 -- one change after another
 abbrev pub changed_by_all : Named → List BookChange → Named

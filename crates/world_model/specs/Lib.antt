@@ -16,6 +16,7 @@ pub mod SheetChange
 pub mod SheetLaws
 pub mod RangeChange
 pub mod RangeLaws
+pub mod MergeLaws
 pub mod Making
 pub mod Laws
 pub mod ChangingLaws

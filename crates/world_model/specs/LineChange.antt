@@ -1,10 +1,12 @@
 -- What a spreadsheet becomes when lines of a sheet are inserted, deleted or moved, by the names of lines:
 -- insertDimension, deleteDimension and moveDimension of the Google Sheets API v4. Cells keep their names, and the
--- cells of lines that went are gone; each reference to the sheet, and each named range of it, follows its lines.
-use Rattle.std.specs.Prelude.{ℕ, List, map, Option, None, Some, ◌==◌, ◌&&◌, if◌then◌else◌}
+-- cells of lines that went are gone; each reference to the sheet, each named range of it and each of its merges follows
+-- its lines.
+use Rattle.std.specs.Prelude.{ℕ, Bool, false, List, length, map, Option, None, Some, option_and_then, nat_lt, ◌==◌, ◌&&◌, ◌||◌, if◌then◌else◌}
 use Rattle.std.specs.List.{filter_map}
 use Rattle.std.specs.Option.{option_map, option_map_or}
 use Rattle.grid_range.specs.Following.{follow}
+use Rattle.grid_range.specs.NameBand.{NameBand}
 use Rattle.grid_range.specs.Order.{is_among}
 use Rattle.grid_range.specs.OrderChange.{OrderChange, order_after, changed_names}
 use Rattle.grid_range.specs.declared.axis.Axis.{Axis}
@@ -52,6 +54,18 @@ name_content_followed to (NameContent.Formula pieces) = NameContent.Formula (map
 abbrev pub name_range_followed : LineChange → NameRange → Option NameRange
 name_range_followed to range = option_map (λ area. record range { area = area }) (name_area_followed to range.area)
 
+-- the band is one of more than one line side by side
+abbrev pub has_many_names : NameBand → Bool
+has_many_names (NameBand.Closed names) = nat_lt 1 (length names)
+has_many_names NameBand.Whole = false
+has_many_names (NameBand.Open names) = false
+
+-- a merge follows as any area does, and goes where it is lost, or where one cell of it is left
+abbrev pub name_merge_followed : LineChange → NameArea → Option NameArea
+name_merge_followed to merge =
+    option_and_then (λ area. if has_many_names area.rows || has_many_names area.cols then Some area else None)
+    (name_area_followed to merge)
+
 -- the sheet with other lines on the axis
 abbrev pub with_lines : Axis → List ℕ → NameSheet → NameSheet
 with_lines Rows order sheet = record sheet { rows = order }
@@ -64,13 +78,15 @@ cells_followed to sheet row col =
     then option_map (name_content_followed to) (sheet.cells row col)
     else None
 
-abbrev pub with_cells_followed : LineChange → NameSheet → NameSheet
-with_cells_followed to sheet = record sheet { cells = cells_followed to sheet }
+-- its cells follow, and so do its merges
+abbrev pub with_all_followed : LineChange → NameSheet → NameSheet
+with_all_followed to sheet =
+    record sheet { cells = cells_followed to sheet; merges = filter_map (name_merge_followed to) sheet.merges }
 
--- the sheet that is changed has the new order, and the cells of all sheets follow
+-- the sheet that is changed has the new order, and the cells and merges of all sheets follow
 abbrev pub sheet_followed : LineChange → NameSheet → NameSheet
 sheet_followed to sheet =
-    with_cells_followed to (if sheet.id == to.sheet then with_lines to.axis to.order sheet else sheet)
+    with_all_followed to (if sheet.id == to.sheet then with_lines to.axis to.order sheet else sheet)
 
 -- the change of the order of a sheet's lines on an axis
 abbrev pub line_change : List NameSheet → ℕ → Axis → OrderChange → LineChange

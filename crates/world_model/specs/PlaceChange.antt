@@ -1,5 +1,5 @@
 -- A change of the lines of a sheet by places, which is what a program does: items go with their lines, and the
--- references of formulas and the named ranges follow by their numbers.
+-- references of formulas, the named ranges and the merges follow by their numbers.
 use Rattle.std.specs.Prelude.{◌≡◌, ◌≢◌, ℕ, map}
 use Rattle.std.specs.List.{AllZip, filter_map}
 use Rattle.std.specs.Option.{option_map}
@@ -7,6 +7,8 @@ use Rattle.grid_range.specs.declared.axis.Axis.{Axis}
 use Rattle.grid_range.specs.declared.change.Change.{Change}
 use Rattle.cell_store.specs.Moved.{GoesWithLines}
 use Rattle.cell_store.specs.Table.{Table, item_at}
+use Rattle.merge_ranges.specs.Calls.{ListsJust}
+use Rattle.merge_ranges.specs.Following.{CameFrom, KeepsAll}
 use Rattle.named_ranges.specs.Following.{range_followed}
 use Rattle.ref_rewrite.specs.Following.{piece_followed}
 use Rattle.ref_rewrite.specs.declared.cell_content.Content.{Content}
@@ -30,7 +32,8 @@ pub record FollowsInPlace (sheet : ℕ) (axis : Axis) (count : ℕ) (change : Ch
   pub items : (row col : ℕ) → item_at after row col
       ≡ option_map (content_followed sheet axis count change) (item_at before row col)
 
--- the items of the sheet that is changed go with their lines, and then each item follows in its place
+-- the items of the sheet that is changed go with their lines, and then each item follows in its place; its merges, each
+-- of which a move leaves whole, become those that they are followed to; another sheet keeps its own
 pub record SheetChanged (changed : ℕ) (axis : Axis) (count : ℕ) (change : Change) (before after : PlaceSheet) : Type 0 where
   pub id : after.id ≡ before.id
   pub title : after.title ≡ before.title
@@ -39,6 +42,9 @@ pub record SheetChanged (changed : ℕ) (axis : Axis) (count : ℕ) (change : Ch
   pub goes : before.id ≡ changed → GoesWithLines axis change before.table moved
   pub stays : before.id ≢ changed → moved ≡ before.table
   pub followed : FollowsInPlace changed axis count change moved after.table
+  pub whole : before.id ≡ changed → KeepsAll axis count change before.merges
+  pub merges_follow : before.id ≡ changed → ListsJust (CameFrom axis count change before.merges) after.merges
+  pub merges_stay : before.id ≢ changed → after.merges ≡ before.merges
 
 -- the sheet with the id, which has `count` lines on the axis, is changed, and each sheet and each range follows
 pub record BookChanged (changed : ℕ) (axis : Axis) (count : ℕ) (change : Change) (before after : PlaceBook) : Type 0 where

@@ -1,9 +1,11 @@
--- What a spreadsheet becomes by places when a sheet is added, is deleted, or gets another title or mark, which is what
--- a program does: addSheet, deleteSheet and updateSheetProperties of the Google Sheets API v4.
-use Rattle.std.specs.Prelude.{◌≡◌, ◌⊎◌, ℕ, Bool, ◌++◌, ◌==◌, List, ◌∷◌, map, filter, take, drop, not, if◌then◌else◌}
+-- What a spreadsheet becomes by places when a sheet is added, is deleted, or gets another title, another mark or other
+-- merges, which is what a program does: addSheet, deleteSheet, updateSheetProperties, mergeCells and unmergeCells of
+-- the Google Sheets API v4.
+use Rattle.std.specs.Prelude.{◌≡◌, ◌⊎◌, ℕ, Bool, ◌++◌, ◌==◌, List, [], ◌∷◌, map, filter, take, drop, not, if◌then◌else◌}
 use Rattle.std.specs.List.{AllZip}
 use Rattle.std.specs.Option.{option_map}
 use Rattle.cell_store.specs.Table.{empty_table, item_at}
+use Rattle.grid_range.specs.declared.area.Area.{Area}
 use Rattle.named_ranges.specs.Following.{ranges_elsewhere}
 use Rattle.ref_rewrite.specs.Following.{piece_without_sheet}
 use Rattle.ref_rewrite.specs.declared.cell_content.Content.{Content}
@@ -23,6 +25,7 @@ new_place_sheet sheet = record {
   title = sheet.title;
   hidden = sheet.hidden;
   table = empty_table sheet.rows sheet.cols;
+  merges = [];
 }
 
 abbrev pub place_sheet_added : ℕ → PlaceSheet → PlaceBook → PlaceBook
@@ -47,6 +50,7 @@ pub record LosesReferences (sheet : ℕ) (before after : PlaceSheet) : Type 0 wh
   pub cols : after.table.cols ≡ before.table.cols
   pub items : (row col : ℕ) → item_at after.table row col
       ≡ option_map (content_without sheet) (item_at before.table row col)
+  pub merges : after.merges ≡ before.merges
 
 abbrev pub other_sheets : ℕ → List PlaceSheet → List PlaceSheet
 other_sheets id sheets = filter (λ sheet. not (sheet.id == id)) sheets
@@ -78,3 +82,12 @@ place_titled title sheet = record sheet { title = title }
 
 abbrev pub place_marked_hidden : Bool → PlaceSheet → PlaceSheet
 place_marked_hidden hidden sheet = record sheet { hidden = hidden }
+
+-- ---- a sheet gets other merges
+
+abbrev pub place_merged : List Area → PlaceSheet → PlaceSheet
+place_merged merges sheet = record sheet { merges = merges }
+
+-- the merges of the sheet are these and no others
+abbrev pub place_merges_set : ℕ → List Area → PlaceBook → PlaceBook
+place_merges_set id merges book = on_place_sheet id (place_merged merges) book

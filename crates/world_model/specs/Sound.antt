@@ -1,7 +1,8 @@
 -- What always holds of a spreadsheet: it has a visible sheet, no two sheets have one id or one title, a sheet has a
 -- row and a column, its items stand in it, and each reference of a formula is to a sheet that is there, to lines
 -- that this has, and of a form that A1 notation has. Each named range is on a sheet that is there, too, and of lines
--- that this has. The sheets and their places are within the limits.
+-- that this has. The merges of a sheet lie in it, and none overlaps another. The sheets and their places are within the
+-- limits.
 use Rattle.std.specs.Prelude.{◌≡◌, ◌≢◌, ◌<◌, ◌≤◌, ℕ, false, List, length, Option, ◌==◌, IsSomeAnd, IfSome, ⊤}
 use Rattle.std.specs.List.{All, AllPairs, find, list_all}
 use Rattle.std.specs.Str.{str_eq_ignore_ascii_case}
@@ -12,6 +13,7 @@ use Rattle.grid_range.specs.declared.axis.Axis.TheVariants.{Rows, Columns}
 use Rattle.grid_range.specs.declared.band.Band.{Band}
 use Rattle.grid_range.specs.declared.band.Band.TheVariants.{Whole, Span}
 use Rattle.cell_store.specs.Table.{HasItemsInside, item_at}
+use Rattle.merge_ranges.specs.Merges.{AreMerges}
 use Rattle.ref_rewrite.specs.declared.cell_content.Content.{Content}
 use Rattle.ref_rewrite.specs.declared.cell_content.Content.TheVariants as content
 use Rattle.ref_rewrite.specs.declared.pieces.Piece.{Piece}
@@ -52,6 +54,12 @@ IsContentWithin sheets (content.Number number) = ⊤
 IsContentWithin sheets (content.Text text) = ⊤
 IsContentWithin sheets (content.Truth truth) = ⊤
 
+-- the sheet can have these merges: rectangles of more than one cell, none of which overlaps another, by first row, then
+-- by first column; and each is of the sheet, and of lines that this has
+abbrev pub AreMergesOf : PlaceSheet → List Area → Type 0
+AreMergesOf sheet merges = AreMerges merges
+    × All (λ merge. (merge.sheet ≡ sheet.id) × AreaWithin merge sheet.table.rows sheet.table.cols) merges
+
 -- how many rows, and how many columns, a sheet can have (Google Drive help, files you can store: a sheet's last
 -- column is ZZZ; the bound on rows is this project's)
 abbrev pub most_on : Axis → ℕ
@@ -70,13 +78,14 @@ most_sheets = 200
 abbrev pub most_places : ℕ
 most_places = 10000000
 
--- the sheet has a title, a row and a column, each item stands in it, and its references are within
+-- the sheet has a title, a row and a column, each item stands in it, its references are within, and so are its merges
 pub record IsSheetSound (sheets : List PlaceSheet) (sheet : PlaceSheet) : Type 0 where
   pub titled : 0 < length sheet.title
   pub rows : IsLineCount Rows sheet.table.rows
   pub cols : IsLineCount Columns sheet.table.cols
   pub inside : HasItemsInside sheet.table
   pub within : (row col : ℕ) → IfSome (item_at sheet.table row col) (IsContentWithin sheets)
+  pub merges : AreMergesOf sheet sheet.merges
 
 -- titles are one ignoring ASCII case
 pub record IsSound (book : PlaceBook) : Type 0 where

@@ -1,9 +1,10 @@
 -- When what a program keeps, by places, stands for what is meant, by names.
-use Rattle.std.specs.Prelude.{◌≡◌, ℕ, List, length, Some, None, Contains, map, slice_get}
+use Rattle.std.specs.Prelude.{◌≡◌, ◌↔◌, ℕ, List, length, Some, None, Contains, map, slice_get}
 use Rattle.std.specs.List.{AllZip}
 use Rattle.std.specs.Option.{option_map}
 use Rattle.grid_range.specs.Order.{IsOrder}
 use Rattle.cell_store.specs.Table.{item_at}
+use Rattle.world_model.specs.Area.{NameArea, area_named}
 use Rattle.world_model.specs.Book.{NameBook, PlaceBook, orders_of}
 use Rattle.world_model.specs.Content.{content_named}
 use Rattle.world_model.specs.Ranges.{range_named}
@@ -11,7 +12,8 @@ use Rattle.world_model.specs.Sheet.{NameSheet, PlaceSheet}
 use Rattle.world_model.specs.Sound.{IsSound}
 
 -- both have one id, title, mark and size, no line has two names of an order, the item at a place is, with its
--- references by names, what is stored in the cell of the lines at that place, and no other cell has anything
+-- references by names, what is stored in the cell of the lines at that place, no other cell has anything, and both have
+-- the same merges, whatever their order
 pub record SheetStandsFor (sheets : List NameSheet) (sheet : PlaceSheet) (names : NameSheet) : Type 0 where
   pub id : sheet.id ≡ names.id
   pub title : sheet.title ≡ names.title
@@ -23,6 +25,8 @@ pub record SheetStandsFor (sheets : List NameSheet) (sheet : PlaceSheet) (names 
   pub cells : (row col r c : ℕ) → slice_get names.rows row ≡ Some r → slice_get names.cols col ≡ Some c
       → names.cells r c ≡ option_map (content_named (orders_of sheets)) (item_at sheet.table row col)
   pub nowhere_else : (r c : ℕ) → ¬ (Contains names.rows r × Contains names.cols c) → names.cells r c ≡ None
+  pub merges : (area : NameArea)
+      → Contains names.merges area ↔ Contains (map (area_named (orders_of sheets)) sheet.merges) area
 
 -- what is kept by places is sound, and both are one spreadsheet, sheet by sheet and range by range
 pub record BookStandsFor (book : PlaceBook) (names : NameBook) : Type 0 where

@@ -58,6 +58,7 @@ pub record SheetUpdated (sheet : ℕ) (updates : Updates) (before after : PlaceS
   pub rows : after.table.rows ≡ before.table.rows
   pub cols : after.table.cols ≡ before.table.cols
   pub items : (row col : ℕ) → item_at after.table row col ≡ item_updated sheet updates before row col
+  pub merges : after.merges ≡ before.merges
 
 pub record BookUpdated (sheet : ℕ) (updates : Updates) (before after : PlaceBook) : Type 0 where
   pub id : after.id ≡ before.id

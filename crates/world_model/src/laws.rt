@@ -5,6 +5,7 @@ ghost use Rattle.world_model.specs.Laws.{UpdatesFollow, UpdatesAreWrites, IdsFin
 
 use cell_store::tables_by_items;
 use grid_range::{orders_stay, places_all, places_stay_below, tracks_all, tracks_stay_within};
+use merge_ranges::{followed_stay_merges, lists_are_same};
 use ref_rewrite::Content;
 
 /// What is put at a place stands for what is written into the cell of the lines at that place.
@@ -26,6 +27,7 @@ pub fn changes_follow()
     orders_stay();
     tracks_stay_within();
     places_stay_below();
+    followed_stay_merges();
 }
 
 /// What always holds of a spreadsheet holds after a change of lines.
@@ -34,6 +36,7 @@ pub fn changes_stay_sound()
 {
     tracks_stay_within();
     places_stay_below();
+    followed_stay_merges();
 }
 
 /// What is sound stands for something by names.
@@ -46,6 +49,7 @@ pub fn stands_for_apart()
     ensures { StandsForApart }
 {
     tables_by_items::<Content>();
+    lists_are_same();
 }
 
 /// A spreadsheet stores no more cells than it has places.

@@ -4,6 +4,7 @@
 
 mod changing;
 mod laws;
+mod merges;
 mod ranges;
 mod sheets;
 mod staying;
@@ -14,6 +15,7 @@ pub use laws::{
     replacements_follow, stands_for_apart, stands_for_some, updates_are_writes, updates_follow,
     writes_follow, writes_stay_sound,
 };
+pub use merges::merges_are_set;
 pub use ranges::{ranges_added, ranges_changed, ranges_deleted, words_are_renamed};
 pub use sheets::{books_made, sheets_added, sheets_deleted, sheets_hidden, sheets_titled};
 pub use staying::untouched_cells_stay;

@@ -6,6 +6,5 @@ returns c = record {
   once = λ caller called books sound.
       answered_once c.a1_laws.ensures.one_reading c.new_sheets_once.ensures c.shows_once.ensures c.writes_once.ensures
       c.appends_once.ensures c.changes_apart.ensures
-      c.changes_in_turn.ensures books
-      sound caller called;
+      c.changes_in_turn.ensures c.lists_are_same.ensures books sound caller called;
 }

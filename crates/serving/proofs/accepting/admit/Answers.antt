@@ -1,17 +1,12 @@
-use Rattle.std.proofs.Common.{refl, sym, subst, ◌∙◌, ap, ◌++◌, ◌∷◌, []}
+use Rattle.std.proofs.Common.{refl, ◌∙◌, ap, ◌++◌, ◌∷◌, []}
 use Rattle.connections.specs.Calls.{IsAnswer}
-use Rattle.connections.specs.Doors.{link_seen}
-use Rattle.serving.specs.Serving.{Accepting, HasAsked}
-use Rattle.serving.proofs.Standing.{asked_away, asked_again, started, handed_back}
+use Rattle.serving.proofs.Standing.{asked_as, asked_away, asked_again, started, handed_back}
 use Rattle.serving.proofs.accepting.admit.Goals as goal
 
 pub serve_here-requires-in_default-lend-clause-asked : goal.serve_here-requires-in_default-lend-clause-asked
 serve_here-requires-in_default-lend-clause-asked g c κs within =
     asked_again (IsAnswer g.E.Engine.plain g.K.Keeper.failures g.K.Keeper.steady) _ _ _
-    (subst (λ (a : Accepting _ _ _). HasAsked (IsAnswer g.E.Engine.plain g.K.Keeper.failures g.K.Keeper.steady) a
-    (link_seen g.D.Link.Source.left g.D.Link.Sink.written g.D.Link.Source.faults g.D.Link.Sink.sink_faults
-    g.D.Link.Sink.sink_shortages c.args.link) (g.D.Doors.shown c.args.doors.now))
-    (sym c.acceptor.view_is) c.requires.asked)
+    (asked_as (IsAnswer g.E.Engine.plain g.K.Keeper.failures g.K.Keeper.steady) _ _ _ _ c.acceptor.view_is c.requires.asked)
     _ refl refl refl c.reserve.ensures.items c.lend.ensures.old c.lend.ensures.same.1
     (record {
       drawing = c.lend.ensures.same.2;
@@ -24,18 +19,12 @@ serve_here-requires-in_default-lend-clause-asked g c κs within =
 pub take_back-requires-clause-away : goal.take_back-requires-clause-away
 take_back-requires-clause-away g c κs within =
     asked_away (IsAnswer g.E.Engine.plain g.K.Keeper.failures g.K.Keeper.steady) _ _ _
-    (subst (λ (a : Accepting _ _ _). HasAsked (IsAnswer g.E.Engine.plain g.K.Keeper.failures g.K.Keeper.steady) a
-    (link_seen g.D.Link.Source.left g.D.Link.Sink.written g.D.Link.Source.faults g.D.Link.Sink.sink_faults
-    g.D.Link.Sink.sink_shortages c.args.link) (g.D.Doors.shown c.args.doors.now))
-    (sym c.acceptor.view_is) c.requires.asked)
+    (asked_as (IsAnswer g.E.Engine.plain g.K.Keeper.failures g.K.Keeper.steady) _ _ _ _ c.acceptor.view_is c.requires.asked)
 
 pub returns-in-Ok-start-clause-stands : goal.returns-in-Ok-start-clause-stands
 returns-in-Ok-start-clause-stands g c =
     started (IsAnswer g.E.Engine.plain g.K.Keeper.failures g.K.Keeper.steady) _ _ _
-    (subst (λ (a : Accepting _ _ _). HasAsked (IsAnswer g.E.Engine.plain g.K.Keeper.failures g.K.Keeper.steady) a
-    (link_seen g.D.Link.Source.left g.D.Link.Sink.written g.D.Link.Source.faults g.D.Link.Sink.sink_faults
-    g.D.Link.Sink.sink_shortages c.args.link) (g.D.Doors.shown c.args.doors.now))
-    (sym c.acceptor.view_is) c.requires.asked)
+    (asked_as (IsAnswer g.E.Engine.plain g.K.Keeper.failures g.K.Keeper.steady) _ _ _ _ c.acceptor.view_is c.requires.asked)
     c.lend.new.from c.in-Ok.pass
     (record {
       pass_is = c.lend.ensures.old;
@@ -58,10 +47,7 @@ returns-in-Ok-start-clause-stands g c =
 pub returns-in-Err-clause-stands : goal.returns-in-Err-clause-stands
 returns-in-Err-clause-stands g c =
     handed_back (IsAnswer g.E.Engine.plain g.K.Keeper.failures g.K.Keeper.steady) _ _ _
-    (subst (λ (a : Accepting _ _ _). HasAsked (IsAnswer g.E.Engine.plain g.K.Keeper.failures g.K.Keeper.steady) a
-    (link_seen g.D.Link.Source.left g.D.Link.Sink.written g.D.Link.Source.faults g.D.Link.Sink.sink_faults
-    g.D.Link.Sink.sink_shortages c.args.link) (g.D.Doors.shown c.args.doors.now))
-    (sym c.acceptor.view_is) c.requires.asked)
+    (asked_as (IsAnswer g.E.Engine.plain g.K.Keeper.failures g.K.Keeper.steady) _ _ _ _ c.acceptor.view_is c.requires.asked)
     c.lend.new.from c.in-Ok.pass
     (record {
       pass_is = c.lend.ensures.old;

@@ -8,7 +8,7 @@ use Rattle.connections.proofs.memory.MemoryDoors.new.Goals as goal
 pub invariant_of-result : goal.invariant_of-result
 invariant_of-result g c =
     let comes = IsComing (link_seen g.L.Source.left g.L.Sink.written g.L.Source.faults g.L.Sink.sink_faults
-    g.L.Sink.sink_shortages) in
+    g.L.Sink.sink_shortages g.L.Source.steady g.L.Sink.sink_steady g.L.Duplex.references) in
     let room = c.in_ok-reserve.ensures.ok in let count = c.len.ensures in (
       omega (arith, room, count),
       All-permutation comes c.into_vec-coming.result.items c.reverse.new.self.items c.reverse.ensures.permutation

@@ -1,9 +1,10 @@
 use Rattle.std.proofs.Common.{◌≡◌, ◌≤◌, refl, sym, subst, ◌∙◌, map}
 use Rattle.std.specs.Arc.{arc_value}
-use Rattle.std.specs.Prelude.{IsSomeAnd}
+use Rattle.std.specs.Prelude.{IfSome, IsSomeAnd}
 use Rattle.world_model.specs.Book.{PlaceBook}
 use Rattle.world_model.specs.Sound.{most_places, place_sheet_with}
 use Rattle.dimension_ops.specs.Lines.{lines_of_sheet, places_changed}
+use Rattle.dimension_ops.specs.References.{TearsNone}
 use Rattle.dimension_ops.proofs.Changed.{all_can, has_places, same_ids}
 use Rattle.dimension_ops.proofs.Marking.{as_book}
 use Rattle.dimension_ops.proofs.book.Book.lines_changed.Goals as goal
@@ -15,6 +16,9 @@ sheets_changed-requires-clause-ready c =
     (subst (λ (book : PlaceBook). IsSomeAnd (place_sheet_with c.args.by.now.sheet book.sheets)
     (λ sheet. lines_of_sheet c.args.by.now.axis sheet ≡ c.args.by.now.count)) (sym c.self.view_is) c.requires.long)
     c.self.invariant.0.sheets c.self.invariant.0.distinct c.requires.room
+    (subst (λ (book : PlaceBook). IfSome (place_sheet_with c.args.by.now.sheet book.sheets)
+    (λ sheet. TearsNone c.args.by.now.axis c.args.by.now.count c.args.by.now.change.now sheet.merges))
+    (sym c.self.view_is) c.requires.untorn)
 
 pub invariant_of-result : goal.invariant_of-result
 invariant_of-result c =

@@ -11,7 +11,7 @@ use Rattle.dimension_ops.proofs.Opening.{opening_sound}
 use Rattle.dimension_ops.proofs.book.Book.opening.Goals as goal
 
 abbrev titled : List ℕ → PlaceSheet
-titled title = record { id = 0; title = title; hidden = false; table = empty_table 1000 26 }
+titled title = record { id = 0; title = title; hidden = false; table = empty_table 1000 26; merges = [] }
 
 pub invariant_of-result : goal.invariant_of-result
 invariant_of-result c =

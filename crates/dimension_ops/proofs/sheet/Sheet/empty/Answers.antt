@@ -7,6 +7,5 @@ pub invariant_of-result : goal.invariant_of-result
 invariant_of-result c = (
   sym (ap formulas_in c.in_ok-new.ensures.empty ∙ c.formulas_counted.ensures.none c.args.rows c.args.cols),
   none_marked c.args.rows c.args.cols _ _ c.in_ok-new.ensures.empty c.in_ok-new-2.ensures.empty,
-  c.new-3.ensures,
   refl,
 )

@@ -11,6 +11,7 @@ returns c = record {
   id = ap (λ (sheet : PlaceSheet). sheet.id) c.self.view_is;
   title = ap (λ (sheet : PlaceSheet). sheet.title) c.self.view_is;
   hidden = ap (λ (sheet : PlaceSheet). sheet.hidden) c.self.view_is;
+  merges = ap (λ (sheet : PlaceSheet). sheet.merges) c.self.view_is;
   followed = subst (λ (sheet : PlaceSheet). FollowsInPlace c.args.by.now.sheet c.args.by.now.axis c.args.by.now.count
       c.args.by.now.change.now sheet.table c.follow_places.new.cells.table) c.self.view_is
       (subst (FollowsInPlace c.args.by.now.sheet c.args.by.now.axis c.args.by.now.count c.args.by.now.change.now
@@ -27,7 +28,6 @@ invariant_of-self c = (
   kept_marked c.self.inside.cells.table c.follow_places.new.cells.table c.self.inside.marks.table c.follow_places.ensures.formulas
       c.self.invariant.1,
   c.self.invariant.2,
-  c.self.invariant.3,
 )
 
 pub invariant_of-self-2 : goal.invariant_of-self-2
@@ -36,5 +36,4 @@ invariant_of-self-2 c = (
   kept_marked c.self.inside.cells.table c.follow_places.new.cells.table c.self.inside.marks.table c.follow_places.ensures.formulas
       c.self.invariant.1,
   c.self.invariant.2,
-  c.self.invariant.3,
 )

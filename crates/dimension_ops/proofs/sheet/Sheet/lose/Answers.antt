@@ -16,6 +16,7 @@ returns c =
       id = ap (λ (sheet : PlaceSheet). sheet.id) c.self.view_is;
       title = ap (λ (sheet : PlaceSheet). sheet.title) c.self.view_is;
       hidden = ap (λ (sheet : PlaceSheet). sheet.hidden) c.self.view_is;
+      merges = ap (λ (sheet : PlaceSheet). sheet.merges) c.self.view_is;
       rows = ap (λ table. table.rows) c.in_ok-lose_places.ensures.lost
           ∙ rows_stay c.args.sheet c.self.inside.cells.table c.args.places.now are
           ∙ ap (λ (sheet : PlaceSheet). sheet.table.rows) c.self.view_is;
@@ -35,7 +36,6 @@ invariant_of-self c = (
   kept_marked c.self.inside.cells.table c.lose_places.new.cells.table c.self.inside.marks.table c.lose_places.ensures.formulas
       c.self.invariant.1,
   c.self.invariant.2,
-  c.self.invariant.3,
 )
 
 pub invariant_of-self-2 : goal.invariant_of-self-2
@@ -44,5 +44,4 @@ invariant_of-self-2 c = (
   kept_marked c.self.inside.cells.table c.lose_places.new.cells.table c.self.inside.marks.table c.lose_places.ensures.formulas
       c.self.invariant.1,
   c.self.invariant.2,
-  c.self.invariant.3,
 )

@@ -9,7 +9,6 @@ invariant_of-self c = (
   c.self.invariant.0,
   c.put_mark.ensures.others c.self.inside.cells.table c.self.invariant.1,
   c.self.invariant.2,
-  c.self.invariant.3,
 )
 
 pub invariant_of-self-in_err-old : goal.invariant_of-self-in_err-old
@@ -18,7 +17,6 @@ invariant_of-self-in_err-old c = (
   subst (λ table. AreMarked table c.put_mark.new.marks.table) (sym c.in_err-old.ensures.unchanged)
       (c.put_mark.ensures.others c.self.inside.cells.table c.self.invariant.1),
   c.self.invariant.2,
-  c.self.invariant.3,
 )
 
 pub invariant_of-self-2 : goal.invariant_of-self-2
@@ -43,5 +41,4 @@ invariant_of-self-2 c =
           (λ some. c.in_ok-put_mark.ensures.marked (omega (arith, some, c.formulas_at-added.ensures)))
           (c.put_mark.ensures.others table c.self.invariant.1)),
       c.self.invariant.2,
-      c.self.invariant.3,
     )

@@ -1,6 +1,0 @@
-use Rattle.values_api.specs.Given.{AreGivenBefore}
-use Rattle.values_api.proofs.given.Given.add_line.Given as goal
-
--- so far the cells of the values before this place
-abbrev pub invariant-loop-place : goal.invariant-loop-place
-invariant-loop-place l = AreGivenBefore l.self l.line l.place l.cells.items
