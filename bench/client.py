@@ -10,24 +10,31 @@ import time
 PROGRAM = os.path.join(os.path.dirname(os.path.abspath(__file__)), "..", "crates", "sheets", "out", "sheets")
 BOOK = "/v4/spreadsheets/book1"
 COLUMNS = 26
-HEAD = "HTTP/1.1\r\nHost: localhost\r\nAuthorization: Bearer owner\r\n"
+HEAD = "HTTP/1.1\r\nHost: localhost\r\n"
+OWNER = "owner"
 ROUNDS = 3
+
+
+def head(user):
+    """What stands behind the target of a user's request."""
+    return f"{HEAD}Authorization: Bearer {user}\r\n"
 
 
 def get(area, sheet="Sheet1"):
     """A read of an area."""
-    return f"GET {BOOK}/values/{sheet}!{area} {HEAD}\r\n".encode()
+    return f"GET {BOOK}/values/{sheet}!{area} {head(OWNER)}\r\n".encode()
 
 
-def sent(method, target, value):
+def sent(method, target, value, user=OWNER):
     """A request with a JSON value as its body."""
     body = json.dumps(value, separators=(",", ":"))
-    return f"{method} {target} {HEAD}Content-Length: {len(body)}\r\n\r\n{body}".encode()
+    return f"{method} {target} {head(user)}Content-Length: {len(body)}\r\n\r\n{body}".encode()
 
 
-def put(area, values, sheet="Sheet1", option="RAW"):
+def put(area, values, sheet="Sheet1", option="RAW", user=OWNER):
     """A write of values to an area."""
-    return sent("PUT", f"{BOOK}/values/{sheet}!{area}?valueInputOption={option}", {"values": values})
+    target = f"{BOOK}/values/{sheet}!{area}?valueInputOption={option}"
+    return sent("PUT", target, {"values": values}, user)
 
 
 def batch(*requests):

@@ -15,12 +15,12 @@ import sys
 import threading
 import time
 
-from client import BOOK, HEAD, PROGRAM
+from client import BOOK, OWNER, PROGRAM, head
 
 PORTS = 20000
-READ = f"GET {BOOK}/values/Sheet1!A1 {HEAD}\r\n".encode()
-LAST = f"GET {BOOK}/values/Sheet1!A1 {HEAD}Connection: close\r\n\r\n".encode()
-SLOW = f"PUT {BOOK}/values/Sheet1!A1?valueInputOption=RAW {HEAD}Content-Length: 16\r\n\r\n".encode() + b'{"values":[[7]]}'
+READ = f"GET {BOOK}/values/Sheet1!A1 {head(OWNER)}\r\n".encode()
+LAST = f"GET {BOOK}/values/Sheet1!A1 {head(OWNER)}Connection: close\r\n\r\n".encode()
+SLOW = f"PUT {BOOK}/values/Sheet1!A1?valueInputOption=RAW {head(OWNER)}Content-Length: 16\r\n\r\n".encode() + b'{"values":[[7]]}'
 
 
 def connected(port, source="127.0.0.1"):

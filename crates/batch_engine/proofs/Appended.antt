@@ -15,6 +15,7 @@ use Rattle.dimension_ops.specs.declared.rule.RuleOr.{RuleOr}
 use Rattle.dimension_ops.specs.declared.rule.RuleOr.TheVariants as refusal
 use Rattle.values_api.specs.Appends.{IsAppend, IsAppendUnless, IsAppended, answer_with, cell_area, limit_passed, lines_added, start_of, table_area}
 use Rattle.values_api.specs.Blocks.{IsWrite}
+use Rattle.values_api.specs.Denials.{IsWriteBy}
 use Rattle.values_api.specs.Ranges.{area_text}
 use Rattle.values_api.specs.declared.appending.Added.{Added}
 use Rattle.values_api.specs.declared.table.Rectangle.{Rectangle}
@@ -22,6 +23,7 @@ use Rattle.values_api.specs.declared.writing.Written.{Written}
 use Rattle.sheets_json.specs.declared.answer.Update.{Update as UpdateAnswer}
 use Rattle.batch_engine.specs.Members.{IsDoneTo}
 use Rattle.batch_engine.specs.Values.{Appended, IsAppendOn, IsTextOf, update_of}
+use Rattle.batch_engine.proofs.DeniedOnce.{done_of}
 use Rattle.batch_engine.proofs.Ranged.{some_and}
 
 abbrev Done : Type 0
@@ -45,18 +47,19 @@ done_not_refused done rule e = cc
 abbrev AreOf : ℕ → Done → Type 0
 AreOf sheet done = IfSome done.0 (λ (area : Area). area.sheet ≡ sheet) × (done.1.area.sheet ≡ sheet)
 
-module _ (sheet : ℕ) (added : Added) (start : ℕ × ℕ) (block : Block) (table : Option Rectangle)
+module _ (user : List ℕ) (sheet : ℕ) (added : Added) (start : ℕ × ℕ) (block : Block) (table : Option Rectangle)
     (changes : List BookChange) (before after : PlaceBook) (done : Done) where
   table_of : (found : Option Rectangle) → IfSome (option_map (table_area sheet) found) (λ (area : Area). area.sheet ≡ sheet)
   table_of None = tt
   table_of (Some one) = refl
 
   area_of : (own : PlaceSheet) (between : PlaceBook) (told : Result Written Rule)
-      → IsWrite true (cell_area sheet start) block own between after told → (written : Written) → told ≡ Ok written
+      → IsWriteBy user true (cell_area sheet start) block own between after told → (written : Written) → told ≡ Ok written
       → written.area.sheet ≡ sheet
   area_of own between told write written same =
       let wrote : IsWrite true (cell_area sheet start) block own between after (Ok written) =
-      subst (λ one. IsWrite true (cell_area sheet start) block own between after one) same write in
+      subst (λ one. IsWrite true (cell_area sheet start) block own between after one)
+      (done_of write.denied write.done written (sym same ∙ write.told_is)) write.is in
       ap (λ (area : Area). area.sheet) wrote.answered.1.area_is
 
   of_told : (told : Result Written Rule)
@@ -67,7 +70,7 @@ module _ (sheet : ℕ) (added : Added) (start : ℕ × ℕ) (block : Block) (tab
   of_told (Err rule) answered its = absurd (done_not_refused done rule answered)
 
   unless_of : (limit : Option Limit)
-      → IsAppendUnless limit (IsAppended sheet added start block table changes before after (Ok done)) changes (Ok done)
+      → IsAppendUnless limit (IsAppended user sheet added start block table changes before after (Ok done)) changes (Ok done)
       → AreOf sheet done
   unless_of None is = of_told is.told is.answered (area_of is.own is.between is.told is.write)
   unless_of (Some limit) is = absurd (done_not_refused done (PastLimit limit) is.1)
@@ -90,19 +93,19 @@ text_at (Some area) text id sheets own found same is =
 abbrev as_appended : Option (List ℕ) → UpdateAnswer → List BookChange → Result (Appended × List BookChange) Rule
 as_appended text update changes = Ok ((text, update), changes)
 
-module _ (insert : Bool) (block : Block) (area : Area) (before after : PlaceBook) where
+module _ (user : List ℕ) (insert : Bool) (block : Block) (area : Area) (before after : PlaceBook) where
   pub append_done : (table : Option Area) (written : Written) (text : Option (List ℕ)) (update : UpdateAnswer)
       → IsSomeAnd (place_sheet_with area.sheet before.sheets)
-      (λ sheet. IsUnlessNoMemory (IsAppend insert area block sheet before after) (Ok (table, written)))
+      (λ sheet. IsUnlessNoMemory (IsAppend user insert area block sheet before after) (Ok (table, written)))
       → IsTextOf table after.sheets text
       → IsSomeAnd (place_sheet_with written.area.sheet after.sheets) (λ sheet. update ≡ update_of after sheet written)
       → IsSomeAnd (place_sheet_with area.sheet before.sheets)
-      (λ sheet. IsUnlessNoMemory (IsDoneTo (IsAppendOn before insert block area sheet) before after) (Ok (text, update)))
+      (λ sheet. IsUnlessNoMemory (IsDoneTo (IsAppendOn user before insert block area sheet) before after) (Ok (text, update)))
   append_done table written text update appended texts told =
-      let (sheet, is, appends) = some_and (λ (sheet : PlaceSheet). IsAppend insert area block sheet before after (Ok (table, written)))
+      let (sheet, is, appends) = some_and (λ (sheet : PlaceSheet). IsAppend user insert area block sheet before after (Ok (table, written)))
       (place_sheet_with area.sheet before.sheets) appended in
       let added = lines_added insert (start_of appends.table area) block sheet in
-      let of = unless_of area.sheet added (start_of appends.table area) block appends.table appends.changes before after
+      let of = unless_of user area.sheet added (start_of appends.table area) block appends.table appends.changes before after
       (table, written) (limit_passed added sheet before.sheets) appends.appended in
       let (own, found, update_is) = some_and (λ (sheet : PlaceSheet). update ≡ update_of after sheet written)
       (place_sheet_with written.area.sheet after.sheets) told in
@@ -110,7 +113,7 @@ module _ (insert : Bool) (block : Block) (area : Area) (before after : PlaceBook
       ap (λ n. place_sheet_with n after.sheets) (sym of.1) ∙ found in
       let text_is = text_at table text area.sheet after.sheets own there of.0 texts in
       subst (λ one. IsSomeAnd one (λ (sheet : PlaceSheet). IsUnlessNoMemory
-      (IsDoneTo (IsAppendOn before insert block area sheet) before after) (Ok (text, update)))) (sym is) (
+      (IsDoneTo (IsAppendOn user before insert block area sheet) before after) (Ok (text, update)))) (sym is) (
         appends.changes,
         record {
           after = after;
@@ -128,16 +131,16 @@ module _ (insert : Bool) (block : Block) (area : Area) (before after : PlaceBook
 
   pub append_refused : (fault : RuleOr)
       → IsSomeAnd (place_sheet_with area.sheet before.sheets)
-      (λ sheet. IsUnlessNoMemory (IsAppend insert area block sheet before after) (Err fault))
+      (λ sheet. IsUnlessNoMemory (IsAppend user insert area block sheet before after) (Err fault))
       → IsSomeAnd (place_sheet_with area.sheet before.sheets)
-      (λ sheet. IsUnlessNoMemory (IsDoneTo (IsAppendOn before insert block area sheet) before after) (Err fault))
+      (λ sheet. IsUnlessNoMemory (IsDoneTo (IsAppendOn user before insert block area sheet) before after) (Err fault))
   append_refused (refusal.Rule broken) appended =
-      let (sheet, is, appends) = some_and (λ (sheet : PlaceSheet). IsAppend insert area block sheet before after (Err broken))
+      let (sheet, is, appends) = some_and (λ (sheet : PlaceSheet). IsAppend user insert area block sheet before after (Err broken))
       (place_sheet_with area.sheet before.sheets) appended in
       subst (λ one. IsSomeAnd one (λ (sheet : PlaceSheet). IsUnlessNoMemory
-      (IsDoneTo (IsAppendOn before insert block area sheet) before after) (Err (refusal.Rule broken)))) (sym is)
+      (IsDoneTo (IsAppendOn user before insert block area sheet) before after) (Err (refusal.Rule broken)))) (sym is)
       (record { after = after; appended = Err broken; appends = appends; tells = refl })
   append_refused refusal.NoMemory appended =
       let (sheet, is, nothing) = some_and (λ (sheet : PlaceSheet). ⊤) (place_sheet_with area.sheet before.sheets) appended in
       subst (λ one. IsSomeAnd one (λ (sheet : PlaceSheet). IsUnlessNoMemory
-      (IsDoneTo (IsAppendOn before insert block area sheet) before after) (Err refusal.NoMemory))) (sym is) tt
+      (IsDoneTo (IsAppendOn user before insert block area sheet) before after) (Err refusal.NoMemory))) (sym is) tt

@@ -152,15 +152,15 @@ if_ok P Q (Err error) then holds = tt
 module _ (id range : List ℕ) (mode : Mode) (values : Reading ValueRange) (books : List PlaceBook) (book : PlaceBook)
     (caller : Caller) (called : Call) (called_is : called ≡ call.Write id range mode values) (found : book_with id books ≡ Some book)
     (told : Result (Answer × PlaceBook) RuleOr) (judged : Result (Answer × PlaceBook) Rule)
-    (change : IsUnlessNoMemory (IsChange (IsWriteOf range values book) book) told) (told_is : told ≡ as_told judged)
+    (change : IsUnlessNoMemory (IsChange (IsWriteOf caller.user range values book) book) told) (told_is : told ≡ as_told judged)
   where
     abbrev Writes : PlaceBook → Result Answer Refusal → Effect → Type 0
-    Writes one = IsAlone (IsWriteOf range values one)
+    Writes one = IsAlone (IsWriteOf caller.user range values one)
 
     write_change : IsChange (Writes book) book (alone judged)
-    write_change = alone_change (IsWriteOf range values book) book judged
-        (judged_so (IsChange (IsWriteOf range values book) book) judged
-        (subst (IsUnlessNoMemory (IsChange (IsWriteOf range values book) book)) told_is change))
+    write_change = alone_change (IsWriteOf caller.user range values book) book judged
+        (judged_so (IsChange (IsWriteOf caller.user range values book) book) judged
+        (subst (IsUnlessNoMemory (IsChange (IsWriteOf caller.user range values book) book)) told_is change))
 
     write_answered : (answered : Result Answer Refusal) (effect : Effect)
         → OnBook id books (λ book. Writes book answered effect) → IsAnswered caller called books answered effect
@@ -178,14 +178,14 @@ module _ (id range : List ℕ) (mode : Mode) (values : Reading ValueRange) (book
 module _ (id range : List ℕ) (books : List PlaceBook) (book : PlaceBook) (caller : Caller) (called : Call)
     (called_is : called ≡ call.Clear id range) (found : book_with id books ≡ Some book)
     (told : Result (Answer × PlaceBook) RuleOr) (judged : Result (Answer × PlaceBook) Rule)
-    (change : IsUnlessNoMemory (IsChange (IsClearOf range book) book) told) (told_is : told ≡ as_told judged) where
+    (change : IsUnlessNoMemory (IsChange (IsClearOf caller.user range book) book) told) (told_is : told ≡ as_told judged) where
   abbrev Clears : PlaceBook → Result Answer Refusal → Effect → Type 0
-  Clears one = IsAlone (IsClearOf range one)
+  Clears one = IsAlone (IsClearOf caller.user range one)
 
   clear_change : IsChange (Clears book) book (alone judged)
-  clear_change = alone_change (IsClearOf range book) book judged
-      (judged_so (IsChange (IsClearOf range book) book) judged
-      (subst (IsUnlessNoMemory (IsChange (IsClearOf range book) book)) told_is change))
+  clear_change = alone_change (IsClearOf caller.user range book) book judged
+      (judged_so (IsChange (IsClearOf caller.user range book) book) judged
+      (subst (IsUnlessNoMemory (IsChange (IsClearOf caller.user range book) book)) told_is change))
 
   clear_answered : (answered : Result Answer Refusal) (effect : Effect)
       → OnBook id books (λ book. Clears book answered effect) → IsAnswered caller called books answered effect
@@ -246,10 +246,10 @@ module _ (books : List PlaceBook) (book : PlaceBook) (caller : Caller) (called :
       outcome next (record { judged = told; answered = holds; told_is = refl }) is none
 
   pub look_applied : (id : List ℕ) (grids : Option Bool) → called ≡ call.Get id grids
-      → book_with id books ≡ Some book → (told : Answer) → told ≡ looked grids book
+      → book_with id books ≡ Some book → (told : Answer) → told ≡ looked caller.user grids book
       → outcome ≡ told_as (Ok told) → IsApplied caller called books outcome next
   look_applied id grids called_is found told holds is =
-      applied_read caller called id books (IsLookOf grids)
+      applied_read caller called id books (IsLookOf caller.user grids)
       (λ answered effect on. subst (λ one. IsAnswered caller one books answered effect) (sym called_is) on) book found
       (Ok told) outcome next (ap (λ shown. Ok shown) holds, refl) is none
 

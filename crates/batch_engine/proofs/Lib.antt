@@ -6,6 +6,8 @@ pub mod Appended
 pub mod Installed
 pub mod Created
 pub mod WritingRows
+pub mod Touched
+pub mod DeniedOnce
 pub mod RowsOnce
 pub mod RowsAppended
 pub mod Listing
@@ -21,3 +23,18 @@ pub mod Judging
 pub mod InTurns
 pub mod Counting
 pub mod Looking
+pub mod PatchWithin
+pub mod ProtectionsJudged
+pub mod ProtectionsMade
+pub mod ProtectionsShown
+pub mod ToldChanges
+pub mod UntouchedLines
+pub mod UntouchedCells
+pub mod UntouchedWrites
+pub mod UntouchedKinds
+pub mod UntouchedRows
+pub mod UntouchedMerges
+pub mod UntouchedRange
+pub mod Untouched
+pub mod ProtectedParts
+pub mod Protected

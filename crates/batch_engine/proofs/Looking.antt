@@ -7,28 +7,34 @@ use Rattle.world_model.specs.Book.{PlaceBook}
 use Rattle.world_model.specs.Laws.{IdsFind}
 use Rattle.world_model.specs.Sheet.{PlaceSheet}
 use Rattle.world_model.specs.Sound.{IsSound, place_sheet_with}
+use Rattle.sheets_json.specs.declared.spreadsheet.ShownSheet.{ShownSheet}
 use Rattle.batch_engine.specs.Looks.{shown_from, shown_sheet}
+use Rattle.batch_engine.specs.Protections.{shown_protections}
 
-module _ (grids : Bool) where
+module _ (user : List ℕ) (grids : Bool) (book : PlaceBook) where
+  -- the sheet with its protected ranges
+  abbrev shown_at : ℕ → PlaceSheet → ShownSheet
+  shown_at index sheet = shown_sheet grids index sheet (shown_protections user book sheet.id)
+
   -- one sheet more
   shown_more : (index : ℕ) (sheets : List PlaceSheet) (last : PlaceSheet)
-      → shown_from grids index (sheets ++ last ∷ [])
-      ≡ shown_from grids index sheets ++ shown_sheet grids (index + length sheets) last ∷ []
-  shown_more index [] last = ap (λ place. shown_sheet grids place last ∷ []) (omega arith)
+      → shown_from user grids book index (sheets ++ last ∷ [])
+      ≡ shown_from user grids book index sheets ++ shown_at (index + length sheets) last ∷ []
+  shown_more index [] last = ap (λ place. shown_at place last ∷ []) (omega arith)
   shown_more index (sheet ∷ sheets) last =
-      let first = shown_sheet grids index sheet in
+      let first = shown_at index sheet in
       ap (λ shown. first ∷ shown) (shown_more (index + 1) sheets last)
-      ∙ ap (λ place. first ∷ (shown_from grids (index + 1) sheets ++ shown_sheet grids place last ∷ [])) (omega arith)
+      ∙ ap (λ place. first ∷ (shown_from user grids book (index + 1) sheets ++ shown_at place last ∷ [])) (omega arith)
 
   pub shown_next : (sheets : List PlaceSheet) (at : ℕ) (d : PlaceSheet) → at < length sheets
-      → shown_from grids 0 (take at sheets) ++ shown_sheet grids at (get_or sheets at d) ∷ []
-      ≡ shown_from grids 0 (take (at + 1) sheets)
+      → shown_from user grids book 0 (take at sheets) ++ shown_at at (get_or sheets at d) ∷ []
+      ≡ shown_from user grids book 0 (take (at + 1) sheets)
   shown_next sheets at d there =
       let short = length-take-le at sheets (omega (arith, there)) in
       let long : at ≡ 0 + length (take at sheets) = omega (arith, short) in
-      ap (λ place. shown_from grids 0 (take at sheets) ++ shown_sheet grids place (get_or sheets at d) ∷ []) long
+      ap (λ place. shown_from user grids book 0 (take at sheets) ++ shown_at place (get_or sheets at d) ∷ []) long
       ∙ sym (shown_more 0 (take at sheets) (get_or sheets at d))
-      ∙ ap (shown_from grids 0) (sym (take_more sheets at d there))
+      ∙ ap (shown_from user grids book 0) (sym (take_more sheets at d there))
 
 -- the sheet at a place is found by its id
 pub found_at : (book : PlaceBook) → IdsFind → IsSound book → (at : ℕ) → at < length book.sheets → (d : PlaceSheet)

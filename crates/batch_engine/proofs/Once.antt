@@ -20,6 +20,7 @@ use Rattle.dimension_ops.specs.World.{book_with}
 use Rattle.dimension_ops.specs.declared.rule.Rule.{Rule}
 use Rattle.dimension_ops.specs.declared.rule.Rule.TheVariants as rule
 use Rattle.values_api.specs.Blocks.{contents_of}
+use Rattle.values_api.specs.Denials.{AreaCells, WriteCells}
 use Rattle.values_api.specs.Laws.{AppendsOnce, ReadsOnce, WritesOnce}
 use Rattle.values_api.specs.Ranges.{FoundArea, Resolves, named, unnamed, part_of}
 use Rattle.values_api.specs.declared.writing.Written.{Written}
@@ -36,7 +37,7 @@ use Rattle.batch_engine.specs.Effects.{Effect, cells_updated}
 use Rattle.batch_engine.specs.Effects.Effect.{Nothing}
 use Rattle.batch_engine.specs.Ranges.{IsTarget, agreed}
 use Rattle.batch_engine.specs.Values.{OnRange, done, refused, IsRead, IsClear, IsUpdate, IsShown, IsCleared, IsWritten}
-use Rattle.batch_engine.specs.Values.{Appended, IsAppendOn, IsAppended, IsUpdated, Wrote, appended_of, inserts, update_of}
+use Rattle.batch_engine.specs.Values.{Appended, IsAppendOn, IsAppended, IsUpdated, Wrote, appended_of, clear, inserts, update_of}
 use Rattle.batch_engine.specs.Values.{axis_or_rows, is_columns, render_or_formatted, shown_range}
 use Rattle.batch_engine.specs.Looks.{looked}
 use Rattle.batch_engine.specs.Calls.{AreMade, IsAppendOf, IsBatchOf, IsLookOf, IsAlone, IsAnswered, IsClearManyOf, IsClearOf, IsMade, IsReadManyOf}
@@ -48,6 +49,7 @@ use Rattle.sheets_json.specs.declared.place.Place.{Place}
 use Rattle.sheets_json.specs.declared.place.Place.TheVariants as place
 use Rattle.batch_engine.specs.Laws.{IsOnce}
 use Rattle.batch_engine.proofs.Created.{create_once}
+use Rattle.batch_engine.proofs.DeniedOnce.{unless_once, unless_told_once}
 use Rattle.batch_engine.proofs.InTurns.{in_turn_once}
 use Rattle.batch_engine.proofs.RequestsOnce.{requested_once}
 use Rattle.batch_engine.specs.Requests.{IsRequested}
@@ -135,7 +137,7 @@ read_once reads dimension render book sound found sheet told told' one other =
 
 -- ---- writes
 
-module _ (writes : WritesOnce) (book : PlaceBook) (sound : IsSound book) where
+module _ (writes : WritesOnce) (user : List ℕ) (book : PlaceBook) (sound : IsSound book) where
   -- what a write's result is told as
   abbrev Tells : Area → PlaceSheet → Updates → Result Written Rule → Result (Wrote × List BookChange) Rule → Type 0
   Tells area sheet updates wrote told =
@@ -150,18 +152,21 @@ module _ (writes : WritesOnce) (book : PlaceBook) (sound : IsSound book) where
   tells_once area sheet updates (Err broken) told told' is is' = is ∙ sym is'
 
   update_once : (block : Block) (found : FoundArea) (sheet : PlaceSheet) (told told' : Result (Wrote × List BookChange) Rule)
-      → IsUpdate book block found sheet told → IsUpdate book block found sheet told' → told ≡ told'
+      → IsUpdate user book block found sheet told → IsUpdate user book block found sheet told' → told ≡ told'
   update_once block found sheet told told' one other =
       let area = found.0 in
-      let (same, same_wrote) = writes.once found.1 area block sheet book one.after other.after one.wrote other.wrote sound
-      one.writes other.writes in
-      tells_once area sheet (contents_of other.writes.entries) other.wrote told told'
-      (subst (λ wrote. Tells area sheet (contents_of other.writes.entries) wrote told) same_wrote
+      let (same, same_done) = writes.once found.1 area block sheet book one.after other.after one.writes.done
+      other.writes.done sound one.writes.is other.writes.is in
+      let same_wrote = unless_told_once user book (WriteCells book.sheets found.1 area block) one.writes.denied
+      other.writes.denied one.writes.is_denied other.writes.is_denied one.writes.done other.writes.done same_done one.wrote
+      other.wrote one.writes.told_is other.writes.told_is in
+      tells_once area sheet (contents_of other.writes.is.entries) other.wrote told told'
+      (subst (λ wrote. Tells area sheet (contents_of other.writes.is.entries) wrote told) same_wrote
       (subst (λ updates. Tells area sheet updates one.wrote told) same one.tells)) other.tells
 
 -- ---- appends
 
-module _ (appends : AppendsOnce) (apart : ChangesApart) (book : PlaceBook) (sound : IsSound book) where
+module _ (appends : AppendsOnce) (apart : ChangesApart) (user : List ℕ) (book : PlaceBook) (sound : IsSound book) where
   -- what an append that changes the spreadsheet so is told as
   abbrev Says : Area → Result (Appended × List BookChange) Rule → PlaceBook → List BookChange
       → Result (Option Area × Written) Rule → Type 0
@@ -190,10 +195,10 @@ module _ (appends : AppendsOnce) (apart : ChangesApart) (book : PlaceBook) (soun
   says_once area told told' after after' changes (Err broken) (stays, is) (stays', is') = is ∙ sym is'
 
   append_once : (insert : Bool) (block : Block) (area : Area) (sheet : PlaceSheet)
-      (told told' : Result (Appended × List BookChange) Rule) → IsAppendOn book insert block area sheet told
-      → IsAppendOn book insert block area sheet told' → told ≡ told'
+      (told told' : Result (Appended × List BookChange) Rule) → IsAppendOn user book insert block area sheet told
+      → IsAppendOn user book insert block area sheet told' → told ≡ told'
   append_once insert block area sheet told told' one other =
-      let (same, same_appended) = appends.once insert area block sheet book one.after other.after one.appended
+      let (same, same_appended) = appends.once user insert area block sheet book one.after other.after one.appended
       other.appended sound one.appends other.appends in
       says_once area told told' one.after other.after other.appends.changes other.appended
       (subst (Says area told one.after other.appends.changes) same_appended
@@ -268,36 +273,39 @@ module _ (one_reading : HasOneReading) (news : NewSheetsOnce) (reads : ReadsOnce
       on_range_once (Resolves range book) book.sheets (IsRead book dimension render)
       (resolves_once one_reading range book) (read_once reads dimension render book sound)
 
-  cleared_once : (book : PlaceBook) (range : Reading (List ℕ)) (one other : Result (List ℕ × List BookChange) Rule)
-      → IsCleared book range one → IsCleared book range other → one ≡ other
-  cleared_once book (Ok range) =
-      on_range_once (Resolves range book) book.sheets IsClear (resolves_once one_reading range book)
-      (λ found sheet told told' is is'. is ∙ sym is')
-  cleared_once book (Err shape) = λ one other is is'. is ∙ sym is'
+  cleared_once : (user : List ℕ) (book : PlaceBook) (range : Reading (List ℕ))
+      (one other : Result (List ℕ × List BookChange) Rule) → IsCleared user book range one
+      → IsCleared user book range other → one ≡ other
+  cleared_once user book (Ok range) =
+      on_range_once (Resolves range book) book.sheets (IsClear user book) (resolves_once one_reading range book)
+      (λ found sheet. unless_once user book (AreaCells book.sheets found.0) (λ told. told ≡ Ok (clear found sheet))
+      (λ told told' is is'. is ∙ sym is'))
+  cleared_once user book (Err shape) = λ one other is is'. is ∙ sym is'
 
-  written_once : (range : List ℕ) (book : PlaceBook) → IsSound book → (values : Reading ValueRange)
-      (one other : Result (Wrote × List BookChange) Rule) → IsWritten range book values one → IsWritten range book values other
-      → one ≡ other
-  written_once range book sound (Ok values) =
-      on_range_once (IsTarget range values.range book) book.sheets (IsUpdate book values.block)
-      (target_once one_reading range values.range book) (update_once writes book sound values.block)
-  written_once range book sound (Err shape) = λ one other is is'. is ∙ sym is'
+  written_once : (user range : List ℕ) (book : PlaceBook) → IsSound book → (values : Reading ValueRange)
+      (one other : Result (Wrote × List BookChange) Rule) → IsWritten user range book values one
+      → IsWritten user range book values other → one ≡ other
+  written_once user range book sound (Ok values) =
+      on_range_once (IsTarget range values.range book) book.sheets (IsUpdate user book values.block)
+      (target_once one_reading range values.range book) (update_once writes user book sound values.block)
+  written_once user range book sound (Err shape) = λ one other is is'. is ∙ sym is'
 
-  appended_once : (range : List ℕ) (insert : Bool) (book : PlaceBook) → IsSound book → (values : Reading ValueRange)
-      (one other : Result (Appended × List BookChange) Rule) → IsAppended range insert book values one
-      → IsAppended range insert book values other → one ≡ other
-  appended_once range insert book sound (Ok values) =
+  appended_once : (user range : List ℕ) (insert : Bool) (book : PlaceBook) → IsSound book → (values : Reading ValueRange)
+      (one other : Result (Appended × List BookChange) Rule) → IsAppended user range insert book values one
+      → IsAppended user range insert book values other → one ≡ other
+  appended_once user range insert book sound (Ok values) =
       on_range_once (IsTarget range values.range book) book.sheets
-      (λ found. IsAppendOn book insert values.block found.0) (target_once one_reading range values.range book)
-      (λ found. append_once appends apart book sound insert values.block found.0)
-  appended_once range insert book sound (Err shape) = λ one other is is'. is ∙ sym is'
+      (λ found. IsAppendOn user book insert values.block found.0) (target_once one_reading range values.range book)
+      (λ found. append_once appends apart user book sound insert values.block found.0)
+  appended_once user range insert book sound (Err shape) = λ one other is is'. is ∙ sym is'
 
-  updated_once : (book : PlaceBook) → IsSound book → (values : Reading RangeBlock)
-      (one other : Result (Wrote × List BookChange) Rule) → IsUpdated book values one → IsUpdated book values other → one ≡ other
-  updated_once book sound (Ok values) =
-      on_range_once (Resolves values.range book) book.sheets (IsUpdate book values.block)
-      (resolves_once one_reading values.range book) (update_once writes book sound values.block)
-  updated_once book sound (Err shape) = λ one other is is'. is ∙ sym is'
+  updated_once : (user : List ℕ) (book : PlaceBook) → IsSound book → (values : Reading RangeBlock)
+      (one other : Result (Wrote × List BookChange) Rule) → IsUpdated user book values one
+      → IsUpdated user book values other → one ≡ other
+  updated_once user book sound (Ok values) =
+      on_range_once (Resolves values.range book) book.sheets (IsUpdate user book values.block)
+      (resolves_once one_reading values.range book) (update_once writes user book sound values.block)
+  updated_once user book sound (Err shape) = λ one other is is'. is ∙ sym is'
 
   read_many_once : (ranges : List (List ℕ)) (dimension : Option Axis) (render : Option Render) (book : PlaceBook)
       → IsSound book → IsOnce (IsReadManyOf ranges dimension render book)
@@ -334,36 +342,42 @@ module _ (one_reading : HasOneReading) (news : NewSheetsOnce) (reads : ReadsOnce
         (λ book sound. alone_once (IsReadOf range dimension render book)
         (seen_once (IsShown dimension render book range) answer.Read (shown_once dimension render book sound range)))
     answered_once caller (call.Write id range mode values) =
-        on_book_once id (λ book. IsAlone (IsWriteOf range values book))
-        (λ book sound. alone_once (IsWriteOf range values book)
-        (made_once (IsWritten range book values) (λ wrote. answer.Write wrote.0) book (written_once range book sound values)))
+        on_book_once id (λ book. IsAlone (IsWriteOf caller.user range values book))
+        (λ book sound. alone_once (IsWriteOf caller.user range values book)
+        (made_once (IsWritten caller.user range book values) (λ wrote. answer.Write wrote.0) book
+        (written_once caller.user range book sound values)))
     answered_once caller (call.Clear id range) =
-        on_book_once id (λ book. IsAlone (IsClearOf range book))
-        (λ book sound. alone_once (IsClearOf range book)
-        (made_once (IsCleared book (Ok range)) (λ text. answer.Clear text book.id) book (cleared_once book (Ok range))))
+        on_book_once id (λ book. IsAlone (IsClearOf caller.user range book))
+        (λ book sound. alone_once (IsClearOf caller.user range book)
+        (made_once (IsCleared caller.user book (Ok range)) (λ text. answer.Clear text book.id) book
+        (cleared_once caller.user book (Ok range))))
     answered_once caller (call.ReadMany id ranges dimension render) =
         on_book_once id (IsReadManyOf ranges dimension render)
         (λ book sound. read_many_once ranges dimension render book sound)
     answered_once caller (call.WriteMany id mode blocks) =
-        on_book_once id (IsWriteManyOf blocks)
-        (λ book sound. are_made_once IsUpdated updated_once blocks place.Data (written_answer book) book sound)
+        on_book_once id (IsWriteManyOf caller.user blocks)
+        (λ book sound. are_made_once (IsUpdated caller.user) (updated_once caller.user) blocks place.Data
+        (written_answer book) book sound)
     answered_once caller (call.ClearMany id ranges) =
-        on_book_once id (IsClearManyOf ranges)
-        (λ book sound. are_made_once IsCleared (λ book sound. cleared_once book) ranges place.Ranges
+        on_book_once id (IsClearManyOf caller.user ranges)
+        (λ book sound. are_made_once (IsCleared caller.user) (λ book sound. cleared_once caller.user book) ranges place.Ranges
         (λ texts. answer.ClearMany texts book.id) book sound)
     answered_once caller (call.Create spreadsheet) =
         alone_once (IsCreateOf caller.user spreadsheet books) (create_once news caller.user spreadsheet books)
     answered_once caller (call.Get id grids) =
-        on_book_once id (IsLookOf grids) (λ book sound. said_once (Ok (looked grids book)) Nothing)
+        on_book_once id (IsLookOf caller.user grids)
+        (λ book sound. said_once (Ok (looked caller.user grids book)) Nothing)
     answered_once caller (call.Batch id requests) =
-        on_book_once id (IsBatchOf requests)
-        (λ book sound. are_made_once IsRequested (requested_once news writes apart turns lists) requests place.Requests
+        on_book_once id (IsBatchOf caller.user requests)
+        (λ book sound. are_made_once (IsRequested caller.user)
+        (requested_once news writes apart turns lists caller.user) requests place.Requests
         (λ replies. answer.Batch replies book.id) book sound)
     answered_once caller (call.ReadFiltered id filters dimension render) = not_done_once
     answered_once caller (call.Item id item) = not_done_once
     answered_once caller (call.Search id filters) = not_done_once
     answered_once caller (call.Append id range mode option values) =
-        on_book_once id (λ book. IsAlone (IsAppendOf range option values book))
-        (λ book sound. alone_once (IsAppendOf range option values book)
-        (made_once (IsAppended range (inserts option) book values) (λ made. answer.Append book.id made.0 made.1) book
-        (appended_once range (inserts option) book sound values)))
+        on_book_once id (λ book. IsAlone (IsAppendOf caller.user range option values book))
+        (λ book sound. alone_once (IsAppendOf caller.user range option values book)
+        (made_once (IsAppended caller.user range (inserts option) book values)
+        (λ made. answer.Append book.id made.0 made.1) book
+        (appended_once caller.user range (inserts option) book sound values)))

@@ -19,6 +19,7 @@ use Rattle.dimension_ops.specs.declared.rule.Rule.{Rule}
 use Rattle.dimension_ops.specs.declared.rule.RuleOr.{RuleOr}
 use Rattle.dimension_ops.specs.declared.rule.RuleOr.TheVariants as refusal
 use Rattle.values_api.specs.Blocks.{IsWrite, contents_of}
+use Rattle.values_api.specs.Denials.{AreaCells, IsUnlessDenied, IsWriteBy, unless_denied}
 use Rattle.values_api.specs.Laws.{UpdatesOnce}
 use Rattle.values_api.specs.Ranges.{FoundArea, Resolves, area_text}
 use Rattle.values_api.specs.Shown.{IsAreaShown}
@@ -31,8 +32,9 @@ use Rattle.batch_engine.specs.Effects.{cells_updated}
 use Rattle.batch_engine.specs.Effects.Effect.{Nothing}
 use Rattle.batch_engine.specs.Members.{IsDoneTo}
 use Rattle.batch_engine.specs.Values.{OnRange, done, refused, is_columns, axis_or_rows, render_or_formatted, unless_empty}
-use Rattle.batch_engine.specs.Values.{IsCleared, IsShown, IsUpdate, Wrote, update_of}
+use Rattle.batch_engine.specs.Values.{IsCleared, IsShown, IsUpdate, Wrote, clear, update_of}
 use Rattle.batch_engine.specs.Calls.{IsChange, IsMade, IsReadOf}
+use Rattle.batch_engine.proofs.DeniedOnce.{denied_same, done_of, none_denied}
 
 -- the thing that is there
 pub some_and : {A : Type 0} (P : A → Type 0) (found : Option A) → IsSomeAnd found P → (x : A) × (found ≡ Some x) × P x
@@ -156,17 +158,45 @@ read_done range dimension render book found text shown resolves text_of shown_if
 
 -- ---- clears
 
-pub emptied_done : UpdatesAreChanges → (range : List ℕ) (book after : PlaceBook) (found : FoundArea) (text : List ℕ)
-    → Resolves range book (Ok found)
-    → IsSomeAnd (place_sheet_with found.0.sheet book.sheets) (λ sheet. text ≡ area_text sheet found.0)
-    → AreUpdated found.0.sheet (cleared found.0) book after → IsDoneTo (IsCleared book (Ok range)) book after (Ok text)
-emptied_done are range book after found text resolves text_of updated =
-    let (sheet, is, text_is) = some_and (λ (sheet : PlaceSheet). text ≡ area_text sheet found.0)
-    (place_sheet_with found.0.sheet book.sheets) text_of in (
-      cells_updated found.0.sheet (cleared found.0),
-      done found sheet resolves is (ap (λ told. as_cleared told found.0) text_is),
-      update_made are found.0.sheet (cleared found.0) book after updated,
-    )
+module _ (user range : List ℕ) (book after : PlaceBook) (found : FoundArea) (text : List ℕ)
+    (resolves : Resolves range book (Ok found))
+    (text_of : IsSomeAnd (place_sheet_with found.0.sheet book.sheets) (λ sheet. text ≡ area_text sheet found.0)) where
+  abbrev IsAllowed : Result (Unit {0}) Rule → Type 0
+  IsAllowed = IsUnlessDenied user book (AreaCells book.sheets found.0) (λ done. done ≡ Ok tt)
+
+  -- what is cleared is told unless a cell is denied
+  cleared_so : (sheet : PlaceSheet) → place_sheet_with found.0.sheet book.sheets ≡ Some sheet
+      → (told : Result (List ℕ × List BookChange) Rule) (allowed : Result (Unit {0}) Rule) → IsAllowed allowed
+      → ((denied : Option ℕ) → allowed ≡ unless_denied denied (Ok tt)
+      → told ≡ unless_denied denied (Ok (clear found sheet))) → IsCleared user book (Ok range) told
+  cleared_so sheet is told allowed so tells = done found sheet resolves is (record {
+    denied = so.denied;
+    is_denied = so.is_denied;
+    done = Ok (clear found sheet);
+    is = refl;
+    told_is = tells so.denied (so.told_is ∙ ap (λ done. unless_denied so.denied done) so.is);
+  })
+
+  pub emptied_done : UpdatesAreChanges → IsAllowed (Ok tt) → AreUpdated found.0.sheet (cleared found.0) book after
+      → IsDoneTo (IsCleared user book (Ok range)) book after (Ok text)
+  emptied_done are allowed updated =
+      let (sheet, is, text_is) = some_and (λ (sheet : PlaceSheet). text ≡ area_text sheet found.0)
+      (place_sheet_with found.0.sheet book.sheets) text_of in (
+        cells_updated found.0.sheet (cleared found.0),
+        cleared_so sheet is (as_cleared text found.0) (Ok tt) allowed (λ denied so.
+            ap (λ told. as_cleared told found.0) text_is
+            ∙ ap (λ d. unless_denied d (Ok (clear found sheet))) (sym (none_denied denied (Ok tt) tt so))),
+        update_made are found.0.sheet (cleared found.0) book after updated,
+      )
+
+  pub emptied_refused : (fault : RuleOr) → IsUnlessNoMemory IsAllowed (Err fault)
+      → IsUnlessNoMemory (IsDoneTo (IsCleared user book (Ok range)) book after) (Err fault)
+  emptied_refused (refusal.Rule broken) allowed =
+      let (sheet, is, text_is) = some_and (λ (sheet : PlaceSheet). text ≡ area_text sheet found.0)
+      (place_sheet_with found.0.sheet book.sheets) text_of in
+      cleared_so sheet is (Err broken) (Err broken) allowed
+      (λ denied so. denied_same denied tt (clear found sheet) broken so)
+  emptied_refused refusal.NoMemory allowed = tt
 
 -- ---- writes
 
@@ -179,27 +209,30 @@ told_same number updates book after sheet now wrote same_id same =
     ∙ ap (λ rows. told_so book.id sheet.title rows now.table.cols wrote) same.rows
     ∙ ap (λ cols. told_so book.id sheet.title sheet.table.rows cols wrote) same.cols
 
-module _ (book after : PlaceBook) (block : Block) (area : Area) (one_cell : Bool) where
+module _ (user : List ℕ) (book after : PlaceBook) (block : Block) (area : Area) (one_cell : Bool) where
   abbrev Writes : Result Written Rule → PlaceSheet → Type 0
-  Writes wrote sheet = IsWrite one_cell area block sheet book after wrote
+  Writes wrote sheet = IsWriteBy user one_cell area block sheet book after wrote
 
   pub put_done : UpdatesAreChanges → UpdatesOnce → (wrote : Written) (update : UpdateAnswer)
       → IsSomeAnd (place_sheet_with area.sheet book.sheets)
-      (λ sheet. IsUnlessNoMemory (IsWrite one_cell area block sheet book after) (Ok wrote))
+      (λ sheet. IsUnlessNoMemory (IsWriteBy user one_cell area block sheet book after) (Ok wrote))
       → IsSomeAnd (place_sheet_with wrote.area.sheet after.sheets) (λ sheet. update ≡ update_of after sheet wrote)
       → IsSomeAnd (place_sheet_with area.sheet book.sheets)
-      (λ sheet. IsUnlessNoMemory (IsDoneTo (IsUpdate book block (area, one_cell) sheet) book after) (Ok (update, wrote)))
+      (λ sheet. IsUnlessNoMemory (IsDoneTo (IsUpdate user book block (area, one_cell) sheet) book after) (Ok (update, wrote)))
   put_done are updates_once wrote update writes_it told =
       let (sheet, is, writes) = some_and (Writes (Ok wrote)) (place_sheet_with area.sheet book.sheets) writes_it in
-      let updates = contents_of writes.entries in
+      let updates = contents_of writes.is.entries in
+      let so : IsWrite one_cell area block sheet book after (Ok wrote) =
+      subst (IsWrite one_cell area block sheet book after) (done_of writes.denied writes.done wrote writes.told_is)
+      writes.is in
       let (now, is_now, same) = some_and (SheetUpdated area.sheet updates sheet) (place_sheet_with area.sheet after.sheets)
-      (updates_once.kept area.sheet updates book after area.sheet sheet writes.updated is) in
-      let same_area = ap (λ (area : Area). place_sheet_with area.sheet after.sheets) writes.answered.1.area_is in
+      (updates_once.kept area.sheet updates book after area.sheet sheet writes.is.updated is) in
+      let same_area = ap (λ (area : Area). place_sheet_with area.sheet after.sheets) so.answered.1.area_is in
       let told_now : update ≡ update_of after now wrote =
       subst (λ one. IsSomeAnd one (λ (sheet : PlaceSheet). update ≡ update_of after sheet wrote)) (same_area ∙ is_now) told in
-      let told_is = told_now ∙ told_same area.sheet updates book after sheet now wrote writes.updated.places.id same in
+      let told_is = told_now ∙ told_same area.sheet updates book after sheet now wrote writes.is.updated.places.id same in
       subst (λ one. IsSomeAnd one (λ (sheet : PlaceSheet). IsUnlessNoMemory
-      (IsDoneTo (IsUpdate book block (area, one_cell) sheet) book after) (Ok (update, wrote)))) (sym is) (
+      (IsDoneTo (IsUpdate user book block (area, one_cell) sheet) book after) (Ok (update, wrote)))) (sym is) (
         cells_updated area.sheet updates,
         record {
           after = after;
@@ -207,5 +240,5 @@ module _ (book after : PlaceBook) (block : Block) (area : Area) (one_cell : Bool
           writes = writes;
           tells = ap (λ one. as_written one wrote area.sheet updates) told_is;
         },
-        update_made are area.sheet updates book after writes.updated,
+        update_made are area.sheet updates book after writes.is.updated,
       )

@@ -25,7 +25,7 @@ use Rattle.batch_engine.proofs.RowsOnce.{on_area_once}
 not_both : (b : Bool) → b ≡ true → b ≡ false → ⊥
 not_both b is fails = false≢true (sym fails ∙ is)
 
-least_unused_once : (is_used : ℕ → Bool) (one other : ℕ) → IsLeastUnused is_used one → IsLeastUnused is_used other
+pub least_unused_once : (is_used : ℕ → Bool) (one other : ℕ) → IsLeastUnused is_used one → IsLeastUnused is_used other
     → one ≡ other
 least_unused_once is_used one other is is' = elim (cases_order one other) [
   | inl same ↦ same

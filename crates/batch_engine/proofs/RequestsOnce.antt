@@ -1,6 +1,7 @@
 -- A request on a given spreadsheet has one reply and makes one list of changes.
-use Rattle.std.proofs.Common.{◌≡◌, true, false, sym, ap, ◌∙◌, List, [], ◌∷◌}
+use Rattle.std.proofs.Common.{◌≡◌, ℕ, Bool, true, false, sym, ap, ◌∙◌, List, [], ◌∷◌}
 use Rattle.std.specs.Prelude.{Option, None, Some, unwrap_or, Result, Ok, Err}
+use Rattle.cell_value.specs.Ids.{IsLeastUnused, IsNewId}
 use Rattle.cell_value.specs.declared.cell.Block.{Block}
 use Rattle.cell_value.specs.declared.cell.SheetProperties.{SheetProperties}
 use Rattle.merge_ranges.specs.Calls.{ListsAreSame}
@@ -20,11 +21,16 @@ use Rattle.json_requests.specs.declared.request.UpdatedArea.{UpdatedArea}
 use Rattle.json_requests.specs.declared.request.UpdatedArea.TheVariants.{Start, Range}
 use Rattle.sheets_json.specs.declared.spreadsheet.Reply.{Reply}
 use Rattle.batch_engine.specs.AddSheet.{IsAddSheet, IsAdded, any_properties, sheet_reply}
-use Rattle.batch_engine.specs.Requests.{IsDoneAsAsked, IsRequested}
+use Rattle.batch_engine.specs.AddProtectedRange.{IsProtectionAdded, protection_added_broken, protection_made, put_among}
+use Rattle.batch_engine.specs.Requests.{IsDoneByKind, IsRequested}
+use Rattle.batch_engine.specs.Touching.{TouchedCells}
+use Rattle.batch_engine.proofs.DeniedOnce.{unless_once}
+use Rattle.protection.specs.Listed.{has_id}
+use Rattle.protection.specs.declared.range.ProtectionPatch.{ProtectionPatch}
 use Rattle.batch_engine.specs.Rows.{AreRowsWritten, area_or_broken}
-use Rattle.batch_engine.specs.UpdateCells.{IsUpdateCells, area_emptied, area_from}
+use Rattle.batch_engine.specs.UpdateCells.{IsUpdateCells, area_from, rest_emptied}
 use Rattle.batch_engine.proofs.MergesOnce.{merge_cells_once, unmerge_cells_once}
-use Rattle.batch_engine.proofs.RangesOnce.{add_named_range_once, update_named_range_once}
+use Rattle.batch_engine.proofs.RangesOnce.{add_named_range_once, least_unused_once, update_named_range_once}
 use Rattle.batch_engine.proofs.RowsAppended.{append_cells_once}
 use Rattle.batch_engine.proofs.RowsOnce.{on_area_once, rows_once}
 
@@ -34,6 +40,20 @@ IsOne Is = (told told' : Result (Reply × List BookChange) Rule) → Is told →
 
 refused_once : (broken : Rule) → IsOne (λ told. told ≡ Err broken)
 refused_once broken told told' is is' = is ∙ sym is'
+
+new_number_once : (is_used : ℕ → Bool) (asked : Option ℕ) (one other : ℕ) → IsNewId (IsLeastUnused is_used) asked one
+    → IsNewId (IsLeastUnused is_used) asked other → one ≡ other
+new_number_once is_used (Some asked) one other is is' = is ∙ sym is'
+new_number_once is_used None one other is is' = least_unused_once is_used one other is is'
+
+module _ (user : List ℕ) (book : PlaceBook) where
+  protection_added_once : (id : Option ℕ) (patch : ProtectionPatch) (broken : Option Rule)
+      → IsOne (IsProtectionAdded user id patch book broken)
+  protection_added_once id patch (Some broken) told told' is is' = is ∙ sym is'
+  protection_added_once id patch None told told' (new, is, tells) (new', is', tells') =
+      tells ∙ ap (λ new. Ok (put_among user book (protection_made user patch book new)))
+      (new_number_once (has_id book.protections) id new new' is is')
+      ∙ sym tells'
 
 module _ (news : NewSheetsOnce) (book : PlaceBook) where
   added_once : (properties : SheetProperties) (broken : Option Rule) → IsOne (IsAdded properties book.sheets broken)
@@ -50,41 +70,43 @@ module _ (news : NewSheetsOnce) (book : PlaceBook) where
       added_once properties (first_broken (sheet_added_broken properties book.sheets))
 
 module _ (news : NewSheetsOnce) (writes : WritesOnce) (apart : ChangesApart) (turns : ChangesInTurn)
-    (lists : ListsAreSame) (book : PlaceBook) (sound : IsSound book) where
+    (lists : ListsAreSame) (user : List ℕ) (book : PlaceBook) (sound : IsSound book) where
   update_cells_once : (rows : Block) (area : UpdatedArea) → IsOne (IsUpdateCells rows area book)
   update_cells_once rows (Start cell) =
       on_area_once (AreRowsWritten [] rows true book)
       (λ area. rows_once writes apart turns [] rows true area book sound)
       (area_or_broken book.sheets (area_from cell))
   update_cells_once rows (Range range) =
-      on_area_once (λ area. AreRowsWritten (area_emptied area) rows false book area)
-      (λ area. rows_once writes apart turns (area_emptied area) rows false area book sound)
+      on_area_once (λ area. AreRowsWritten (rest_emptied area rows) rows false book area)
+      (λ area. rows_once writes apart turns (rest_emptied area rows) rows false area book sound)
       (area_or_broken book.sheets range)
 
-  asked_once : (asked : Request) → IsOne (IsDoneAsAsked book asked)
-  asked_once (request.UpdateCells rows area) = update_cells_once rows area
-  asked_once (request.AddSheet properties) = add_sheet_once news book properties
-  asked_once (request.DeleteSheet sheet) = λ told told' is is'. is ∙ sym is'
-  asked_once (request.UpdateSheetProperties sheet properties) = λ told told' is is'. is ∙ sym is'
-  asked_once (request.AppendCells sheet rows) = append_cells_once writes apart turns sheet rows book sound
-  asked_once (request.InsertDimension range inherit) = λ told told' is is'. is ∙ sym is'
-  asked_once (request.DeleteDimension range) = λ told told' is is'. is ∙ sym is'
-  asked_once (request.AppendDimension sheet dimension length) = λ told told' is is'. is ∙ sym is'
-  asked_once (request.MoveDimension source destination) = λ told told' is is'. is ∙ sym is'
-  asked_once (request.MergeCells range type) = merge_cells_once lists book range type
-  asked_once (request.UnmergeCells range) = unmerge_cells_once lists book range
-  asked_once (request.AddNamedRange range) = add_named_range_once book range
-  asked_once (request.UpdateNamedRange id name range) = update_named_range_once book id name range
-  asked_once (request.DeleteNamedRange id) = λ told told' is is'. is ∙ sym is'
-  asked_once (request.AddProtectedRange id patch) = refused_once _
-  asked_once (request.UpdateProtectedRange id patch) = refused_once _
-  asked_once (request.DeleteProtectedRange id) = refused_once _
-  asked_once (request.SetBasicFilter filter) = refused_once _
-  asked_once (request.ClearBasicFilter sheet) = refused_once _
-  asked_once (request.CreateDeveloperMetadata item) = refused_once _
-  asked_once (request.UpdateDeveloperMetadata filters patch) = refused_once _
-  asked_once (request.DeleteDeveloperMetadata filter) = refused_once _
+  by_kind_once : (asked : Request) → IsOne (IsDoneByKind user book asked)
+  by_kind_once (request.UpdateCells rows area) = update_cells_once rows area
+  by_kind_once (request.AddSheet properties) = add_sheet_once news book properties
+  by_kind_once (request.DeleteSheet sheet) = λ told told' is is'. is ∙ sym is'
+  by_kind_once (request.UpdateSheetProperties sheet properties) = λ told told' is is'. is ∙ sym is'
+  by_kind_once (request.AppendCells sheet rows) = append_cells_once writes apart turns user sheet rows book sound
+  by_kind_once (request.InsertDimension range inherit) = λ told told' is is'. is ∙ sym is'
+  by_kind_once (request.DeleteDimension range) = λ told told' is is'. is ∙ sym is'
+  by_kind_once (request.AppendDimension sheet dimension length) = λ told told' is is'. is ∙ sym is'
+  by_kind_once (request.MoveDimension source destination) = λ told told' is is'. is ∙ sym is'
+  by_kind_once (request.MergeCells range type) = merge_cells_once lists book range type
+  by_kind_once (request.UnmergeCells range) = unmerge_cells_once lists book range
+  by_kind_once (request.AddNamedRange range) = add_named_range_once book range
+  by_kind_once (request.UpdateNamedRange id name range) = update_named_range_once book id name range
+  by_kind_once (request.DeleteNamedRange id) = λ told told' is is'. is ∙ sym is'
+  by_kind_once (request.AddProtectedRange id patch) =
+      protection_added_once user book id patch (first_broken (protection_added_broken id patch book))
+  by_kind_once (request.UpdateProtectedRange id patch) = λ told told' is is'. is ∙ sym is'
+  by_kind_once (request.DeleteProtectedRange id) = λ told told' is is'. is ∙ sym is'
+  by_kind_once (request.SetBasicFilter filter) = refused_once _
+  by_kind_once (request.ClearBasicFilter sheet) = refused_once _
+  by_kind_once (request.CreateDeveloperMetadata item) = refused_once _
+  by_kind_once (request.UpdateDeveloperMetadata filters patch) = refused_once _
+  by_kind_once (request.DeleteDeveloperMetadata filter) = refused_once _
 
-  pub requested_once : (asked : Step) → IsOne (IsRequested book asked)
-  requested_once (step.Read asked) = asked_once asked
+  pub requested_once : (asked : Step) → IsOne (IsRequested user book asked)
+  requested_once (step.Read asked) = unless_once user book (TouchedCells book.sheets asked)
+      (IsDoneByKind user book asked) (by_kind_once asked)
   requested_once (step.Shape shape) = refused_once _

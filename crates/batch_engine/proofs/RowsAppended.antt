@@ -26,20 +26,20 @@ use Rattle.dimension_ops.specs.declared.rule.RuleOr.{RuleOr}
 use Rattle.dimension_ops.specs.declared.rule.RuleOr.TheVariants as refusal
 use Rattle.values_api.specs.Appends.{added_on}
 use Rattle.values_api.specs.Blocks.{IsWrite, rows_needed}
+use Rattle.values_api.specs.Denials.{IsDenial, WriteCells}
 use Rattle.values_api.specs.Laws.{WritesOnce}
 use Rattle.values_api.specs.Ranges.{IsThere}
 use Rattle.values_api.specs.Rows.{IsRowBehind}
 use Rattle.values_api.specs.declared.writing.Written.{Written as WrittenValues}
 use Rattle.sheets_json.specs.declared.spreadsheet.Reply.{Reply}
 use Rattle.sheets_json.specs.declared.spreadsheet.Reply.TheVariants as reply
-use Rattle.batch_engine.specs.AppendCells.{AreRowsAdded, AreRowsAppended, AreThere, AreWrittenFrom, IsAppendCells, UnlessNone, broken_by_rows, from_row, rows_missing}
+use Rattle.batch_engine.specs.AppendCells.{AreRowsAdded, AreRowsAppended, AreRowsWrittenBy, AreThere, AreWrittenFrom, IsAppendCells, UnlessNone, broken_by_rows, from_row, rows_missing}
 use Rattle.batch_engine.specs.Telling.{Tells, UnlessBroken}
 use Rattle.batch_engine.specs.Members.{IsDoneTo}
-use Rattle.batch_engine.specs.Rows.{AreRowsWritten}
 use Rattle.batch_engine.proofs.Found.{sheet_has_id, sheet_sound}
 use Rattle.batch_engine.proofs.Ranged.{some_and}
-use Rattle.batch_engine.proofs.RowsOnce.{rows_once}
-use Rattle.batch_engine.proofs.WritingRows.{rows_refused, rows_written}
+use Rattle.batch_engine.proofs.RowsOnce.{rows_by_once}
+use Rattle.batch_engine.proofs.WritingRows.{rows_denied, rows_refused_by, rows_written_by}
 
 -- ---- one thing is told
 
@@ -61,28 +61,28 @@ unless_none_once : (none : Bool) (IsDone : Tells) → IsOne IsDone → IsOne (Un
 unless_none_once true IsDone once told told' is is' = is ∙ sym is'
 unless_none_once false IsDone once told told' is is' = once told told' is is'
 
-module _ (writes : WritesOnce) (apart : ChangesApart) (turns : ChangesInTurn) (sheet : ℕ) (rows : Block)
+module _ (writes : WritesOnce) (apart : ChangesApart) (turns : ChangesInTurn) (user : List ℕ) (sheet : ℕ) (rows : Block)
     (book : PlaceBook) (sound : IsSound book) where
-  written_once : (row : ℕ) (found : PlaceSheet) → IsOne (AreWrittenFrom sheet row rows book found)
+  written_once : (row : ℕ) (found : PlaceSheet) → IsOne (AreWrittenFrom user sheet row rows book found)
   written_once row found =
       let added = added_on sheet Rows found.table.rows (rows_missing row rows found) in
       unless_broken_once (broken_by_rows sheet (rows_missing row rows found) found book.sheets)
-      (AreRowsWritten added rows true book (from_row sheet row))
-      (rows_once writes apart turns added rows true (from_row sheet row) book sound)
+      (AreRowsWrittenBy user added rows book (from_row sheet row))
+      (rows_by_once writes apart turns user added rows (from_row sheet row) book sound)
 
-  appended_once : (found : PlaceSheet) → IsOne (AreRowsAppended sheet rows book found)
+  appended_once : (found : PlaceSheet) → IsOne (AreRowsAppended user sheet rows book found)
   appended_once found told told' is is' =
       written_once is'.row found told told'
-      (subst (λ row. AreWrittenFrom sheet row rows book found told)
+      (subst (λ row. AreWrittenFrom user sheet row rows book found told)
       (row_once found is.row is'.row is.behind is'.behind) is.written) is'.written
 
   on_found_once : (found : Option PlaceSheet) → IsOne (λ told. MatchOption found (told ≡ Err rule.NoSheet)
-      (λ found. UnlessNone (rows_needed rows == 0) (AreRowsAppended sheet rows book found) told))
+      (λ found. UnlessNone (rows_needed rows == 0) (AreRowsAppended user sheet rows book found) told))
   on_found_once None told told' is is' = is ∙ sym is'
   on_found_once (Some found) told told' is is' =
-      unless_none_once (rows_needed rows == 0) (AreRowsAppended sheet rows book found) (appended_once found) told told' is is'
+      unless_none_once (rows_needed rows == 0) (AreRowsAppended user sheet rows book found) (appended_once found) told told' is is'
 
-  pub append_cells_once : IsOne (IsAppendCells sheet rows book)
+  pub append_cells_once : IsOne (IsAppendCells user sheet rows book)
   append_cells_once = on_found_once (place_sheet_with sheet book.sheets)
 
 -- ---- rows that are added
@@ -204,12 +204,12 @@ module _ (sheet count : ℕ) (before : PlaceBook) (found : PlaceSheet)
 
 -- ---- rows that are written behind them
 
-module _ (sheet row : ℕ) (rows : Block) (before : PlaceBook) (found : PlaceSheet) where
+module _ (user : List ℕ) (sheet row : ℕ) (rows : Block) (before : PlaceBook) (found : PlaceSheet) where
   abbrev count : ℕ
   count = rows_missing row rows found
 
   abbrev Written : Tells
-  Written = AreRowsWritten (added_on sheet Rows found.table.rows count) rows true before (from_row sheet row)
+  Written = AreRowsWrittenBy user (added_on sheet Rows found.table.rows count) rows before (from_row sheet row)
 
   -- with them the first cell is there
   pub cell_there : (between : PlaceBook) → 0 < found.table.cols → 0 < rows_needed rows
@@ -221,7 +221,7 @@ module _ (sheet row : ℕ) (rows : Block) (before : PlaceBook) (found : PlaceShe
       (sym is.there) (omega (arith, last, some), omega (arith, wide, cols))
 
   pub written_told : (after : PlaceBook) (answer : Reply) → broken_by_rows sheet count found before.sheets ≡ None
-      → IsDoneTo Written before after (Ok answer) → IsDoneTo (AreWrittenFrom sheet row rows before found) before after (Ok answer)
+      → IsDoneTo Written before after (Ok answer) → IsDoneTo (AreWrittenFrom user sheet row rows before found) before after (Ok answer)
   written_told after answer none (changes, is, made) = (
     changes,
     subst (λ broken. UnlessBroken broken Written (Ok (answer, changes))) (sym none) is,
@@ -230,14 +230,14 @@ module _ (sheet row : ℕ) (rows : Block) (before : PlaceBook) (found : PlaceShe
 
   pub written_refused : (after : PlaceBook) (fault : RuleOr) → broken_by_rows sheet count found before.sheets ≡ None
       → IsUnlessNoMemory (IsDoneTo Written before after) (Err fault)
-      → IsUnlessNoMemory (IsDoneTo (AreWrittenFrom sheet row rows before found) before after) (Err fault)
+      → IsUnlessNoMemory (IsDoneTo (AreWrittenFrom user sheet row rows before found) before after) (Err fault)
   written_refused after (refusal.Rule broken) none is =
       subst (λ first. UnlessBroken first Written (Err broken)) (sym none) is
   written_refused after refusal.NoMemory none is = tt
 
   pub adding_refused : (between after : PlaceBook) (fault : RuleOr)
       → IsUnlessNoMemory (AreRowsAdded sheet count found before between) (Err fault)
-      → IsUnlessNoMemory (IsDoneTo (AreWrittenFrom sheet row rows before found) before after) (Err fault)
+      → IsUnlessNoMemory (IsDoneTo (AreWrittenFrom user sheet row rows before found) before after) (Err fault)
   adding_refused between after (refusal.Rule broken) is =
       subst (λ first. UnlessBroken first Written (Err broken)) (sym is) refl
   adding_refused between after refusal.NoMemory is = tt
@@ -267,13 +267,17 @@ module _ (sheet count : ℕ) (before : PlaceBook) where
       (place_sheet_with sheet before.sheets) answers in
       subst (λ one. IsSomeAnd one (Adds after (Ok tt))) (sym is) (some_added sheet count before found is after some answer)
 
-module _ (sheet row : ℕ) (rows : Block) (before : PlaceBook) (missing_rows : ℕ)
+module _ (user : List ℕ) (sheet row : ℕ) (rows : Block) (before : PlaceBook) (missing_rows : ℕ)
     (there : IsSomeAnd (place_sheet_with sheet before.sheets) (λ found. row ≤ found.table.rows))
     (missing_is : IsSomeAnd (place_sheet_with sheet before.sheets) (λ found. missing_rows ≡ rows_missing row rows found)) where
   -- the sheet, and what is known of it
   found_sheet : (found : PlaceSheet) × (place_sheet_with sheet before.sheets ≡ Some found)
       × (missing_rows ≡ rows_missing row rows found)
   found_sheet = some_and (λ found. missing_rows ≡ rows_missing row rows found) (place_sheet_with sheet before.sheets) missing_is
+
+  abbrev FromFound : PlaceBook → Result Reply RuleOr → PlaceSheet → Type 0
+  FromFound after answer found =
+      IsUnlessNoMemory (IsDoneTo (AreWrittenFrom user sheet row rows before found) before after) answer
 
   module _ (between : PlaceBook)
       (added : IsSomeAnd (place_sheet_with sheet before.sheets)
@@ -288,36 +292,46 @@ module _ (sheet row : ℕ) (rows : Block) (before : PlaceBook) (missing_rows : �
     pub found_there : IsSound before → 0 < rows_needed rows → IsThere between.sheets (from_row sheet row)
     found_there sound some =
         let (found, is, same) = found_sheet in
-        cell_there sheet row rows before found between (sheet_sound before sound sheet found is).cols.0 some
+        cell_there user sheet row rows before found between (sheet_sound before sound sheet found is).cols.0 some
         (added_to found is same).1
 
-    pub found_told : ChangesInTurn → UpdatesAreChanges → (after : PlaceBook) (wrote : WrittenValues)
-        → IsSomeAnd (place_sheet_with sheet between.sheets)
-        (λ own. IsUnlessNoMemory (IsWrite true (from_row sheet row) rows own between after) (Ok wrote))
-        → IsSomeAnd (place_sheet_with sheet before.sheets)
-        (λ found. IsDoneTo (AreWrittenFrom sheet row rows before found) before after (Ok reply.Empty))
-    found_told turns are after wrote written =
-        let (found, is, same) = found_sheet in
-        let (none, lines) = added_to found is same in
-        subst (λ one. IsSomeAnd one (λ found. IsDoneTo (AreWrittenFrom sheet row rows before found) before after (Ok reply.Empty)))
-        (sym is)
-        (written_told sheet row rows before found after reply.Empty none
-        (rows_written (added_on sheet Rows found.table.rows (rows_missing row rows found)) rows true before between after
-        (from_row sheet row) lines.changes turns are wrote written))
+    module _ (denied : Option ℕ)
+        (is_denied : IsDenial user between (WriteCells between.sheets true (from_row sheet row) rows) denied) where
+      pub found_refused : (after : PlaceBook) (fault : RuleOr)
+          → IsSomeAnd (place_sheet_with sheet between.sheets)
+          (λ own. IsUnlessNoMemory (IsWrite true (from_row sheet row) rows own between after) (Err fault))
+          → IsSomeAnd (place_sheet_with sheet before.sheets) (FromFound after (Err fault))
+      found_refused after fault written =
+          let (found, is, same) = found_sheet in
+          let (none, lines) = added_to found is same in
+          subst (λ one. IsSomeAnd one (FromFound after (Err fault))) (sym is)
+          (written_refused user sheet row rows before found after fault none
+          (rows_refused_by user (added_on sheet Rows found.table.rows (rows_missing row rows found)) rows before between
+          after (from_row sheet row) lines.changes denied is_denied fault written))
 
-    pub found_refused : (after : PlaceBook) (fault : RuleOr)
-        → IsSomeAnd (place_sheet_with sheet between.sheets)
-        (λ own. IsUnlessNoMemory (IsWrite true (from_row sheet row) rows own between after) (Err fault))
-        → IsSomeAnd (place_sheet_with sheet before.sheets)
-        (λ found. IsUnlessNoMemory (IsDoneTo (AreWrittenFrom sheet row rows before found) before after) (Err fault))
-    found_refused after fault written =
-        let (found, is, same) = found_sheet in
-        let (none, lines) = added_to found is same in
-        subst (λ one. IsSomeAnd one (λ found.
-        IsUnlessNoMemory (IsDoneTo (AreWrittenFrom sheet row rows before found) before after) (Err fault))) (sym is)
-        (written_refused sheet row rows before found after fault none
-        (rows_refused (added_on sheet Rows found.table.rows (rows_missing row rows found)) rows true before between after
-        (from_row sheet row) lines.changes fault written))
+      module _ (turns : ChangesInTurn) (are : UpdatesAreChanges) (after : PlaceBook) (wrote : WrittenValues)
+          (written : IsSomeAnd (place_sheet_with sheet between.sheets)
+          (λ own. IsUnlessNoMemory (IsWrite true (from_row sheet row) rows own between after) (Ok wrote))) where
+        pub found_told : denied ≡ None
+            → IsSomeAnd (place_sheet_with sheet before.sheets) (FromFound after (Ok reply.Empty))
+        found_told allowed =
+            let (found, is, same) = found_sheet in
+            let (none, lines) = added_to found is same in
+            subst (λ one. IsSomeAnd one (FromFound after (Ok reply.Empty))) (sym is)
+            (written_told user sheet row rows before found after reply.Empty none
+            (rows_written_by user (added_on sheet Rows found.table.rows (rows_missing row rows found)) rows before between
+            after (from_row sheet row) lines.changes denied is_denied turns are wrote written allowed))
+
+        pub found_denied : (id : ℕ) → denied ≡ Some id
+            → IsSomeAnd (place_sheet_with sheet before.sheets)
+            (FromFound after (Err (refusal.Rule (rule.Protected id))))
+        found_denied id some =
+            let (found, is, same) = found_sheet in
+            let (none, lines) = added_to found is same in
+            subst (λ one. IsSomeAnd one (FromFound after (Err (refusal.Rule (rule.Protected id))))) (sym is)
+            (written_refused user sheet row rows before found after (refusal.Rule (rule.Protected id)) none
+            (rows_denied user (added_on sheet Rows found.table.rows (rows_missing row rows found)) rows before between
+            after (from_row sheet row) lines.changes denied is_denied turns are wrote written id some))
 
 -- a row behind the last one is one of the sheet's, or the one behind them
 pub behind_there : (book : PlaceBook) → IsSound book → (sheet row : ℕ) (found : PlaceSheet)

@@ -1,22 +1,25 @@
 -- Rows that are written make one thing of the cells, and have one answer.
-use Rattle.std.proofs.Common.{◌≡◌, Bool, sym, ap, subst, ◌∙◌, List, ◌++◌}
+use Rattle.std.proofs.Common.{◌≡◌, ℕ, Bool, true, sym, ap, subst, ◌∙◌, List, ◌++◌}
 use Rattle.std.specs.Prelude.{Some, Result, Ok, Err, MatchResult}
 use Rattle.cell_value.specs.declared.cell.Block.{Block}
 use Rattle.grid_range.specs.declared.area.Area.{Area}
 use Rattle.world_model.specs.Book.{PlaceBook}
-use Rattle.world_model.specs.BookChange.{BookChange}
+use Rattle.world_model.specs.BookChange.{AreChanges, BookChange}
 use Rattle.world_model.specs.ChangingLaws.{ChangesApart, ChangesInTurn}
 use Rattle.world_model.specs.Sheet.{PlaceSheet}
 use Rattle.world_model.specs.Sound.{IsSound, place_sheet_with}
 use Rattle.world_model.specs.Updating.{Updates}
 use Rattle.dimension_ops.specs.declared.rule.Rule.{Rule}
 use Rattle.values_api.specs.Blocks.{IsWrite, contents_of}
+use Rattle.values_api.specs.Denials.{IsUnlessDenied, WriteCells}
 use Rattle.values_api.specs.Laws.{WritesOnce}
 use Rattle.values_api.specs.declared.writing.Written.{Written}
 use Rattle.sheets_json.specs.declared.spreadsheet.Reply.{Reply}
 use Rattle.sheets_json.specs.declared.spreadsheet.Reply.TheVariants as reply
+use Rattle.batch_engine.specs.AppendCells.{AreRowsWrittenBy}
 use Rattle.batch_engine.specs.Effects.{cells_updated}
-use Rattle.batch_engine.specs.Rows.{AreRowsWritten, OnArea}
+use Rattle.batch_engine.proofs.DeniedOnce.{unless_once}
+use Rattle.batch_engine.specs.Rows.{AreRowsPut, AreRowsWritten, OnArea}
 
 some_same : {A : Type 0} (one other : A) → Some one ≡ Some other → one ≡ other
 some_same one other e = cc
@@ -55,14 +58,39 @@ module _ (writes_once : WritesOnce) (apart : ChangesApart) (turns : ChangesInTur
       (subst (Tells told (contents_of writes'.entries)) same_wrote (subst (λ updates. Tells told updates wrote) same tells))
       tells'
 
-  pub rows_once : (book : PlaceBook) → IsSound book → (told told' : Result (Reply × List BookChange) Rule)
-      → AreRowsWritten first rows one_cell book area told → AreRowsWritten first rows one_cell book area told'
+  -- on what the first changes leave
+  put_once : (between : PlaceBook) → IsSound between → (told told' : Result (Reply × List BookChange) Rule)
+      → AreRowsPut first rows one_cell between area told → AreRowsPut first rows one_cell between area told'
       → told ≡ told'
-  rows_once book sound told told' one other =
-      let same = apart.same first book one.between other.between sound one.changed other.changed in
-      let same_sheet = some_same one.sheet other.sheet
-      (sym one.there ∙ ap (λ (book : PlaceBook). place_sheet_with area.sheet book.sheets) same ∙ other.there) in
-      told_once other.between other.sheet told told' (turns.sound first book other.between sound other.changed)
-      (subst (λ between. ToldOf told between other.sheet) same
-      (subst (ToldOf told one.between) same_sheet (one.after, one.wrote, one.writes, one.tells)))
+  put_once between sound told told' one other =
+      told_once between other.sheet told told' sound
+      (subst (ToldOf told between) (some_same one.sheet other.sheet (sym one.there ∙ other.there))
+      (one.after, one.wrote, one.writes, one.tells))
       (other.after, other.wrote, other.writes, other.tells)
+
+  module _ (book : PlaceBook) (sound : IsSound book) where
+    between_sound : (between : PlaceBook) → AreChanges first book between → IsSound between
+    between_sound between changed = turns.sound first book between sound changed
+
+    pub rows_once : (told told' : Result (Reply × List BookChange) Rule)
+        → AreRowsWritten first rows one_cell book area told → AreRowsWritten first rows one_cell book area told'
+        → told ≡ told'
+    rows_once told told' one other =
+        let same = apart.same first book one.between other.between sound one.changed other.changed in
+        put_once other.between (between_sound other.between other.changed) told told'
+        (subst (λ between. AreRowsPut first rows one_cell between area told) same one.put) other.put
+
+-- a user's rows
+pub rows_by_once : WritesOnce → ChangesApart → ChangesInTurn → (user : List ℕ) (first : List BookChange) (rows : Block)
+    (area : Area) (book : PlaceBook) → IsSound book → (told told' : Result (Reply × List BookChange) Rule)
+    → AreRowsWrittenBy user first rows book area told → AreRowsWrittenBy user first rows book area told'
+    → told ≡ told'
+rows_by_once writes apart turns user first rows area book sound told told' one other =
+    let same = apart.same first book one.between other.between sound one.changed other.changed in
+    unless_once user other.between (WriteCells other.between.sheets true area rows)
+    (AreRowsPut first rows true other.between area)
+    (put_once writes apart turns first rows true area other.between
+    (turns.sound first book other.between sound other.changed))
+    told told'
+    (subst (λ (between : PlaceBook). IsUnlessDenied user between (WriteCells between.sheets true area rows)
+    (AreRowsPut first rows true between area) told) same one.put) other.put

@@ -52,4 +52,5 @@ module _ (id : ℕ) (one later both : Updates) (same : (row col : ℕ) (held : O
     owner = second.owner ∙ first.owner;
     sheets = sheets_both before.sheets between.sheets after.sheets first.sheets second.sheets;
     ranges = second.ranges ∙ first.ranges;
+    protections = second.protections ∙ first.protections;
   }

@@ -17,10 +17,11 @@ use Rattle.dimension_ops.specs.declared.rule.Rule.{Rule}
 use Rattle.dimension_ops.specs.declared.rule.Rule.TheVariants as rule
 use Rattle.values_api.specs.Appends.{added_on, missing}
 use Rattle.values_api.specs.Blocks.{rows_needed}
+use Rattle.values_api.specs.Denials.{IsUnlessDenied, WriteCells}
 use Rattle.values_api.specs.Rows.{IsRowBehind}
 use Rattle.sheets_json.specs.declared.spreadsheet.Reply.{Reply}
 use Rattle.sheets_json.specs.declared.spreadsheet.Reply.TheVariants as reply
-use Rattle.batch_engine.specs.Rows.{AreRowsWritten}
+use Rattle.batch_engine.specs.Rows.{AreRowsPut}
 use Rattle.batch_engine.specs.Telling.{Tells, UnlessBroken}
 
 -- the sheet from the first column of the row on
@@ -36,29 +37,38 @@ abbrev pub broken_by_rows : ℕ → ℕ → PlaceSheet → List PlaceSheet → O
 broken_by_rows sheet count found sheets =
     if count == 0 then None else first_broken (lines_broken sheet Rows (Insert found.table.rows count) sheets)
 
--- the values are written from the row on, once the missing rows are there
-abbrev pub AreWrittenFrom : ℕ → ℕ → Block → PlaceBook → PlaceSheet → Tells
-AreWrittenFrom sheet row rows book found =
+-- the first changes are made, and then the user's rows are written to the area: the cells that are written or emptied
+-- are touched, and which protected ranges deny one is taken then, since it may be of a new row
+pub record AreRowsWrittenBy (user : List ℕ) (first : List BookChange) (rows : Block) (book : PlaceBook) (area : Area)
+    (told : Result (Reply × List BookChange) Rule) : Type 0 where
+  pub between : PlaceBook
+  pub changed : AreChanges first book between
+  pub put : IsUnlessDenied user between (WriteCells between.sheets true area rows)
+      (AreRowsPut first rows true between area) told
+
+-- they are written from the row on, once the missing rows are there
+abbrev pub AreWrittenFrom : List ℕ → ℕ → ℕ → Block → PlaceBook → PlaceSheet → Tells
+AreWrittenFrom user sheet row rows book found =
     UnlessBroken (broken_by_rows sheet (rows_missing row rows found) found book.sheets)
-    (AreRowsWritten (added_on sheet Rows found.table.rows (rows_missing row rows found)) rows true book
+    (AreRowsWrittenBy user (added_on sheet Rows found.table.rows (rows_missing row rows found)) rows book
     (from_row sheet row))
 
 -- from the row behind the last one that holds a cell on
-pub record AreRowsAppended (sheet : ℕ) (rows : Block) (book : PlaceBook) (found : PlaceSheet)
+pub record AreRowsAppended (user : List ℕ) (sheet : ℕ) (rows : Block) (book : PlaceBook) (found : PlaceSheet)
     (told : Result (Reply × List BookChange) Rule) : Type 0 where
   pub row : ℕ
   pub behind : IsRowBehind found.table row
-  pub written : AreWrittenFrom sheet row rows book found told
+  pub written : AreWrittenFrom user sheet row rows book found told
 
 -- no rows change nothing
 abbrev pub UnlessNone : Bool → Tells → Tells
 UnlessNone true IsDone told = told ≡ Ok (reply.Empty, [])
 UnlessNone false IsDone told = IsDone told
 
-abbrev pub IsAppendCells : ℕ → Block → PlaceBook → Tells
-IsAppendCells sheet rows book told =
+abbrev pub IsAppendCells : List ℕ → ℕ → Block → PlaceBook → Tells
+IsAppendCells user sheet rows book told =
     MatchOption (place_sheet_with sheet book.sheets) (told ≡ Err rule.NoSheet)
-    (λ found. UnlessNone (rows_needed rows == 0) (AreRowsAppended sheet rows book found) told)
+    (λ found. UnlessNone (rows_needed rows == 0) (AreRowsAppended user sheet rows book found) told)
 
 -- ---- what the private functions hand to one another
 

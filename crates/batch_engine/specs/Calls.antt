@@ -93,15 +93,16 @@ pub record IsMade {A : Type 0} (Is : Result (A × List BookChange) Rule → Type
 abbrev pub IsReadOf : List ℕ → Option Axis → Option Render → PlaceBook → Result Answer Rule → Effect → Type 0
 IsReadOf range dimension render book = IsSeen (IsShown dimension render book range) answer.Read
 
-abbrev pub IsWriteOf : List ℕ → Reading ValueRange → PlaceBook → Result Answer Rule → Effect → Type 0
-IsWriteOf range values book = IsMade (IsWritten range book values) (λ wrote. answer.Write wrote.0) book
+abbrev pub IsWriteOf : List ℕ → List ℕ → Reading ValueRange → PlaceBook → Result Answer Rule → Effect → Type 0
+IsWriteOf user range values book = IsMade (IsWritten user range book values) (λ wrote. answer.Write wrote.0) book
 
-abbrev pub IsAppendOf : List ℕ → Option InsertData → Reading ValueRange → PlaceBook → Result Answer Rule → Effect → Type 0
-IsAppendOf range option values book =
-    IsMade (IsAppended range (inserts option) book values) (λ made. answer.Append book.id made.0 made.1) book
+abbrev pub IsAppendOf : List ℕ → List ℕ → Option InsertData → Reading ValueRange → PlaceBook → Result Answer Rule → Effect
+    → Type 0
+IsAppendOf user range option values book =
+    IsMade (IsAppended user range (inserts option) book values) (λ made. answer.Append book.id made.0 made.1) book
 
-abbrev pub IsClearOf : List ℕ → PlaceBook → Result Answer Rule → Effect → Type 0
-IsClearOf range book = IsMade (IsCleared book (Ok range)) (λ text. answer.Clear text book.id) book
+abbrev pub IsClearOf : List ℕ → List ℕ → PlaceBook → Result Answer Rule → Effect → Type 0
+IsClearOf user range book = IsMade (IsCleared user book (Ok range)) (λ text. answer.Clear text book.id) book
 
 -- ---- calls on several ranges
 
@@ -132,8 +133,9 @@ pub record AreMade {M A : Type 0} (Is : PlaceBook → M → Result (A × List Bo
   pub told_is : told ≡ answered_at at answer_of all
   pub effect_is : effect ≡ effect_of book all changes
 
-abbrev pub IsClearManyOf : List (Reading (List ℕ)) → PlaceBook → Result Answer Refusal → Effect → Type 0
-IsClearManyOf ranges book = AreMade IsCleared ranges place.Ranges (λ texts. answer.ClearMany texts book.id) book
+abbrev pub IsClearManyOf : List ℕ → List (Reading (List ℕ)) → PlaceBook → Result Answer Refusal → Effect → Type 0
+IsClearManyOf user ranges book =
+    AreMade (IsCleared user) ranges place.Ranges (λ texts. answer.ClearMany texts book.id) book
 
 abbrev pub lines_on : Axis → Written → List ℕ
 lines_on Rows written = written.rows
@@ -154,15 +156,15 @@ written_answer book writes =
     answer.WriteMany (map (λ wrote. wrote.0) writes) book.id (sum_by (λ wrote. wrote.1.cells) writes)
     (distinct_count same_line cols) (distinct_count same_line rows) (distinct_count ◌==◌ (map (λ line. line.0) rows))
 
-abbrev pub IsWriteManyOf : List (Reading RangeBlock) → PlaceBook → Result Answer Refusal → Effect → Type 0
-IsWriteManyOf blocks book = AreMade IsUpdated blocks place.Data (written_answer book) book
+abbrev pub IsWriteManyOf : List ℕ → List (Reading RangeBlock) → PlaceBook → Result Answer Refusal → Effect → Type 0
+IsWriteManyOf user blocks book = AreMade (IsUpdated user) blocks place.Data (written_answer book) book
 
 -- ---- batches
 
 -- requests are done one after another, or none is
-abbrev pub IsBatchOf : List Step → PlaceBook → Result Answer Refusal → Effect → Type 0
-IsBatchOf requests book =
-    AreMade IsRequested requests place.Requests (λ replies. answer.Batch replies book.id) book
+abbrev pub IsBatchOf : List ℕ → List Step → PlaceBook → Result Answer Refusal → Effect → Type 0
+IsBatchOf user requests book =
+    AreMade (IsRequested user) requests place.Requests (λ replies. answer.Batch replies book.id) book
 
 -- ---- calls
 
@@ -170,9 +172,9 @@ IsBatchOf requests book =
 abbrev pub OnBook : List ℕ → List PlaceBook → (PlaceBook → Type 0) → Type 0
 OnBook id books Holds = IsSomeAnd (book_with id books) Holds
 
--- a look at the spreadsheet changes nothing
-abbrev pub IsLookOf : Option Bool → PlaceBook → Result Answer Refusal → Effect → Type 0
-IsLookOf grids book told effect = (told ≡ Ok (looked grids book)) × (effect ≡ Nothing)
+-- a user's look at the spreadsheet changes nothing
+abbrev pub IsLookOf : List ℕ → Option Bool → PlaceBook → Result Answer Refusal → Effect → Type 0
+IsLookOf user grids book told effect = (told ≡ Ok (looked user grids book)) × (effect ≡ Nothing)
 
 -- a call that isn't done yet is unsupported
 abbrev pub IsNotDone : Result Answer Refusal → Effect → Type 0
@@ -182,23 +184,23 @@ IsNotDone told effect = (told ≡ Err (place.Alone, rule.Unsupported)) × (effec
 abbrev pub IsAnswered : Caller → Call → List PlaceBook → Result Answer Refusal → Effect → Type 0
 IsAnswered caller (call.Create spreadsheet) books told effect =
     IsAlone (IsCreateOf caller.user spreadsheet books) told effect
-IsAnswered caller (call.Get id grids) books told effect = OnBook id books (λ book. IsLookOf grids book told effect)
+IsAnswered caller (call.Get id grids) books told effect = OnBook id books (λ book. IsLookOf caller.user grids book told effect)
 IsAnswered caller (call.Batch id requests) books told effect =
-    OnBook id books (λ book. IsBatchOf requests book told effect)
+    OnBook id books (λ book. IsBatchOf caller.user requests book told effect)
 IsAnswered caller (call.Read id range dimension render) books told effect =
     OnBook id books (λ book. IsAlone (IsReadOf range dimension render book) told effect)
 IsAnswered caller (call.Write id range mode values) books told effect =
-    OnBook id books (λ book. IsAlone (IsWriteOf range values book) told effect)
+    OnBook id books (λ book. IsAlone (IsWriteOf caller.user range values book) told effect)
 IsAnswered caller (call.Append id range mode option values) books told effect =
-    OnBook id books (λ book. IsAlone (IsAppendOf range option values book) told effect)
+    OnBook id books (λ book. IsAlone (IsAppendOf caller.user range option values book) told effect)
 IsAnswered caller (call.Clear id range) books told effect =
-    OnBook id books (λ book. IsAlone (IsClearOf range book) told effect)
+    OnBook id books (λ book. IsAlone (IsClearOf caller.user range book) told effect)
 IsAnswered caller (call.ReadMany id ranges dimension render) books told effect =
     OnBook id books (λ book. IsReadManyOf ranges dimension render book told effect)
 IsAnswered caller (call.WriteMany id mode blocks) books told effect =
-    OnBook id books (λ book. IsWriteManyOf blocks book told effect)
+    OnBook id books (λ book. IsWriteManyOf caller.user blocks book told effect)
 IsAnswered caller (call.ClearMany id ranges) books told effect =
-    OnBook id books (λ book. IsClearManyOf ranges book told effect)
+    OnBook id books (λ book. IsClearManyOf caller.user ranges book told effect)
 IsAnswered caller (call.ReadFiltered id filters dimension render) books told effect = IsNotDone told effect
 IsAnswered caller (call.Item id item) books told effect = IsNotDone told effect
 IsAnswered caller (call.Search id filters) books told effect = IsNotDone told effect

@@ -40,7 +40,7 @@ pub record IsMadeFor (owner : List ℕ) (asked : NewSpreadsheet) (books : List P
   pub placed : List Placed
   pub are : ArePlaced (asked_sheets asked.sheets) [] placed
   pub told_is : told ≡ judged_by (created_broken (length books) (asked_sheets asked.sheets) placed)
-      (answer.Create (spreadsheet_of false (book_made owner asked (length books) placed)))
+      (answer.Create (spreadsheet_of owner false (book_made owner asked (length books) placed)))
   pub effect_is : effect ≡ unless_broken told (makes_book owner asked (length books) placed)
 
 -- one whose shape is broken is refused

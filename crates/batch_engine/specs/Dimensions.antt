@@ -1,17 +1,23 @@
 -- insertDimension, deleteDimension, appendDimension and moveDimension (Google Sheets API v4 reference,
--- InsertDimensionRequest, DeleteDimensionRequest, AppendDimensionRequest and MoveDimensionRequest).
-use Rattle.std.specs.Prelude.{ℕ, Bool, false, ◌-◌, ◌==◌, ◌&&◌, ◌||◌, nat_le, nat_lt, List, [], ◌∷◌, unwrap_or}
+-- InsertDimensionRequest, DeleteDimensionRequest, AppendDimensionRequest and MoveDimensionRequest). Every cell of lines
+-- that are deleted or moved is touched, and no other one.
+use Rattle.std.specs.Prelude.{◌≡◌, ℕ, Bool, false, ◌-◌, ◌==◌, ◌&&◌, ◌||◌, nat_le, nat_lt, List, [], ◌∷◌, unwrap_or}
 use Rattle.std.specs.Prelude.{Result, Err, if◌then◌else◌}
 use Rattle.std.specs.Option.{is_none, option_map_or}
+use Rattle.grid_range.specs.Area.{with_band}
+use Rattle.grid_range.specs.declared.area.Area.{Area}
 use Rattle.grid_range.specs.declared.axis.Axis.{Axis}
+use Rattle.grid_range.specs.declared.band.Band.TheVariants.{Whole, Span}
 use Rattle.grid_range.specs.declared.change.Change.{Change}
 use Rattle.grid_range.specs.declared.change.Change.TheVariants.{Insert, Delete, Move}
+use Rattle.protection.specs.Denial.{Cells}
 use Rattle.world_model.specs.BookChange.{BookChange}
 use Rattle.world_model.specs.Sheet.{PlaceSheet}
 use Rattle.world_model.specs.Sound.{place_sheet_with}
 use Rattle.dimension_ops.specs.Broken.{Broken, first_broken, judged_by, unbroken}
-use Rattle.dimension_ops.specs.Lines.{lines_broken, lines_of_sheet}
+use Rattle.dimension_ops.specs.Lines.{keeps_places, lines_broken, lines_of_sheet}
 use Rattle.dimension_ops.specs.declared.rule.Rule.{Rule}
+use Rattle.values_api.specs.Denials.{AreaCells}
 use Rattle.json_requests.specs.declared.request.DimensionRange.{DimensionRange}
 use Rattle.sheets_json.specs.declared.spreadsheet.Reply.{Reply}
 use Rattle.sheets_json.specs.declared.spreadsheet.Reply.TheVariants as reply
@@ -37,6 +43,15 @@ broken_before sheet reversed outside at_zero sheets = record unbroken {
 abbrev pub lines_told : Broken → ℕ → Axis → Change → List PlaceSheet → Result (Reply × List BookChange) Rule
 lines_told broken sheet axis change sheets = option_map_or Err (first_broken broken)
     (judged_by (lines_broken sheet axis change sheets) (reply.Empty, BookChange.LinesChanged sheet axis change ∷ []))
+
+-- all cells of the sheet
+abbrev pub whole_sheet : ℕ → Area
+whole_sheet sheet = record { sheet = sheet; rows = Whole; cols = Whole }
+
+-- the lines of a range
+abbrev pub lines_area : DimensionRange → List PlaceSheet → Area
+lines_area range sheets =
+    with_band range.dimension (whole_sheet range.sheet_id) (Span range.start_index (end_of range sheets))
 
 -- ---- insertDimension
 
@@ -68,6 +83,9 @@ dimension_deleted range sheets =
     lines_told (delete_broken range sheets) range.sheet_id range.dimension
     (Delete range.start_index (end_of range sheets)) sheets
 
+abbrev pub DeletedCells : DimensionRange → List PlaceSheet → Cells
+DeletedCells range sheets = AreaCells sheets (lines_area range sheets)
+
 -- ---- moveDimension
 
 -- the destination is counted before the lines are taken away, and may be behind the last line
@@ -82,6 +100,13 @@ abbrev pub dimension_moved : DimensionRange → ℕ → List PlaceSheet → Resu
 dimension_moved range to sheets =
     lines_told (move_broken range to sheets) range.sheet_id range.dimension
     (Move range.start_index (end_of range sheets) to) sheets
+
+-- a destination from the range's start to its end leaves the lines where they are: then none is touched
+abbrev pub MovedCells : DimensionRange → ℕ → List PlaceSheet → Cells
+MovedCells range to sheets id row col =
+    (keeps_places (Move range.start_index (end_of range sheets) to)
+    (lines_there range.sheet_id range.dimension sheets) ≡ false)
+    × AreaCells sheets (lines_area range sheets) id row col
 
 -- ---- appendDimension
 

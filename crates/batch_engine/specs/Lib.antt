@@ -4,6 +4,7 @@ pub mod Telling
 pub mod Members
 pub mod Values
 pub mod Rows
+pub mod Protections
 pub mod UpdateCells
 pub mod AppendCells
 pub mod Looks
@@ -18,6 +19,12 @@ pub mod DeleteNamedRange
 pub mod Merging
 pub mod MergeCells
 pub mod UnmergeCells
+pub mod AddProtectedRange
+pub mod UpdateProtectedRange
+pub mod DeleteProtectedRange
+pub mod Touching
 pub mod Requests
 pub mod Calls
+pub mod Protected
+pub mod Untouched
 pub mod Laws

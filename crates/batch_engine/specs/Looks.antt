@@ -1,5 +1,5 @@
 -- What is shown of a spreadsheet itself (Google Sheets API v4 reference, spreadsheets.get, Spreadsheet, Sheet,
--- SheetProperties, GridData and NamedRange). None has filters or protected ranges yet.
+-- SheetProperties, GridData, NamedRange and ProtectedRange). None has filters yet.
 use Rattle.std.specs.Prelude.{ℕ, ◌+◌, Bool, true, false, List, [], ◌∷◌, Option, None, Some, unwrap_or}
 use Rattle.world_model.specs.Book.{PlaceBook}
 use Rattle.world_model.specs.Sheet.{PlaceSheet}
@@ -7,8 +7,10 @@ use Rattle.sheets_json.specs.declared.answer.Answer.{Answer}
 use Rattle.sheets_json.specs.declared.answer.Answer.TheVariants as answer
 use Rattle.sheets_json.specs.declared.spreadsheet.GridData.{GridData}
 use Rattle.sheets_json.specs.declared.spreadsheet.ShownProperties.{ShownProperties}
+use Rattle.sheets_json.specs.declared.spreadsheet.ShownProtection.{ShownProtection}
 use Rattle.sheets_json.specs.declared.spreadsheet.ShownSheet.{ShownSheet}
 use Rattle.sheets_json.specs.declared.spreadsheet.Spreadsheet.{Spreadsheet}
+use Rattle.batch_engine.specs.Protections.{shown_protections}
 use Rattle.batch_engine.specs.Values.{unless_empty}
 
 -- what is known of the sheet itself, at its place among the sheets
@@ -28,30 +30,31 @@ rows_shown true = Some (record { row_metadata = [] })
 rows_shown false = None
 
 -- the sheet at a place among the sheets, with its rows or without; its merges stand by first row and then first column,
--- where there are some
-abbrev pub shown_sheet : Bool → ℕ → PlaceSheet → ShownSheet
-shown_sheet grids index sheet = record {
+-- and its protected ranges, as they are shown, in order of id, where there are some
+abbrev pub shown_sheet : Bool → ℕ → PlaceSheet → List ShownProtection → ShownSheet
+shown_sheet grids index sheet protections = record {
   basic_filter = None;
   «data» = rows_shown grids;
   merges = unless_empty sheet.merges;
   properties = shown_properties index sheet;
-  protected_ranges = None;
+  protected_ranges = unless_empty protections;
 }
 
--- the sheets from a place on
-abbrev pub shown_from : Bool → ℕ → List PlaceSheet → List ShownSheet
-shown_from grids index [] = []
-shown_from grids index (sheet ∷ sheets) = shown_sheet grids index sheet ∷ shown_from grids (index + 1) sheets
+-- the sheets of the spreadsheet from a place on
+abbrev pub shown_from : List ℕ → Bool → PlaceBook → ℕ → List PlaceSheet → List ShownSheet
+shown_from user grids book index [] = []
+shown_from user grids book index (sheet ∷ sheets) =
+    shown_sheet grids index sheet (shown_protections user book sheet.id) ∷ shown_from user grids book (index + 1) sheets
 
--- the named ranges stand in order of creation, where there are some
-abbrev pub spreadsheet_of : Bool → PlaceBook → Spreadsheet
-spreadsheet_of grids book = record {
+-- what a user is shown of the spreadsheet; the named ranges stand in order of creation, where there are some
+abbrev pub spreadsheet_of : List ℕ → Bool → PlaceBook → Spreadsheet
+spreadsheet_of user grids book = record {
   named_ranges = unless_empty book.ranges;
   title = book.title;
-  sheets = shown_from grids 0 book.sheets;
+  sheets = shown_from user grids book 0 book.sheets;
   spreadsheet_id = book.id;
 }
 
 -- the rows of the sheets are shown where that is asked for
-abbrev pub looked : Option Bool → PlaceBook → Answer
-looked grids book = answer.Get (spreadsheet_of (unwrap_or grids false) book)
+abbrev pub looked : List ℕ → Option Bool → PlaceBook → Answer
+looked user grids book = answer.Get (spreadsheet_of user (unwrap_or grids false) book)

@@ -58,13 +58,11 @@ OnArea (Err broken) IsDone told = told ≡ Err broken
 
 -- ---- rows
 
--- rows are written to the area once the first changes are made, or the write breaks a rule: limits are counted after
--- all of it
-pub record AreRowsWritten (first : List BookChange) (rows : Block) (one_cell : Bool) (book : PlaceBook) (area : Area)
+-- rows are written to the area, once the first changes have made that of the spreadsheet, or the write breaks a rule:
+-- limits are counted after all of it
+pub record AreRowsPut (first : List BookChange) (rows : Block) (one_cell : Bool) (between : PlaceBook) (area : Area)
     (told : Result (Reply × List BookChange) Rule) : Type 0 where
-  pub between : PlaceBook
   pub after : PlaceBook
-  pub changed : AreChanges first book between
   pub sheet : PlaceSheet
   pub there : place_sheet_with area.sheet between.sheets ≡ Some sheet
   pub wrote : Result Written Rule
@@ -72,3 +70,10 @@ pub record AreRowsWritten (first : List BookChange) (rows : Block) (one_cell : B
   pub tells : MatchResult wrote
       (λ counts. told ≡ Ok (reply.Empty, first ++ cells_updated area.sheet (contents_of writes.entries)))
       (λ broken. told ≡ Err broken)
+
+-- the first changes are made, and then the rows are written
+pub record AreRowsWritten (first : List BookChange) (rows : Block) (one_cell : Bool) (book : PlaceBook) (area : Area)
+    (told : Result (Reply × List BookChange) Rule) : Type 0 where
+  pub between : PlaceBook
+  pub changed : AreChanges first book between
+  pub put : AreRowsPut first rows one_cell between area told

@@ -1,5 +1,6 @@
--- What is done on the cells of a range: they are shown, emptied or written, or values are appended to its table, and
--- what is told of it (Google Sheets API v4 reference, ValueRange, UpdateValuesResponse and AppendValuesResponse).
+-- What a user does on the cells of a range: they are shown, emptied or written, or values are appended to its table, and
+-- what is told of it (Google Sheets API v4 reference, ValueRange, UpdateValuesResponse and AppendValuesResponse). What
+-- touches a cell that a protected range denies the user is refused.
 use Rattle.std.specs.Prelude.{◌≡◌, ℕ, Bool, true, false, List, [], ◌∷◌, length, Option, Some, None, unwrap_or, Result, Ok, Err}
 use Rattle.std.specs.Prelude.{IsSomeAnd, MatchResult, option_map}
 use Rattle.grid_range.specs.declared.area.Area.{Area}
@@ -16,7 +17,8 @@ use Rattle.world_model.specs.Sound.{place_sheet_with}
 use Rattle.dimension_ops.specs.declared.rule.Rule.{Rule}
 use Rattle.dimension_ops.specs.declared.rule.Rule.TheVariants as rule
 use Rattle.values_api.specs.Appends.{IsAppend}
-use Rattle.values_api.specs.Blocks.{IsWrite, contents_of}
+use Rattle.values_api.specs.Blocks.{contents_of}
+use Rattle.values_api.specs.Denials.{AreaCells, IsUnlessDenied, IsWriteBy}
 use Rattle.values_api.specs.Ranges.{FoundArea, Resolves, area_text}
 use Rattle.values_api.specs.Shown.{IsAreaShown}
 use Rattle.values_api.specs.Updates.{cleared}
@@ -85,14 +87,18 @@ IsShown dimension render book range = OnRange (Resolves range book) book.sheets 
 
 -- ---- clears
 
-abbrev pub IsClear : FoundArea → PlaceSheet → Result (List ℕ × List BookChange) Rule → Type 0
-IsClear found sheet told =
-    told ≡ Ok (area_text sheet found.0, cells_updated found.0.sheet (cleared found.0))
+abbrev pub clear : FoundArea → PlaceSheet → List ℕ × List BookChange
+clear found sheet = (area_text sheet found.0, cells_updated found.0.sheet (cleared found.0))
 
--- the range as text, and its cells emptied; a text whose shape is broken is no range
-abbrev pub IsCleared : PlaceBook → Reading (List ℕ) → Result (List ℕ × List BookChange) Rule → Type 0
-IsCleared book (Ok range) told = OnRange (Resolves range book) book.sheets IsClear told
-IsCleared book (Err shape) told = told ≡ Err (rule_of shape)
+-- each cell of the area is touched, also one that a merge covers
+abbrev pub IsClear : List ℕ → PlaceBook → FoundArea → PlaceSheet → Result (List ℕ × List BookChange) Rule → Type 0
+IsClear user book found sheet =
+    IsUnlessDenied user book (AreaCells book.sheets found.0) (λ told. told ≡ Ok (clear found sheet))
+
+-- the range as text, and its cells emptied by the user; a text whose shape is broken is no range
+abbrev pub IsCleared : List ℕ → PlaceBook → Reading (List ℕ) → Result (List ℕ × List BookChange) Rule → Type 0
+IsCleared user book (Ok range) told = OnRange (Resolves range book) book.sheets (IsClear user book) told
+IsCleared user book (Err shape) told = told ≡ Err (rule_of shape)
 
 -- ---- writes
 
@@ -109,30 +115,30 @@ update_of book sheet counts = record {
 abbrev pub Wrote : Type 0
 Wrote = UpdateAnswer × Written
 
--- the values are written, or a rule is broken
-pub record IsUpdate (book : PlaceBook) (block : Block) (found : FoundArea) (sheet : PlaceSheet)
+-- the user's values are written, or a rule is broken
+pub record IsUpdate (user : List ℕ) (book : PlaceBook) (block : Block) (found : FoundArea) (sheet : PlaceSheet)
     (told : Result (Wrote × List BookChange) Rule) : Type 0 where
   pub after : PlaceBook
   pub wrote : Result Written Rule
-  pub writes : IsWrite found.1 found.0 block sheet book after wrote
+  pub writes : IsWriteBy user found.1 found.0 block sheet book after wrote
   pub tells : MatchResult wrote
       (λ counts. told ≡ Ok (
         (update_of book sheet counts, counts),
-        cells_updated found.0.sheet (contents_of writes.entries),
+        cells_updated found.0.sheet (contents_of writes.is.entries),
       ))
       (λ broken. told ≡ Err broken)
 
--- values for a range are written; those whose shape is broken are refused whatever the range is
-abbrev pub IsWritten : List ℕ → PlaceBook → Reading ValueRange → Result (Wrote × List BookChange) Rule → Type 0
-IsWritten range book (Ok values) told =
-    OnRange (IsTarget range values.range book) book.sheets (IsUpdate book values.block) told
-IsWritten range book (Err shape) told = told ≡ Err (rule_of shape)
+-- values for a range are written by the user; those whose shape is broken are refused whatever the range is
+abbrev pub IsWritten : List ℕ → List ℕ → PlaceBook → Reading ValueRange → Result (Wrote × List BookChange) Rule → Type 0
+IsWritten user range book (Ok values) told =
+    OnRange (IsTarget range values.range book) book.sheets (IsUpdate user book values.block) told
+IsWritten user range book (Err shape) told = told ≡ Err (rule_of shape)
 
 -- and those that say their range
-abbrev pub IsUpdated : PlaceBook → Reading RangeBlock → Result (Wrote × List BookChange) Rule → Type 0
-IsUpdated book (Ok values) told =
-    OnRange (Resolves values.range book) book.sheets (IsUpdate book values.block) told
-IsUpdated book (Err shape) told = told ≡ Err (rule_of shape)
+abbrev pub IsUpdated : List ℕ → PlaceBook → Reading RangeBlock → Result (Wrote × List BookChange) Rule → Type 0
+IsUpdated user book (Ok values) told =
+    OnRange (Resolves values.range book) book.sheets (IsUpdate user book values.block) told
+IsUpdated user book (Err shape) told = told ≡ Err (rule_of shape)
 
 -- ---- appends
 
@@ -148,23 +154,24 @@ Appended = Option (List ℕ) × UpdateAnswer
 abbrev pub appended_of : PlaceBook → PlaceSheet → Option Area × Written → Appended
 appended_of book sheet (table, counts) = (option_map (area_text sheet) table, update_of book sheet counts)
 
--- the values are appended to the table of the area, or a rule is broken; it is told by the sheet as it is then
-pub record IsAppendOn (book : PlaceBook) (insert : Bool) (block : Block) (area : Area) (sheet : PlaceSheet)
-    (told : Result (Appended × List BookChange) Rule) : Type 0 where
+-- the user's values are appended to the table of the area, or a rule is broken; it is told by the sheet as it is then
+pub record IsAppendOn (user : List ℕ) (book : PlaceBook) (insert : Bool) (block : Block) (area : Area)
+    (sheet : PlaceSheet) (told : Result (Appended × List BookChange) Rule) : Type 0 where
   pub after : PlaceBook
   pub appended : Result (Option Area × Written) Rule
-  pub appends : IsAppend insert area block sheet book after appended
+  pub appends : IsAppend user insert area block sheet book after appended
   pub tells : MatchResult appended
       (λ made. (own : PlaceSheet) × (place_sheet_with area.sheet after.sheets ≡ Some own)
       × (told ≡ Ok (appended_of after own made, appends.changes)))
       (λ broken. told ≡ Err broken)
 
--- values for a range are appended; those whose shape is broken are refused whatever the range is
-abbrev pub IsAppended : List ℕ → Bool → PlaceBook → Reading ValueRange → Result (Appended × List BookChange) Rule → Type 0
-IsAppended range insert book (Ok values) told =
+-- values for a range are appended by the user; those whose shape is broken are refused whatever the range is
+abbrev pub IsAppended : List ℕ → List ℕ → Bool → PlaceBook → Reading ValueRange
+    → Result (Appended × List BookChange) Rule → Type 0
+IsAppended user range insert book (Ok values) told =
     OnRange (IsTarget range values.range book) book.sheets
-    (λ found. IsAppendOn book insert values.block found.0) told
-IsAppended range insert book (Err shape) told = told ≡ Err (rule_of shape)
+    (λ found. IsAppendOn user book insert values.block found.0) told
+IsAppended user range insert book (Err shape) told = told ≡ Err (rule_of shape)
 
 -- ---- what the private functions hand to one another
 

@@ -68,7 +68,7 @@ pub(crate) fn clear(
     user: &str,
     range: &str,
 ) -> Result<(Answer, Book), RuleOr>
-    ensures { IsUnlessNoMemory (IsChange (IsClearOf range.now book.now) book.now) result }
+    ensures { IsUnlessNoMemory (IsChange (IsClearOf user.now range.now book.now) book.now) result }
 {
     let spreadsheet_id = book.id().duplicate()?;
     let mut after = book.duplicate()?;
@@ -87,7 +87,7 @@ pub(crate) fn emptied(
     user: &str,
     range: &str,
 ) -> Result<Text, RuleOr>
-    ensures { IsUnlessNoMemory (IsDoneTo (IsCleared book.old (Rattle.std.specs.Prelude.Ok range.now)) book.old book.new) result }
+    ensures { IsUnlessNoMemory (IsDoneTo (IsCleared user.now book.old (Rattle.std.specs.Prelude.Ok range.now)) book.old book.new) result }
 {
     updates_are_changes();
     let (area, _) = resolve(alloc, book, range)?;
@@ -104,7 +104,7 @@ pub(crate) fn write(
     range: &str,
     values: &Result<ValueRange, ShapeFault>,
 ) -> Result<(Answer, Book), RuleOr>
-    ensures { IsUnlessNoMemory (IsChange (IsWriteOf range.now values.now book.now) book.now) result }
+    ensures { IsUnlessNoMemory (IsChange (IsWriteOf user.now range.now values.now book.now) book.now) result }
 {
     let mut after = book.duplicate()?;
     let (update, _) = written(alloc, &mut after, user, range, values)?;
@@ -119,7 +119,7 @@ fn written(
     range: &str,
     values: &Result<ValueRange, ShapeFault>,
 ) -> Result<(Update, Written), RuleOr>
-    ensures { IsUnlessNoMemory (IsDoneTo (IsWritten range.now book.old values.now) book.old book.new) result }
+    ensures { IsUnlessNoMemory (IsDoneTo (IsWritten user.now range.now book.old values.now) book.old book.new) result }
 {
     match values {
         Ok(values) => {
@@ -137,7 +137,7 @@ pub(crate) fn updated(
     user: &str,
     values: &Result<RangeBlock, ShapeFault>,
 ) -> Result<(Update, Written), RuleOr>
-    ensures { IsUnlessNoMemory (IsDoneTo (IsUpdated book.old values.now) book.old book.new) result }
+    ensures { IsUnlessNoMemory (IsDoneTo (IsUpdated user.now book.old values.now) book.old book.new) result }
 {
     match values {
         Ok(values) => {
@@ -159,7 +159,7 @@ fn put(
 ) -> Result<(Update, Written), RuleOr>
     requires { IsThere book.old.sheets area.now }
     ensures { IsSomeAnd (place_sheet_with area.now.sheet book.old.sheets) (λ sheet. IsUnlessNoMemory
-        (IsDoneTo (IsUpdate book.old block.now (area.now, one_cell) sheet) book.old book.new) result) }
+        (IsDoneTo (IsUpdate user.now book.old block.now (area.now, one_cell) sheet) book.old book.new) result) }
 {
     updates_are_changes();
     updates_once();

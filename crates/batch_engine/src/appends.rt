@@ -27,7 +27,7 @@ pub(crate) fn append(
     option: Option<InsertData>,
     values: &Result<ValueRange, ShapeFault>,
 ) -> Result<(Answer, Book), RuleOr>
-    ensures { IsUnlessNoMemory (IsChange (IsAppendOf range.now option values.now book.now) book.now) result }
+    ensures { IsUnlessNoMemory (IsChange (IsAppendOf user.now range.now option values.now book.now) book.now) result }
 {
     let spreadsheet_id = book.id().duplicate()?;
     let mut after = book.duplicate()?;
@@ -50,7 +50,7 @@ fn appended(
     insert: bool,
     values: &Result<ValueRange, ShapeFault>,
 ) -> Result<Appended, RuleOr>
-    ensures { IsUnlessNoMemory (IsDoneTo (IsAppended range.now insert book.old values.now) book.old book.new) result }
+    ensures { IsUnlessNoMemory (IsDoneTo (IsAppended user.now range.now insert book.old values.now) book.old book.new) result }
 {
     match values {
         Ok(values) => {
@@ -72,7 +72,7 @@ fn add(
 ) -> Result<Appended, RuleOr>
     requires { IsThere book.old.sheets area.now }
     ensures { IsSomeAnd (place_sheet_with area.now.sheet book.old.sheets) (λ sheet. IsUnlessNoMemory
-        (IsDoneTo (IsAppendOn book.old insert block.now area.now sheet) book.old book.new) result) }
+        (IsDoneTo (IsAppendOn user.now book.old insert block.now area.now sheet) book.old book.new) result) }
 {
     let (table, written) = append_values(alloc, book, user, area, insert, block)?;
     let table_range = text_of(alloc, book, table)?;

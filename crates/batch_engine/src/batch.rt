@@ -22,7 +22,7 @@ pub(crate) fn batch(
     user: &str,
     requests: &[Step],
 ) -> Result<Result<(Answer, Book), Refusal>, NoMemory>
-    ensures { IfOk result (IsChange (IsBatchOf requests.now book.now) book.now) }
+    ensures { IfOk result (IsChange (IsBatchOf user.now requests.now book.now) book.now) }
 {
     let mut after = book.duplicate()?;
     match all_requested(alloc, &mut after, user, requests)? {
@@ -45,7 +45,7 @@ fn all_requested(
     user: &str,
     requests: &[Step],
 ) -> Result<Result<Items<Reply>, (usize, Rule)>, NoMemory>
-    ensures { IfOk result (AreDone IsRequested requests.now book.old book.new) }
+    ensures { IfOk result (AreDone (IsRequested user.now) requests.now book.old book.new) }
 {
     changes_in_turn();
     let mut replies = Vec::new(alloc);
@@ -60,7 +60,7 @@ fn all_requested(
 
 /// Does a request, unless its shape is broken: its reply.
 fn requested(alloc: Global, book: &mut Book, user: &str, step: &Step) -> Result<Reply, RuleOr>
-    ensures { IsUnlessNoMemory (IsDoneTo (IsRequested book.old step.now) book.old book.new) result }
+    ensures { IsUnlessNoMemory (IsDoneTo (IsRequested user.now book.old step.now) book.old book.new) result }
 {
     match step {
         Step::Read(request) => done(alloc, book, user, request),

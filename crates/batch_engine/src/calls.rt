@@ -140,7 +140,7 @@ pub fn apply(
             include_grid_data,
         } => {
             let book = book_of(world, id.as_str());
-            let told = look(alloc, book, *include_grid_data)?;
+            let told = look(alloc, book, caller.user.as_str(), *include_grid_data)?;
             Ok(unchanged(Ok(told)))
         }
         Call::Create { spreadsheet } => {

@@ -38,7 +38,10 @@ fn make(
 {
     let mut next = world.duplicate()?;
     match next.add_book(owner, title_or_untitled(asked), &asked.sheets) {
-        Ok(_) => Ok((Answer::Create(shown_at(alloc, &next, world.count())?), next)),
+        Ok(_) => Ok((
+            Answer::Create(shown_at(alloc, &next, owner, world.count())?),
+            next,
+        )),
         Err(fault) => Err(fault),
     }
 }
@@ -53,12 +56,12 @@ fn title_or_untitled(asked: &NewSpreadsheet) -> &str
     }
 }
 
-/// The spreadsheet behind so many others, as it is shown.
-fn shown_at(alloc: Global, world: &World, at: u64) -> Result<Spreadsheet, NoMemory>
+/// The spreadsheet behind so many others, as its owner is shown it.
+fn shown_at(alloc: Global, world: &World, owner: &str, at: u64) -> Result<Spreadsheet, NoMemory>
     requires there { at < length world.now }
     requires few { at < 4294967296 }
-    ensures { IfOk result (λ shown. (other : PlaceBook) → shown ≡ spreadsheet_of false (get_or world.now at other)) }
+    ensures { IfOk result (λ shown. (other : PlaceBook) → shown ≡ spreadsheet_of owner.now false (get_or world.now at other)) }
 {
     let book = world.at(at as u32).unwrap();
-    spreadsheet_of(alloc, book, false)
+    spreadsheet_of(alloc, book, owner, false)
 }

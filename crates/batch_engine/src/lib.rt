@@ -15,4 +15,4 @@ mod targets;
 mod totals;
 
 pub use calls::{Applied, Caller, Outcome, apply};
-pub use laws::calls_answered_once;
+pub use laws::{calls_answered_once, protected_cells_stay, untouched_cells_keep};

@@ -68,7 +68,7 @@ pub(crate) fn clear_many(
     user: &str,
     ranges: &[Result<Text, ShapeFault>],
 ) -> Result<Result<(Answer, Book), Refusal>, NoMemory>
-    ensures { IfOk result (IsChange (IsClearManyOf ranges.now book.now) book.now) }
+    ensures { IfOk result (IsChange (IsClearManyOf user.now ranges.now book.now) book.now) }
 {
     let mut after = book.duplicate()?;
     match all_cleared(alloc, &mut after, user, ranges)? {
@@ -91,7 +91,7 @@ fn all_cleared(
     user: &str,
     ranges: &[Result<Text, ShapeFault>],
 ) -> Result<Result<Items<Text>, (usize, Rule)>, NoMemory>
-    ensures { IfOk result (AreDone IsCleared ranges.now book.old book.new) }
+    ensures { IfOk result (AreDone (IsCleared user.now) ranges.now book.old book.new) }
 {
     changes_in_turn();
     let mut cleared = Vec::new(alloc);
@@ -111,7 +111,7 @@ fn cleared_range(
     user: &str,
     range: &Result<Text, ShapeFault>,
 ) -> Result<Text, RuleOr>
-    ensures { IsUnlessNoMemory (IsDoneTo (IsCleared book.old range.now) book.old book.new) result }
+    ensures { IsUnlessNoMemory (IsDoneTo (IsCleared user.now book.old range.now) book.old book.new) result }
 {
     match range {
         Ok(range) => emptied(alloc, book, user, range.as_str()),
@@ -126,7 +126,7 @@ pub(crate) fn write_many(
     user: &str,
     blocks: &[Result<RangeBlock, ShapeFault>],
 ) -> Result<Result<(Answer, Book), Refusal>, NoMemory>
-    ensures { IfOk result (IsChange (IsWriteManyOf blocks.now book.now) book.now) }
+    ensures { IfOk result (IsChange (IsWriteManyOf user.now blocks.now book.now) book.now) }
 {
     let mut after = book.duplicate()?;
     match all_written(alloc, &mut after, user, blocks)? {
@@ -143,7 +143,7 @@ fn all_written(
     user: &str,
     blocks: &[Result<RangeBlock, ShapeFault>],
 ) -> Result<Result<Items<(Update, Written)>, (usize, Rule)>, NoMemory>
-    ensures { IfOk result (AreDone IsUpdated blocks.now book.old book.new) }
+    ensures { IfOk result (AreDone (IsUpdated user.now) blocks.now book.old book.new) }
 {
     changes_in_turn();
     let mut writes = Vec::new(alloc);

@@ -4,34 +4,41 @@ ghost use Rattle.world_model.specs.Sound.{most_sheets};
 ghost use Rattle.batch_engine.specs.Looks.{looked, spreadsheet_of, shown_from, shown_sheet, rows_shown, shown_properties};
 
 use crate::answers::unless_empty;
+use crate::kinds::shown_protections;
 use cell_value::{Duplicate, Items, NoMemory};
 use dimension_ops::{Book, Sheet};
 use grid_range::Area;
 use named_ranges::{NamedRange, Names};
-use sheets_json::{Answer, GridData, ShownProperties, ShownSheet, Spreadsheet};
+use sheets_json::{Answer, GridData, ShownProperties, ShownProtection, ShownSheet, Spreadsheet};
 use std::alloc::Global;
 use world_model::ids_find;
 
-/// What a look at a spreadsheet is answered, with what is known of its rows where that is asked for.
-pub(crate) fn look(alloc: Global, book: &Book, grids: Option<bool>) -> Result<Answer, NoMemory>
-    ensures { IfOk result (λ told. told ≡ looked grids book.now) }
+/// What a user's look at a spreadsheet is answered, with what is known of its rows where that is asked for.
+pub(crate) fn look(
+    alloc: Global,
+    book: &Book,
+    user: &str,
+    grids: Option<bool>,
+) -> Result<Answer, NoMemory>
+    ensures { IfOk result (λ told. told ≡ looked user.now grids book.now) }
 {
-    let shown = spreadsheet_of(alloc, book, grids.unwrap_or(false))?;
+    let shown = spreadsheet_of(alloc, book, user, grids.unwrap_or(false))?;
     Ok(Answer::Get(shown))
 }
 
-/// The spreadsheet as it is shown, with what is known of its rows or without.
+/// The spreadsheet as the user is shown it, with what is known of its rows or without.
 pub(crate) fn spreadsheet_of(
     alloc: Global,
     book: &Book,
+    user: &str,
     grids: bool,
 ) -> Result<Spreadsheet, NoMemory>
-    ensures { IfOk result (λ shown. shown ≡ spreadsheet_of grids book.now) }
+    ensures { IfOk result (λ shown. shown ≡ spreadsheet_of user.now grids book.now) }
 {
     Ok(Spreadsheet {
         named_ranges: unless_empty(ranges_of(alloc, book.names())?),
         title: book.title().duplicate()?,
-        sheets: shown_sheets(alloc, book, grids)?,
+        sheets: shown_sheets(alloc, book, user, grids)?,
         spreadsheet_id: book.id().duplicate()?,
     })
 }
@@ -52,13 +59,19 @@ fn ranges_of(alloc: Global, names: &Names) -> Result<Items<NamedRange>, NoMemory
 }
 
 /// The sheets as they are shown, in their order.
-fn shown_sheets(alloc: Global, book: &Book, grids: bool) -> Result<Items<ShownSheet>, NoMemory>
-    ensures { IfOk result (λ sheets. sheets ≡ shown_from grids 0 book.now.sheets) }
+fn shown_sheets(
+    alloc: Global,
+    book: &Book,
+    user: &str,
+    grids: bool,
+) -> Result<Items<ShownSheet>, NoMemory>
+    ensures { IfOk result (λ sheets. sheets ≡ shown_from user.now grids book.now 0 book.now.sheets) }
 {
     let mut sheets = Vec::new(alloc);
     for at in 0..book.sheets().as_slice().len() {
         let sheet = sheet_at(book, at);
-        sheets.push(shown_sheet(alloc, at as u32, sheet, grids)?)?;
+        let protections = shown_protections(alloc, book, user, sheet.id())?;
+        sheets.push(shown_sheet(alloc, at as u32, sheet, grids, protections)?)?;
     }
     Ok(Items::of(sheets))
 }
@@ -76,21 +89,22 @@ fn sheet_at(book: &Book, at: usize) -> &Sheet
 }
 
 /// The sheet as it is shown at its place among the sheets, with what is known of its rows or
-/// without.
+/// without, and with what is shown of its protected ranges.
 fn shown_sheet(
     alloc: Global,
     index: u32,
     sheet: &Sheet,
     grids: bool,
+    protections: Items<ShownProtection>,
 ) -> Result<ShownSheet, NoMemory>
-    ensures { IfOk result (λ shown. shown ≡ shown_sheet grids index sheet.now) }
+    ensures { IfOk result (λ shown. shown ≡ shown_sheet grids index sheet.now protections) }
 {
     Ok(ShownSheet {
         basic_filter: None,
         data: rows_shown(alloc, grids),
         merges: unless_empty(merges_of(alloc, sheet)?),
         properties: shown_properties(index, sheet)?,
-        protected_ranges: None,
+        protected_ranges: unless_empty(protections),
     })
 }
 

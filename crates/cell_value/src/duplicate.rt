@@ -38,3 +38,12 @@ impl Duplicate for i64 {
         Ok(*self)
     }
 }
+
+impl<T: Duplicate> Duplicate for Option<T> {
+    fn duplicate(&self) -> Result<Option<T>, NoMemory> {
+        match self {
+            Some(value) => Ok(Some(value.duplicate()?)),
+            None => Ok(None),
+        }
+    }
+}

@@ -1,4 +1,4 @@
-ghost use Rattle.std.specs.Prelude.{◌≡◌, ◌⊎◌, ℕ, List, true, Some, Ok, Err};
+ghost use Rattle.std.specs.Prelude.{◌≡◌, ◌⊎◌, true, string_bytes, Some, Ok, Err};
 ghost use Rattle.std.specs.Str.Parse.{signed_digits_value};
 ghost use Rattle.serde_json.specs.View.{view, number_view};
 ghost use Rattle.cell_value.specs.Stored.{whole_input, text_or_empty, within_longest};
@@ -109,7 +109,26 @@ pub fn read_entered(alloc: Global, mode: Mode, value: &Json) -> Result<Input, Ba
         Json::Null => Ok(Input::Skip),
         Json::Bool(truth) => Ok(Input::Truth(*truth)),
         Json::Number(number) => number_input(number),
-        Json::String(text) => text_input(alloc, mode, text.as_str()),
+        Json::String(text) => text_input(alloc, mode, String::from_str(alloc, text.as_str())?),
+        Json::Array(_) | Json::Object(_) => Err(Bad::NotScalar),
+    }
+}
+
+/// What [`read_entered`] reads of a value that is given away: its text is kept in the memory that it
+/// has.
+///
+/// # Errors
+///
+/// Those of [`read_entered`]; [`Bad::NoMemory`] only where the text behind a leading `'` can't be
+/// copied.
+pub fn take_entered(alloc: Global, mode: Mode, value: Json) -> Result<Input, Bad>
+    ensures { (result ≡ entered_input mode (view value)) ⊎ (result ≡ Err Bad.NoMemory) }
+{
+    match value {
+        Json::Null => Ok(Input::Skip),
+        Json::Bool(truth) => Ok(Input::Truth(truth)),
+        Json::Number(number) => number_input(&number),
+        Json::String(text) => text_input(alloc, mode, text),
         Json::Array(_) | Json::Object(_) => Err(Bad::NotScalar),
     }
 }
@@ -136,53 +155,53 @@ fn whole_input(whole: i64) -> Result<Input, Bad>
 }
 
 /// What a text means, by how it is taken.
-fn text_input(alloc: Global, mode: Mode, text: &str) -> Result<Input, Bad>
-    ensures { (result ≡ entered_text mode text.now) ⊎ (result ≡ Err Bad.NoMemory) }
+fn text_input(alloc: Global, mode: Mode, text: String) -> Result<Input, Bad>
+    ensures { (result ≡ entered_text mode (string_bytes text)) ⊎ (result ≡ Err Bad.NoMemory) }
 {
     match mode {
         Mode::Raw => {
-            check_length(text)?;
-            stored_text(alloc, text)
+            check_length(text.as_str())?;
+            Ok(stored_text(text))
         }
         Mode::UserEntered => typed_text(alloc, text),
     }
 }
 
 /// What a typed text means, by the first line that fits.
-fn typed_text(alloc: Global, text: &str) -> Result<Input, Bad>
-    ensures { (result ≡ entered_text Mode.UserEntered text.now) ⊎ (result ≡ Err Bad.NoMemory) }
+fn typed_text(alloc: Global, text: String) -> Result<Input, Bad>
+    ensures { (result ≡ entered_text Mode.UserEntered (string_bytes text)) ⊎ (result ≡ Err Bad.NoMemory) }
 {
-    if is_formula(text) {
-        check_length(text)?;
-        return Ok(Input::FormulaText(copy(alloc, text)?));
+    if is_formula(text.as_str()) {
+        check_length(text.as_str())?;
+        return Ok(Input::FormulaText(Text::of(text)));
     }
-    if let Some(rest) = marked_text(text) {
-        check_length(text)?;
-        return stored_text(alloc, rest);
+    if let Some(rest) = marked_text(text.as_str()) {
+        check_length(text.as_str())?;
+        return Ok(stored_text(String::from_str(alloc, rest)?));
     }
     if is_whole(text.as_bytes()) {
-        let number = digits_input(text)?;
-        check_length(text)?;
+        let number = digits_input(text.as_str())?;
+        check_length(text.as_str())?;
         return Ok(number);
     }
-    if is_word(text, "TRUE") {
+    if is_word(text.as_str(), "TRUE") {
         return Ok(Input::Truth(true));
     }
-    if is_word(text, "FALSE") {
+    if is_word(text.as_str(), "FALSE") {
         return Ok(Input::Truth(false));
     }
-    plain_text(alloc, text)
+    plain_text(text)
 }
 
 /// What a text means that is none of the others.
-fn plain_text(alloc: Global, text: &str) -> Result<Input, Bad>
-    ensures { (result ≡ within_longest text.now (plain_input text.now)) ⊎ (result ≡ Err Bad.NoMemory) }
+fn plain_text(text: String) -> Result<Input, Bad>
+    ensures { result ≡ within_longest (string_bytes text) (plain_input (string_bytes text)) }
 {
     if is_decimal(text.as_bytes()) {
         return Err(Bad::NotWhole);
     }
-    check_length(text)?;
-    stored_text(alloc, text)
+    check_length(text.as_str())?;
+    Ok(stored_text(text))
 }
 
 /// The number that a sign and digits write, where it is within 2^53 either way.
@@ -208,19 +227,12 @@ fn check_length(text: &str) -> Result<(), Bad>
 }
 
 /// The text as it is; the empty one empties the cell.
-fn stored_text(alloc: Global, text: &str) -> Result<Input, Bad>
-    ensures { (result ≡ Ok (text_or_empty text.now)) ⊎ (result ≡ Err Bad.NoMemory) }
+fn stored_text(text: String) -> Input
+    ensures { result ≡ text_or_empty (string_bytes text) }
 {
     if text.is_empty() {
-        Ok(Input::Empty)
+        Input::Empty
     } else {
-        Ok(Input::Text(copy(alloc, text)?))
+        Input::Text(Text::of(text))
     }
-}
-
-/// A copy of the text.
-fn copy(alloc: Global, text: &str) -> Result<Text, Bad>
-    ensures { (result ≡ Ok text.now) ⊎ (result ≡ Err Bad.NoMemory) }
-{
-    Ok(Text::of(String::from_str(alloc, text)?))
 }

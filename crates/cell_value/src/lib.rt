@@ -18,7 +18,7 @@ mod update;
 
 pub use cell::{Block, Cell, Kind, Render, SheetProperties, Value};
 pub use duplicate::Duplicate;
-pub use entered::{Bad, Input, LARGEST, LONGEST, Mode, read_entered};
+pub use entered::{Bad, Input, LARGEST, LONGEST, Mode, read_entered, take_entered};
 pub use failure::{Failed, NoMemory};
 pub use follow::Follow;
 pub use follow_map::follow_values;

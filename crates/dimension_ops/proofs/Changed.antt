@@ -18,6 +18,8 @@ use Rattle.cell_store.specs.Table.{Table, item_at}
 use Rattle.merge_ranges.specs.Following.{AreWithin}
 use Rattle.named_ranges.specs.Following.{IsRangeWithinOn}
 use Rattle.named_ranges.specs.declared.range.NamedRange.{NamedRange}
+use Rattle.protection.specs.Following.{IsKeptWithin}
+use Rattle.protection.specs.declared.range.Protection.{Protection}
 use Rattle.ref_rewrite.specs.Following.{IsPieceWithinOn}
 use Rattle.ref_rewrite.specs.declared.cell_content.Content.{Content}
 use Rattle.ref_rewrite.specs.declared.cell_content.Content.TheVariants as content
@@ -28,7 +30,7 @@ use Rattle.world_model.specs.Counts.{grid_places}
 use Rattle.world_model.specs.Laws.{size_of}
 use Rattle.world_model.specs.PlaceChange.{BookChanged, SheetChanged}
 use Rattle.world_model.specs.Sheet.{PlaceSheet}
-use Rattle.world_model.specs.Sound.{IsSheetSound, IsContentWithin, IsLineCount, IsOnSheet, IsPieceWithin, place_sheet_with}
+use Rattle.world_model.specs.Sound.{IsSheetSound, IsContentWithin, IsLineCount, IsOnSheet, IsPieceWithin, IsProtectionWithin, place_sheet_with}
 use Rattle.dimension_ops.specs.Lines.{HasSizesChanged, SheetFollows, lines_of_sheet, places_changed, size_changed}
 use Rattle.dimension_ops.specs.References.{CanChange, IsContentWithinOn, TearsNone}
 
@@ -237,6 +239,14 @@ module _ (id : ℕ) (axis : Axis) (count : ℕ) (change : Change) where
     pub ranges_within : (ranges : List NamedRange) → All (λ range. IsOnSheet sheets range.area) ranges
         → All (IsRangeWithinOn id axis count) ranges
     ranges_within ranges on k d there = area_within (get_or ranges k d).area (on k d there)
+
+    -- and so is each protection
+    pub protections_within : (protections : List Protection) → All (IsProtectionWithin sheets) protections
+        → All (IsKeptWithin id axis count) protections
+    protections_within protections within k d there = (
+      area_within (get_or protections k d).area (within k d there).0,
+      λ i e inside. area_within (get_or (get_or protections k d).unprotected i e) ((within k d there).1 i e inside),
+    )
 
     content_within : (item : Content) → IsContentWithin sheets item → IsContentWithinOn id axis count item
     content_within (content.Number number) within = tt

@@ -21,6 +21,7 @@ pub mod PastLines
 pub mod LostReferences
 pub mod RenamedWords
 pub mod KeptRanges
+pub mod KeptProtections
 pub mod RangeAnswers
 pub mod Setting
 pub mod MergesGiven

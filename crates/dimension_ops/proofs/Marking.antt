@@ -9,6 +9,7 @@ use Rattle.std.proofs.Common.{Global}
 use Rattle.std.proofs.lemmas.Bool.{cases_order, eqb-true, false_from_ne_true, false≢true}
 use Rattle.std.proofs.lemmas.List.{map-set}
 use Rattle.named_ranges.specs.declared.range.NamedRange.{NamedRange}
+use Rattle.protection.specs.declared.range.Protection.{Protection}
 use Rattle.world_model.specs.Book.{PlaceBook}
 use Rattle.world_model.specs.Sheet.{PlaceSheet}
 use Rattle.world_model.specs.Sound.{place_sheet_with}
@@ -16,9 +17,9 @@ use Rattle.dimension_ops.proofs.Finding.{IsFoundAt, found_at, none_from}
 use Rattle.dimension_ops.proofs.Putting.{IdsDiffer, changed_at_place, seen_stands}
 
 -- the spreadsheet of these sheets
-abbrev pub as_book : List ℕ → List ℕ → List ℕ → List NamedRange → List PlaceSheet → PlaceBook
-as_book id title owner ranges sheets =
-    record { id = id; title = title; owner = owner; sheets = sheets; ranges = ranges }
+abbrev pub as_book : List ℕ → List ℕ → List ℕ → List NamedRange → List Protection → List PlaceSheet → PlaceBook
+as_book id title owner ranges protections sheets =
+    record { id = id; title = title; owner = owner; sheets = sheets; ranges = ranges; protections = protections }
 
 abbrev pub has_id : ℕ → PlaceSheet → Bool
 has_id id sheet = sheet.id == id

@@ -42,6 +42,7 @@ module _ (rows cols : ℕ) where
     owner = codes "owner";
     sheets = sheet ∷ [];
     ranges = [];
+    protections = [];
   }
 
   abbrev names : NameBook
@@ -51,6 +52,7 @@ module _ (rows cols : ℕ) where
     owner = codes "owner";
     sheets = opening_names rows cols ∷ [];
     ranges = [];
+    protections = [];
   }
 
   sheet_stands : SheetStandsFor names.sheets sheet (opening_names rows cols)
@@ -76,6 +78,7 @@ module _ (rows cols : ℕ) where
     owner = refl;
     sheets = (sheet_stands, tt);
     ranges = refl;
+    protections = refl;
   }
 
   names_are_below : (next : ℕ) → rows + cols ≤ next → HasNamesBelow next names

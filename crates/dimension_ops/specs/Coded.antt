@@ -6,6 +6,8 @@ use Rattle.grid_range.specs.contracts.area.Area as area
 use Rattle.grid_range.specs.declared.area.Area.{Area}
 use Rattle.named_ranges.specs.contracts.range.NamedRange as range
 use Rattle.named_ranges.specs.declared.range.NamedRange.{NamedRange}
+use Rattle.protection.specs.contracts.range.Protection as protection
+use Rattle.protection.specs.declared.range.Protection.{Protection}
 use Rattle.ref_rewrite.specs.contracts.cell_content.Content as content
 use Rattle.ref_rewrite.specs.declared.cell_content.Content.{Content}
 use Rattle.world_model.specs.Book.{PlaceBook}
@@ -22,11 +24,19 @@ sheet_code =
 
 abbrev pub book_code : Coded PlaceBook
 book_code =
-    code_by (List ℕ × (List ℕ × (List ℕ × (List PlaceSheet × List NamedRange))))
+    code_by (List ℕ × (List ℕ × (List ℕ × (List PlaceSheet × (List NamedRange × List Protection)))))
     (coded× (coded_list coded_ℕ) (coded× (coded_list coded_ℕ) (coded× (coded_list coded_ℕ)
-    (coded× (coded_list sheet_code) (coded_list range.the_row.coded)))))
-    (λ b. (b.id, (b.title, (b.owner, (b.sheets, b.ranges)))))
-    (λ p. record { id = p.0; title = p.1.0; owner = p.1.1.0; sheets = p.1.1.1.0; ranges = p.1.1.1.1 }) (λ _. refl)
+    (coded× (coded_list sheet_code) (coded× (coded_list range.the_row.coded) (coded_list protection.the_row.coded))))))
+    (λ b. (b.id, (b.title, (b.owner, (b.sheets, (b.ranges, b.protections))))))
+    (λ p. record {
+      id = p.0;
+      title = p.1.0;
+      owner = p.1.1.0;
+      sheets = p.1.1.1.0;
+      ranges = p.1.1.1.1.0;
+      protections = p.1.1.1.1.1;
+    })
+    (λ _. refl)
 
 abbrev pub placed_code : Coded Placed
 placed_code =

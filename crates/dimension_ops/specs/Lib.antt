@@ -15,3 +15,4 @@ pub mod RangeRequests
 pub mod SetProperties
 pub mod MergeRequests
 pub mod Parts
+pub mod ProtectionRequests

@@ -33,6 +33,7 @@ opening_book = record {
   owner = codes "owner";
   sheets = opening_sheet ∷ [];
   ranges = [];
+  protections = [];
 }
 
 -- the same by names: the rows are called by the first numbers, the columns by the next ones
@@ -55,6 +56,7 @@ opening_world = record {
     owner = codes "owner";
     sheets = opening_names 1000 26 ∷ [];
     ranges = [];
+    protections = [];
   }) ∷ [];
   next = 1026;
 }

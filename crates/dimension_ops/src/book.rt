@@ -1,19 +1,27 @@
-ghost use Rattle.std.specs.Prelude.{◌≡◌, ◌≢◌, ◌↔◌, ◌==◌, ◌<◌, ◌≤◌, ◌∷◌, [], map, length, is_some, IfErr, IfOk, IfSome, IsSomeAnd, None, OnOk, OnErr, true, false};
+ghost use Rattle.std.specs.Prelude.{◌≡◌, ◌≢◌, ◌⊎◌, ◌↔◌, ◌==◌, ◌<◌, ◌≤◌, ◌∷◌, [], map, length, is_some, IfErr, IfOk, IfSome, IsSomeAnd, None, OnOk, OnErr, true, false};
 ghost use Rattle.std.specs.List.{insert, list_all, position_from};
 ghost use Rattle.std.specs.Option.{IsSome, option_copied, option_map};
-ghost use Rattle.cell_value.specs.Ids.{IsNewId, is_taken};
+ghost use Rattle.cell_value.specs.Ids.{IsLeastUnused, IsNewId, is_taken};
 ghost use Rattle.named_ranges.specs.Given.{given_range};
 ghost use Rattle.named_ranges.specs.Listed.{AreNames, IsBadName, IsFirstUnused, IsTakenName, TakesNoMemory, has_id as has_range, with_changed, with_id, with_name};
 ghost use Rattle.named_ranges.specs.NameRule.{IsName};
 ghost use Rattle.named_ranges.specs.declared.range.NameFault.TheVariants.{NoId, IdTaken, BadName, NameTaken};
+ghost use Rattle.protection.specs.Editors.{IsKeptOff};
+ghost use Rattle.protection.specs.Listed as protection;
+ghost use Rattle.protection.specs.Listed.{with_one_more};
+ghost use Rattle.protection.specs.Patch.{blank, is_bad, patched};
+ghost use Rattle.protection.specs.declared.range.ProtectionFault.TheVariants as protection_fault;
+ghost use Rattle.protection.specs.declared.range.ProtectionFault.TheVariants.{Bad, NotEditor};
 ghost use Rattle.cell_store.specs.Table.{HasPlace, filled_places, most_filled};
 ghost use Rattle.world_model.specs.Counts.{filled_of, formulas_of, grid_places};
 ghost use Rattle.world_model.specs.RangeChange.{PlaceWordsRenamed, place_range_added, place_range_deleted, with_place_ranges};
 ghost use Rattle.world_model.specs.BookChange.{AreChanges};
+ghost use Rattle.world_model.specs.Making.{bare_book};
 ghost use Rattle.world_model.specs.BookChange.BookChange.{MergesSet};
-ghost use Rattle.world_model.specs.SheetChange.{PlaceSheetDeleted, on_place_sheet, other_sheets, place_marked_hidden, place_merges_set, place_sheet_added, place_titled};
+ghost use Rattle.world_model.specs.SheetChange.{PlaceSheetDeleted, on_place_sheet, other_sheets, place_marked_hidden, place_merges_set, place_sheet_added, place_titled, with_place_sheets};
 ghost use Rattle.dimension_ops.specs.MergeRequests.{AreOfSheet};
 ghost use Rattle.dimension_ops.specs.Parts.{with_part};
+ghost use Rattle.dimension_ops.specs.ProtectionRequests.{IsPatchWithin, ProtectionsBecome};
 ghost use Rattle.world_model.specs.Sound.{IsContentWithin, IsLineCount, IsOnSheet, IsSound, most_places, most_sheets, place_sheet_with};
 ghost use Rattle.world_model.specs.Writing.{book_put, table_written};
 ghost use Rattle.std.specs.Arc.{arc_value};
@@ -39,15 +47,16 @@ use dev_metadata::Metadata;
 use grid_range::{Area, SheetChange};
 use merge_ranges::Merges;
 use named_ranges::{NameFault, NamedRange, Names};
-use protection::Protections;
+use protection::{ProtectionFault, ProtectionPatch, Protections};
 use ref_rewrite::Content;
 use std::alloc::{AllocError, Global};
 use std::marker::Model;
 use std::mem;
 use std::sync::Arc;
 use world_model::{
-    changes_stay_sound, filled_within_places, formulas_counted, merges_are_set, ranges_added,
-    ranges_deleted, sheets_deleted, words_are_renamed, writes_follow, writes_stay_sound,
+    changes_stay_sound, filled_within_places, formulas_counted, merges_are_set,
+    protections_are_set, ranges_added, ranges_deleted, sheets_deleted, words_are_renamed,
+    writes_follow, writes_stay_sound,
 };
 
 /// A spreadsheet: its sheets in their order, named ranges, protected ranges and metadata (Sheets API v4
@@ -82,6 +91,7 @@ impl Model for Book {
       owner = b.owner;
       sheets = map arc_value b.sheets.items;
       ranges = b.names;
+      protections = b.protections;
     } };
 
     ghost invariant = { λ b. IsSound (record {
@@ -90,9 +100,10 @@ impl Model for Book {
       owner = b.owner;
       sheets = map arc_value b.sheets.items;
       ranges = b.names;
+      protections = b.protections;
     })
         × (b.ids ≡ map (λ sheet. sheet.id) (map arc_value b.sheets.items))
-        × (b.protections ≡ []) × (b.metadata ≡ []) };
+        × (b.metadata ≡ []) };
 }
 
 impl Book {
@@ -122,7 +133,7 @@ impl Book {
         })
     }
 
-    /// The spreadsheet with these sheets, and no named ranges.
+    /// The spreadsheet with these sheets, no named ranges and no protected ones.
     ///
     /// # Errors
     ///
@@ -134,10 +145,9 @@ impl Book {
         owner: Text,
         sheets: Vec<Arc<Sheet>>,
     ) -> Result<Book, NoMemory>
-        requires { IsSound
-            (record { id = id; title = title; owner = owner; sheets = map arc_value sheets.items; ranges = [] }) }
-        ensures { IfOk result (λ book. book
-            ≡ record { id = id; title = title; owner = owner; sheets = map arc_value sheets.items; ranges = [] }) }
+        requires { IsSound (with_place_sheets (map arc_value sheets.items) (bare_book id title owner)) }
+        ensures { IfOk result (λ book.
+            book ≡ with_place_sheets (map arc_value sheets.items) (bare_book id title owner)) }
     {
         let mut ids = Vec::new(alloc);
         for sheet in &sheets {
@@ -286,9 +296,9 @@ impl Book {
         })
     }
 
-    /// Takes the sheet with the id out, with each reference to it and its named ranges. A sheet without a reference to
-    /// it isn't copied. While references are lost a spare spreadsheet stands here, since what always holds of one
-    /// doesn't hold until all are.
+    /// Takes the sheet with the id out, with each reference to it, its named ranges and its protected ones. A sheet
+    /// without a reference to it isn't copied. While references are lost a spare spreadsheet stands here, since what
+    /// always holds of one doesn't hold until all are.
     ///
     /// # Errors
     ///
@@ -314,6 +324,8 @@ impl Book {
         ids.retain(|id| *id != sheet);
         let mut names = self.names;
         names.lose_sheet(sheet);
+        let mut protections = self.protections;
+        protections.lose_sheet(sheet);
         Ok(Book {
             alloc: self.alloc,
             id: self.id,
@@ -322,7 +334,7 @@ impl Book {
             sheets,
             ids: Items::of(ids),
             names,
-            protections: self.protections,
+            protections,
             metadata: self.metadata,
         })
     }
@@ -521,11 +533,93 @@ impl Book {
         })
     }
 
-    /// The protected ranges, lent; no request makes any yet.
+    /// The protected ranges, lent.
     pub fn protections(&self) -> &Protections
-        ensures { result.now ≡ [] }
+        ensures { result.now ≡ self.now.protections }
     {
         &self.protections
+    }
+
+    /// Adds a protected range of which the patch gives the members, and gives its id: the one that is asked for, or
+    /// else the least from 1 on that none has (Sheets API v4 reference, AddProtectedRangeRequest).
+    ///
+    /// # Errors
+    ///
+    /// Those of [`Protections::add`]; the spreadsheet is as it was.
+    pub fn add_protection(
+        &mut self,
+        user: &str,
+        owner: &str,
+        id: Option<u32>,
+        patch: ProtectionPatch,
+    ) -> Result<u32, ProtectionFault>
+        requires given { IsSome patch.area }
+        requires within { IsPatchWithin self.old.sheets patch }
+        requires room { length self.old.protections < 4294967295 }
+        ensures bad { (result ≡ Err Bad) ↔ (is_bad patch None ≡ true) }
+        ensures taken { (result ≡ Err protection_fault.IdTaken)
+            ↔ ((is_bad patch None ≡ false) × (is_taken (protection.has_id self.old.protections) id ≡ true)) }
+        ensures no_other { (result ≢ Err protection_fault.NoId) × (result ≢ Err NotEditor) }
+        ensures id { IfOk result (IsNewId (IsLeastUnused (protection.has_id self.old.protections)) id) }
+        ensures added { IfOk result (λ new. ProtectionsBecome
+            (with_one_more (patched user.now owner.now patch (blank new)) self.old.protections) self.old self.new) }
+        ensures unchanged { OnErr result (self.new ≡ self.old) }
+    {
+        protections_are_set();
+        self.protections.add(user, owner, id, patch)
+    }
+
+    /// Puts what the patch gives in the place of what the protected range with the id has (Sheets API v4
+    /// reference, UpdateProtectedRangeRequest).
+    ///
+    /// # Errors
+    ///
+    /// Those of [`Protections::update`]; the spreadsheet is as it was.
+    pub fn update_protection(
+        &mut self,
+        user: &str,
+        owner: &str,
+        id: u32,
+        patch: ProtectionPatch,
+    ) -> Result<(), ProtectionFault>
+        requires within { IsPatchWithin self.old.sheets patch }
+        ensures bad { (result ≡ Err Bad) ↔ (is_bad patch (protection.with_id id self.old.protections) ≡ true) }
+        ensures no_id { (result ≡ Err protection_fault.NoId)
+            ↔ ((is_bad patch (protection.with_id id self.old.protections) ≡ false)
+            × (protection.with_id id self.old.protections ≡ None)) }
+        ensures not_editor { (result ≡ Err NotEditor)
+            ↔ ((is_bad patch (protection.with_id id self.old.protections) ≡ false)
+            × IsKeptOff user.now owner.now (protection.with_id id self.old.protections)) }
+        ensures no_other { result ≢ Err protection_fault.IdTaken }
+        ensures updated { OnOk result (ProtectionsBecome
+            (protection.with_changed id (patched user.now owner.now patch) self.old.protections) self.old self.new) }
+        ensures unchanged { OnErr result (self.new ≡ self.old) }
+    {
+        protections_are_set();
+        self.protections.update(user, owner, id, patch)
+    }
+
+    /// Takes out the protected range with the id (Sheets API v4 reference, DeleteProtectedRangeRequest).
+    ///
+    /// # Errors
+    ///
+    /// Those of [`Protections::drop`]; the spreadsheet is as it was.
+    pub fn drop_protection(
+        &mut self,
+        user: &str,
+        owner: &str,
+        id: u32,
+    ) -> Result<(), ProtectionFault>
+        ensures no_id { (result ≡ Err protection_fault.NoId) ↔ (protection.with_id id self.old.protections ≡ None) }
+        ensures not_editor { (result ≡ Err NotEditor)
+            ↔ IsKeptOff user.now owner.now (protection.with_id id self.old.protections) }
+        ensures no_other { IfErr result (λ fault. (fault ≡ protection_fault.NoId) ⊎ (fault ≡ NotEditor)) }
+        ensures dropped { OnOk result
+            (ProtectionsBecome (protection.without_id id self.old.protections) self.old self.new) }
+        ensures unchanged { OnErr result (self.new ≡ self.old) }
+    {
+        protections_are_set();
+        self.protections.drop(user, owner, id)
     }
 
     /// The metadata, lent; no request makes any yet.
@@ -636,6 +730,8 @@ impl Book {
         let sheets = sheets_changed(self.alloc, self.sheets, by)?;
         let mut names = self.names;
         names.change(by.sheet, by.axis, by.count, by.change);
+        let mut protections = self.protections;
+        protections.change(by.sheet, by.axis, by.count, by.change);
         Ok(Book {
             alloc: self.alloc,
             id: self.id,
@@ -644,7 +740,7 @@ impl Book {
             sheets,
             ids: self.ids,
             names,
-            protections: self.protections,
+            protections,
             metadata: self.metadata,
         })
     }

@@ -8,7 +8,7 @@ ghost use Rattle.json_shapes.specs.Shapes.{text, only_false, anything, entered, 
 use crate::ShapeFault;
 use crate::fault::Read;
 use crate::shape::Shape;
-use cell_value::{Bad, Input, Mode, NoMemory, Text, read_entered};
+use cell_value::{Bad, Input, Mode, NoMemory, Text, take_entered};
 use serde_json::Value as Json;
 use std::alloc::Global;
 
@@ -96,7 +96,7 @@ impl Shape for Entered {
     ghost shape = { λ e. entered e.mode };
 
     fn read(&self, alloc: Global, value: Json) -> Result<Read<Input>, NoMemory> {
-        match read_entered(alloc, self.mode, &value) {
+        match take_entered(alloc, self.mode, value) {
             Ok(input) => Ok(Ok(input)),
             Err(bad) => entry_fault(bad),
         }

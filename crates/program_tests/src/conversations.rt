@@ -15,6 +15,11 @@ use crate::merges::{
 use crate::names::{
     BROKEN_RANGES, NAMED, NAMES_FOLLOWED, NAMES_OF_FORMULAS, RANGES_LISTED, TOO_MANY,
 };
+use crate::protections::{
+    APPENDED_BY_OTHERS, COVERED_CELLS, KEPT_OFF, MORE_COVERED_CELLS, MORE_KEPT_OFF, MORE_MOVED_OFF,
+    MORE_OPENED, MORE_PROTECTIONS, MORE_TOUCHED, MOVED_OFF, OPENED, PROTECTED_IN_BATCHES,
+    PROTECTIONS, STILL_MORE_PROTECTIONS, TOO_MANY_PROTECTIONS, TOUCHED,
+};
 use crate::rows::{
     BAD_REQUEST, CHANGES, CONVERSATIONS, Conversation, Exchange, FORMULAS, LIMITS, LISTS,
     LONG_HEADS, LOOKS, LongHead, NO_CALLS, OK, RANGES, TYPED, USERS, WRITES, WRITES_TO_LISTS,
@@ -387,6 +392,142 @@ fn adding(alloc: Global, count: usize) -> String {
         add(&mut body, "\",\"name\":\"range_");
         add_number(&mut body, number);
         add(&mut body, "\"}}}");
+    }
+    add(&mut body, "]}");
+    body
+}
+
+#[test]
+fn keeps_users_off(rt: HostRuntime) {
+    for row in &KEPT_OFF {
+        check(&rt, &row.3, is_answered_to(&rt, row, ""));
+    }
+}
+
+#[test]
+fn keeps_users_off_more(rt: HostRuntime) {
+    for row in &MORE_KEPT_OFF {
+        check(&rt, &row.3, is_answered_to(&rt, row, ""));
+    }
+}
+
+#[test]
+fn leaves_ranges_unprotected(rt: HostRuntime) {
+    for row in &OPENED {
+        check(&rt, &row.3, is_answered_to(&rt, row, ""));
+    }
+}
+
+#[test]
+fn leaves_ranges_unprotected_more(rt: HostRuntime) {
+    for row in &MORE_OPENED {
+        check(&rt, &row.3, is_answered_to(&rt, row, ""));
+    }
+}
+
+#[test]
+fn changes_protected_ranges(rt: HostRuntime) {
+    for row in &PROTECTIONS {
+        check(&rt, &row.3, is_answered_to(&rt, row, ""));
+    }
+}
+
+#[test]
+fn changes_protected_ranges_more(rt: HostRuntime) {
+    for row in &MORE_PROTECTIONS {
+        check(&rt, &row.3, is_answered_to(&rt, row, ""));
+    }
+}
+
+#[test]
+fn changes_protected_ranges_still_more(rt: HostRuntime) {
+    for row in &STILL_MORE_PROTECTIONS {
+        check(&rt, &row.3, is_answered_to(&rt, row, ""));
+    }
+}
+
+#[test]
+fn denies_cells_that_are_touched(rt: HostRuntime) {
+    for row in &TOUCHED {
+        check(&rt, &row.3, is_answered_to(&rt, row, ""));
+    }
+}
+
+#[test]
+fn denies_cells_that_are_touched_more(rt: HostRuntime) {
+    for row in &MORE_TOUCHED {
+        check(&rt, &row.3, is_answered_to(&rt, row, ""));
+    }
+}
+
+#[test]
+fn touches_no_cell_that_is_passed_over(rt: HostRuntime) {
+    for row in &COVERED_CELLS {
+        check(&rt, &row.3, is_answered_to(&rt, row, ""));
+    }
+}
+
+#[test]
+fn touches_no_cell_that_is_passed_over_more(rt: HostRuntime) {
+    for row in &MORE_COVERED_CELLS {
+        check(&rt, &row.3, is_answered_to(&rt, row, ""));
+    }
+}
+
+#[test]
+fn denies_lines_that_go_or_move(rt: HostRuntime) {
+    for row in &MOVED_OFF {
+        check(&rt, &row.3, is_answered_to(&rt, row, ""));
+    }
+}
+
+#[test]
+fn denies_lines_that_go_or_move_more(rt: HostRuntime) {
+    for row in &MORE_MOVED_OFF {
+        check(&rt, &row.3, is_answered_to(&rt, row, ""));
+    }
+}
+
+#[test]
+fn denies_appends(rt: HostRuntime) {
+    for row in &APPENDED_BY_OTHERS {
+        check(&rt, &row.3, is_answered_to(&rt, row, ""));
+    }
+}
+
+#[test]
+fn denies_requests_of_batches(rt: HostRuntime) {
+    for row in &PROTECTED_IN_BATCHES {
+        check(&rt, &row.3, is_answered_to(&rt, row, ""));
+    }
+}
+
+#[test]
+fn counts_protected_ranges(rt: HostRuntime) {
+    check(&rt, &TOO_MANY_PROTECTIONS, is_one_protection_too_many(&rt));
+}
+
+/// Whether of 501 protected ranges the last one is refused.
+fn is_one_protection_too_many<R: AllocGlobal + Threads + Wait + Sync>(rt: &R) -> bool {
+    let alloc = rt.alloc();
+    let body = protecting(alloc, 501);
+    let stream = batch_of(alloc, body.as_str());
+    let response = response_of(alloc, TOO_MANY_PROTECTIONS.0, "", TOO_MANY_PROTECTIONS.1);
+    ends_with(rt, stream.as_str(), response.as_str())
+}
+
+/// The body of a batch that adds so many protected ranges.
+fn protecting(alloc: Global, count: usize) -> String {
+    let mut body = String::new(alloc);
+    add(&mut body, "{\"requests\":[");
+    for number in 0..count {
+        if number > 0 {
+            add(&mut body, ",");
+        }
+        add(
+            &mut body,
+            "{\"addProtectedRange\":{\"protectedRange\":{\"range\":{}}}}",
+        );
     }
     add(&mut body, "]}");
     body

@@ -25,6 +25,8 @@ mod merges;
 #[cfg(test)]
 mod names;
 #[cfg(test)]
+mod protections;
+#[cfg(test)]
 mod rows;
 #[cfg(test)]
 mod serve;

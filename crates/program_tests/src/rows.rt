@@ -215,6 +215,8 @@ pub(crate) const NOT_FOUND: &str = "404 Not Found";
 
 pub(crate) const BAD_REQUEST: &str = "400 Bad Request";
 
+pub(crate) const FORBIDDEN: &str = "403 Forbidden";
+
 const UNAUTHORIZED: &str = "401 Unauthorized";
 
 const HEAD_LONG: &str = "431 Request Header Fields Too Large";

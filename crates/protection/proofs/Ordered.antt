@@ -9,7 +9,7 @@ use Rattle.std.proofs.lemmas.List.Elements.{All-nil, All-cons, All-head, All-tai
 use Rattle.std.proofs.lemmas.List.Kept.{AllPairs-cons}
 use Rattle.grid_range.specs.declared.area.Area.{Area}
 use Rattle.protection.specs.declared.range.Protection.{Protection}
-use Rattle.protection.specs.Denial.{DeniesSome, IsFirstDenial}
+use Rattle.protection.specs.Denial.{IsFirst}
 use Rattle.protection.specs.Listed.{IsInOrder}
 use Rattle.grid_range.specs.declared.axis.Axis.{Axis}
 use Rattle.grid_range.specs.declared.change.Change.{Change}
@@ -34,12 +34,10 @@ is_before list i k one d ordered here there read less = ⊎_elim
     (cases_lt k i)
 
 -- where those before it deny nothing, one that does is the first
-pub IsFirstDenial-at : (user owner : List ℕ) (area : Area) (rows cols : ℕ) (list : List Protection)
-    (i : ℕ) (one : Protection) → IsInOrder list → i < length list → one ≡ get_or list i one
-    → All (λ other. ¬ (DeniesSome user owner area rows cols other)) (take i list)
-    → DeniesSome user owner area rows cols one
-    → IsFirstDenial user owner area rows cols list one.id
-IsFirstDenial-at user owner area rows cols list i one ordered here read passed denies = record {
+pub IsFirst-at : (IsDenying : Protection → Type 0) (list : List Protection) (i : ℕ) (one : Protection)
+    → IsInOrder list → i < length list → one ≡ get_or list i one
+    → All (λ other. ¬ (IsDenying other)) (take i list) → IsDenying one → IsFirst IsDenying list one.id
+IsFirst-at IsDenying list i one ordered here read passed denies = record {
   protection = one;
   listed = (i, here, sym read);
   has_id = refl;
@@ -47,7 +45,7 @@ IsFirstDenial-at user owner area rows cols list i one ordered here read passed d
   least = λ k d there less some.
       let before : k < i = is_before list i k one d ordered here there read less in
       passed k d (let n = length-take-le i list (omega arith) in omega arith)
-      (subst (λ (other : Protection). DeniesSome user owner area rows cols other)
+      (subst (λ (other : Protection). IsDenying other)
       (sym (get_or-take i list k d before)) some);
 }
 

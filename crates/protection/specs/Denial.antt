@@ -30,11 +30,30 @@ pub record DeniesSome (user owner : List ℕ) (area : Area) (rows cols : ℕ)
   pub asked : Holds area row col
   pub denied : Denies user owner area.sheet row col protection
 
--- that is the least id of a protection that does
-pub record IsFirstDenial (user owner : List ℕ) (area : Area) (rows cols : ℕ)
-    (protections : List Protection) (id : ℕ) : Type 0 where
+-- some cells of a spreadsheet, each by its sheet's id, its row and its column
+abbrev pub Cells : Type 1
+Cells = ℕ → ℕ → ℕ → Type 0
+
+-- it denies the user one of the cells
+pub record DeniesOne (user owner : List ℕ) (cells : Cells) (protection : Protection) : Type 0 where
+  pub sheet : ℕ
+  pub row : ℕ
+  pub col : ℕ
+  pub is : cells sheet row col
+  pub denied : Denies user owner sheet row col protection
+
+-- the cells of a sheet that are listed by row and column
+abbrev pub ListedCells : ℕ → List (ℕ × ℕ) → Cells
+ListedCells sheet cells id row col = (id ≡ sheet) × Contains cells (row, col)
+
+-- that is the least id of a protection that denies so
+pub record IsFirst (IsDenying : Protection → Type 0) (protections : List Protection) (id : ℕ) : Type 0 where
   pub protection : Protection
   pub listed : Contains protections protection
   pub has_id : protection.id ≡ id
-  pub denies : DeniesSome user owner area rows cols protection
-  pub least : All (λ other. other.id < id → ¬ (DeniesSome user owner area rows cols other)) protections
+  pub denies : IsDenying protection
+  pub least : All (λ other. other.id < id → ¬ (IsDenying other)) protections
+
+-- that is the least id of a protection that denies the user some cell of the area
+abbrev pub IsFirstDenial : List ℕ → List ℕ → Area → ℕ → ℕ → List Protection → ℕ → Type 0
+IsFirstDenial user owner area rows cols = IsFirst (DeniesSome user owner area rows cols)

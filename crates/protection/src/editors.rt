@@ -7,7 +7,7 @@ use std::alloc::Global;
 
 impl Protection {
     /// Whether the user may edit what the protection covers, and update and delete it.
-    pub(crate) fn may_edit(&self, user: &str, owner: &str) -> bool
+    pub fn may_edit(&self, user: &str, owner: &str) -> bool
         ensures { result ≡ may_edit user.now owner.now self.now }
     {
         self.warning_only || user == owner || is_among(user, self.editors.as_slice())

@@ -2,12 +2,12 @@ ghost use Rattle.std.specs.Prelude.{◌≡◌, ◌↔◌, ℕ, ◌<◌, Bool, fa
 ghost use Rattle.std.specs.List.{filter_map};
 ghost use Rattle.std.specs.List.Sorted.{IsPermutation};
 ghost use Rattle.grid_range.specs.declared.area.Area.{Area};
-ghost use Rattle.grid_range.specs.Area.{IsWithinOn};
+ghost use Rattle.grid_range.specs.Area.{Holds, IsWithinOn};
 ghost use Rattle.grid_range.specs.Band.{HasLine};
 ghost use Rattle.grid_range.specs.Change.{Fits, count_after};
 ghost use Rattle.grid_range.specs.Tracking.{area_followed};
 ghost use Rattle.protection.specs.declared.range.Protection.{Protection};
-ghost use Rattle.protection.specs.Denial.{DeniesSome};
+ghost use Rattle.protection.specs.Denial.{DeniesOne, DeniesSome, IsOutside, ListedCells};
 ghost use Rattle.protection.specs.Editors.{with_requester};
 ghost use Rattle.protection.specs.Following.{ranges_elsewhere};
 ghost use Rattle.protection.specs.Patch.{patched, warns_after, unprotected_after};
@@ -17,6 +17,7 @@ use crate::following::{LineChange, keep_elsewhere};
 use crate::orders::Orders;
 use crate::patch::is_whole_sheet;
 use crate::range::{Protection, ProtectionPatch};
+use crate::sweep::has_cell;
 use cell_value::{Items, NoMemory, put_given};
 use grid_range::{Area, Band};
 use std::alloc::Global;
@@ -148,6 +149,46 @@ impl Indexed {
         let rows = shared_lines(protected.rows, area.rows, rows);
         let cols = shared_lines(protected.cols, area.cols, cols);
         self.orders.has_free_cell(area.sheet, rows, cols)
+    }
+}
+
+impl Indexed {
+    /// Whether the protection denies the user one of the cells of the sheet, by row and column.
+    pub(crate) fn denies_listed(
+        &self,
+        user: &str,
+        owner: &str,
+        sheet: u32,
+        cells: &[(u32, u32)],
+    ) -> bool
+        ensures { IsTrue result ↔ DeniesOne user.now owner.now (ListedCells sheet cells.now) self.now }
+    {
+        if self.protection.area.sheet != sheet || self.protection.may_edit(user, owner) {
+            return false;
+        }
+        cells
+            .iter()
+            .any(|cell| self.protection.closes(cell.0, cell.1))
+    }
+}
+
+impl Protection {
+    /// Whether its area holds the cell, and none of its unprotected ranges has it.
+    fn closes(&self, row: u32, col: u32) -> bool
+        ensures { IsTrue result
+            ↔ (Holds self.now.area row col × IsOutside self.now.area.sheet row col self.now.unprotected) }
+    {
+        self.area.holds(row, col) && !self.opens(row, col)
+    }
+
+    /// Whether one of its unprotected ranges has the cell.
+    fn opens(&self, row: u32, col: u32) -> bool
+        ensures { IsTrue result ↔ ¬ (IsOutside self.now.area.sheet row col self.now.unprotected) }
+    {
+        let ranges = self.unprotected.as_slice();
+        ranges
+            .iter()
+            .any(|range| has_cell(range, self.area.sheet, row, col))
     }
 }
 

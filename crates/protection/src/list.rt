@@ -2,7 +2,7 @@ ghost use Rattle.std.specs.Prelude.{◌≡◌, ◌≢◌, ◌↔◌, ◌⊎◌, 
 ghost use Rattle.std.specs.Option.{option_copied};
 ghost use Rattle.std.specs.List.{filter_map};
 ghost use Rattle.grid_range.specs.Change.{Fits, count_after};
-ghost use Rattle.protection.specs.Denial.{DeniesSome, IsFirstDenial};
+ghost use Rattle.protection.specs.Denial.{DeniesOne, DeniesSome, IsFirst, IsFirstDenial, ListedCells};
 ghost use Rattle.protection.specs.Editors.{IsKeptOff};
 ghost use Rattle.cell_value.specs.Ids.{IsNewId, IsLeastUnused, is_taken};
 ghost use Rattle.protection.specs.Listed.{IsInOrder, has_id, with_id, with_one_more, with_changed, without_id};
@@ -83,6 +83,36 @@ impl Protections {
     {
         for protection in &self.items {
             if protection.denies_some(user, owner, area, rows, cols) {
+                return Some(protection.get().id);
+            }
+        }
+        None
+    }
+
+    /// The protected range with the id; None where none has it.
+    pub fn find(&self, id: u32) -> Option<&Protection>
+        ensures { option_copied result ≡ with_id id self.now }
+    {
+        let at = position_of(&self.items, id)?;
+        Some(self.items[at].get())
+    }
+
+    /// The least id of a protection that denies the user one of the cells of the sheet, by row and column; None
+    /// exactly where none does. It takes no memory. Each protection that keeps the user off some cells of the sheet
+    /// costs the number of cells, and for each cell of its area the number of its unprotected ranges.
+    pub fn first_denial_listed(
+        &self,
+        user: &str,
+        owner: &str,
+        sheet: u32,
+        cells: &[(u32, u32)],
+    ) -> Option<u32>
+        ensures denied { IfSome result (IsFirst (DeniesOne user.now owner.now (ListedCells sheet cells.now)) self.now) }
+        ensures allowed { IfNone result
+            (All (λ one. ¬ (DeniesOne user.now owner.now (ListedCells sheet cells.now) one)) self.now) }
+    {
+        for protection in &self.items {
+            if protection.denies_listed(user, owner, sheet, cells) {
                 return Some(protection.get().id);
             }
         }

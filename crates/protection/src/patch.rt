@@ -12,7 +12,7 @@ use std::alloc::Global;
 
 impl ProtectionPatch {
     /// Whether the patch has a bad shape for the protection that it is to change, or for none.
-    pub(crate) fn is_bad(&self, old: Option<&Protection>) -> bool
+    pub fn is_bad(&self, old: Option<&Protection>) -> bool
         ensures { result ≡ is_bad self.now (option_copied old.entry) }
     {
         match old {

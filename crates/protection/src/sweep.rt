@@ -106,7 +106,7 @@ fn has_free_column_by_pass(by_col: &[Area], sheet: u32, row: u32, cols: (u32, u3
 }
 
 /// Whether the range has the cell of the sheet.
-fn has_cell(range: &Area, sheet: u32, row: u32, col: u32) -> bool
+pub(crate) fn has_cell(range: &Area, sheet: u32, row: u32, col: u32) -> bool
     ensures { IsTrue result ↔ HasCell sheet row col range.now }
 {
     range.sheet == sheet && range.holds(row, col)

@@ -1,7 +1,7 @@
 -- The marks of items after a call.
-use Rattle.std.proofs.Common.{◌≡◌, ◌≢◌, ℕ, ◌<◌, true, false, cond, refl, sym, ap, subst, ◌∙◌}
-use Rattle.std.specs.Prelude.{Result, Ok, Err, OnOk, OnErr, Some, None, is_some}
-use Rattle.std.specs.Option.{IsSome}
+use Rattle.std.proofs.Common.{◌≡◌, ◌≢◌, ℕ, ◌<◌, Bor, true, false, cond, refl, sym, ap, subst, ◌∙◌}
+use Rattle.std.specs.Prelude.{Option, Result, Ok, Err, OnOk, OnErr, Some, None, is_some}
+use Rattle.std.specs.Option.{IsSome, option_copied}
 use Rattle.std.specs.Cmp.{nat_cmp_total}
 use Rattle.std.specs.Ordering.{nat_cmp, eq_by_cmp}
 use Rattle.std.specs.FinMap as map
@@ -14,6 +14,10 @@ pub either : {X A E : Type 0} (P : X → Type 0) (x a b : X) (r : Result A E) �
     → P a → P b → P x
 either P x a b (Ok value) ok err pa pb = subst P (sym ok) pa
 either P x a b (Err error) ok err pa pb = subst P (sym err) pb
+
+pub lent_is_some : {T : Type 0} (lent : Option (Bor T)) → is_some (option_copied lent) ≡ is_some lent
+lent_is_some (Some item) = refl
+lent_is_some None = refl
 
 pub no_items : {T M : Type 0} (marks : map.FinMap nat_cmp M) → HasMarks (map.empty {X = T}) marks
 no_items marks = record {

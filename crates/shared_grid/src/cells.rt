@@ -99,7 +99,8 @@ impl<T: Duplicate + Drop> Cells<T> {
         }
     }
 
-    /// Puts the item at the place, and gives the one that was there.
+    /// Puts the item at the place, and gives the one that was there. Its mark is put only where there was none, so that
+    /// a place that is written again costs one map's parts.
     ///
     /// # Errors
     ///
@@ -110,8 +111,12 @@ impl<T: Duplicate + Drop> Cells<T> {
         ensures back { IfErr result (λ refused. refused.0 ≡ item) }
         ensures unchanged { OnErr result (self.new ≡ self.old) }
     {
+        let at = key(row, column);
+        if self.items.get(at).is_some() {
+            return self.items.put(at, item);
+        }
         match self.marks.put(key(column, row), Mark) {
-            Ok(_) => self.items.put(key(row, column), item),
+            Ok(_) => self.items.put(at, item),
             Err((_, no_memory)) => Err((item, no_memory)),
         }
     }

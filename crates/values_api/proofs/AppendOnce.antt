@@ -13,7 +13,9 @@ use Rattle.world_model.specs.Updating.{Updates}
 use Rattle.dimension_ops.specs.declared.rule.Limit.{Limit}
 use Rattle.dimension_ops.specs.declared.rule.Rule.{Rule}
 use Rattle.values_api.specs.Appends.{IsAppend, IsAppendUnless, IsAppended, answer_with, cell_area, changes_of, limit_passed, lines_added, start_of}
-use Rattle.values_api.specs.Blocks.{IsWrite, contents_of}
+use Rattle.values_api.specs.Blocks.{contents_of}
+use Rattle.values_api.specs.Denials.{IsWriteBy, WriteCells, unless_denied}
+use Rattle.values_api.specs.DenialLaws.{denial_once}
 use Rattle.values_api.specs.Laws.{AppendsOnce, WritesOnce}
 use Rattle.values_api.specs.Tables.{IsLastOf, IsStored, IsTable, IsTableIn, LiesWithin}
 use Rattle.values_api.specs.declared.appending.Added.{Added}
@@ -89,7 +91,23 @@ module _ {T : Type 0} (area : Area) (table : Table T) where
 -- ---- the append
 
 module _ (writes_once : WritesOnce) (apart : ChangesApart) (turns : ChangesInTurn) where
-  module _ (sheet : ℕ) (added : Added) (start : ℕ × ℕ) (block : Block) (table : Option Rectangle) where
+  -- a user's write is told in one way, and makes one thing of the cells
+  writes_by_once : (user : List ℕ) (one_cell : Bool) (area : Area) (block : Block) (sheet : PlaceSheet)
+      (before after after' : PlaceBook) (told told' : Result Written Rule) → IsSound before
+      → (one : IsWriteBy user one_cell area block sheet before after told)
+      → (other : IsWriteBy user one_cell area block sheet before after' told')
+      → (contents_of one.is.entries ≡ contents_of other.is.entries) × (told ≡ told')
+  writes_by_once user one_cell area block sheet before after after' told told' sound one other =
+      let (same, same_done) = writes_once.once one_cell area block sheet before after after' one.done other.done sound
+      one.is other.is in
+      let denied = denial_once user before (WriteCells before.sheets one_cell area block) one.denied other.denied
+      one.is_denied other.is_denied in (
+        same,
+        one.told_is ∙ ap (λ d. unless_denied d one.done) denied ∙ ap (λ t. unless_denied other.denied t) same_done
+            ∙ sym other.told_is,
+      )
+
+  module _ (user : List ℕ) (sheet : ℕ) (added : Added) (start : ℕ × ℕ) (block : Block) (table : Option Rectangle) where
     abbrev Answers : Result Written Rule → Result (Option Area × Written) Rule → Type 0
     Answers told answer =
         MatchResult told (λ written. answer ≡ Ok (answer_with sheet table written)) (λ rule. answer ≡ Err rule)
@@ -106,14 +124,14 @@ module _ (writes_once : WritesOnce) (apart : ChangesApart) (turns : ChangesInTur
     abbrev ToldOf : List BookChange → Result (Option Area × Written) Rule → PlaceBook → PlaceSheet → Type 0
     ToldOf changes answer between own =
         (after : PlaceBook) × (told : Result Written Rule)
-        × (write : IsWrite true (cell_area sheet start) block own between after told)
-        × (changes ≡ changes_with (contents_of write.entries)) × Answers told answer
+        × (write : IsWriteBy user true (cell_area sheet start) block own between after told)
+        × (changes ≡ changes_with (contents_of write.is.entries)) × Answers told answer
 
     told_once : (between : PlaceBook) (own : PlaceSheet) (changes changes' : List BookChange)
         (answer answer' : Result (Option Area × Written) Rule) → IsSound between → ToldOf changes answer between own
         → ToldOf changes' answer' between own → (changes ≡ changes') × (answer ≡ answer')
     told_once between own changes changes' answer answer' sound (after, told, write, is, answered) (after', told', write', is', answered') =
-        let (same, same_told) = writes_once.once true (cell_area sheet start) block own between after after' told told' sound
+        let (same, same_told) = writes_by_once user true (cell_area sheet start) block own between after after' told told' sound
         write write' in (
           is ∙ ap changes_with same ∙ sym is',
           answers_once told' answer answer' (subst (λ one. Answers one answer) same_told answered) answered',
@@ -121,8 +139,8 @@ module _ (writes_once : WritesOnce) (apart : ChangesApart) (turns : ChangesInTur
 
     appended_once : (changes changes' : List BookChange) (before after after' : PlaceBook)
         (answer answer' : Result (Option Area × Written) Rule) → IsSound before
-        → IsAppended sheet added start block table changes before after answer
-        → IsAppended sheet added start block table changes' before after' answer'
+        → IsAppended user sheet added start block table changes before after answer
+        → IsAppended user sheet added start block table changes' before after' answer'
         → (changes ≡ changes') × (answer ≡ answer')
     appended_once changes changes' before after after' answer answer' sound one other =
         let same = apart.same (changes_of sheet added) before one.between other.between sound one.lines other.lines in
@@ -142,7 +160,7 @@ module _ (writes_once : WritesOnce) (apart : ChangesApart) (turns : ChangesInTur
   unless_once IsDone IsDone' (Some limit) changes changes' answer answer' once is is' =
       (is.0 ∙ sym is'.0, is.1 ∙ sym is'.1)
 
-  module _ (insert : Bool) (area : Area) (block : Block) (sheet : PlaceSheet) (before : PlaceBook) where
+  module _ (user : List ℕ) (insert : Bool) (area : Area) (block : Block) (sheet : PlaceSheet) (before : PlaceBook) where
     abbrev lines_to : Option Rectangle → Added
     lines_to table = lines_added insert (start_of table area) block sheet
 
@@ -150,21 +168,21 @@ module _ (writes_once : WritesOnce) (apart : ChangesApart) (turns : ChangesInTur
     abbrev IsTo : List BookChange → PlaceBook → Result (Option Area × Written) Rule → Option Rectangle → Type 0
     IsTo changes after answer table =
         IsAppendUnless (limit_passed (lines_to table) sheet before.sheets)
-        (IsAppended area.sheet (lines_to table) (start_of table area) block table changes before after answer) changes answer
+        (IsAppended user area.sheet (lines_to table) (start_of table area) block table changes before after answer) changes answer
 
     append_once : (after after' : PlaceBook) (answer answer' : Result (Option Area × Written) Rule) → IsSound before
-        → (one : IsAppend insert area block sheet before after answer)
-        → (other : IsAppend insert area block sheet before after' answer')
+        → (one : IsAppend user insert area block sheet before after answer)
+        → (other : IsAppend user insert area block sheet before after' answer')
         → (one.changes ≡ other.changes) × (answer ≡ answer')
     append_once after after' answer answer' sound one other =
         let same = table_once area sheet.table one.table other.table one.found other.found in
         let added = lines_to other.table in
         let start = start_of other.table area in
         unless_once
-        (IsAppended area.sheet added start block other.table one.changes before after answer)
-        (IsAppended area.sheet added start block other.table other.changes before after' answer')
+        (IsAppended user area.sheet added start block other.table one.changes before after answer)
+        (IsAppended user area.sheet added start block other.table other.changes before after' answer')
         (limit_passed added sheet before.sheets) one.changes other.changes answer answer'
-        (appended_once area.sheet added start block other.table one.changes other.changes before after after' answer
+        (appended_once user area.sheet added start block other.table one.changes other.changes before after after' answer
         answer' sound)
         (subst (IsTo one.changes after answer) same one.appended) other.appended
 

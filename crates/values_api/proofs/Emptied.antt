@@ -1,9 +1,10 @@
 -- Places that are emptied one after another.
-use Rattle.std.proofs.Common.{◌≡◌, ℕ, ◌<◌, List, length, get_or, refl, sym, subst, ◌∙◌, cond, Bool, true, false}
+use Rattle.std.proofs.Common.{◌≡◌, ℕ, ◌<◌, List, length, get_or, refl, sym, subst, ap, ◌∙◌, cond, Bool, true, false}
 use Rattle.std.specs.Prelude.{Option, Some, None, [], IfSome, IsSomeAnd, MatchOption, ◌&&◌, nat_le, nat_lt, unwrap_or}
 use Rattle.std.specs.Option.{IsSome}
 use Rattle.std.proofs.lemmas.Bool.{and_parts, false≢true, leb-true, ltb-true, le-leb, lt-ltb}
 use Rattle.std.proofs.lemmas.List.Elements.{Contains-get_or}
+use Rattle.cell_value.specs.declared.cell.Block.{Block}
 use Rattle.grid_range.specs.Area.{AreaWithin, Holds}
 use Rattle.grid_range.specs.Band.{HasLine}
 use Rattle.grid_range.specs.declared.area.Area.{Area}
@@ -22,10 +23,26 @@ use Rattle.values_api.specs.Given.{is_listed}
 use Rattle.values_api.proofs.Listed.{both_true, listed_of, listed_there, there_listed}
 use Rattle.world_model.specs.Updating.{Updates}
 use Rattle.merge_ranges.specs.Tests.{has_line}
+use Rattle.values_api.specs.Rest.{is_reached, rest_cleared}
 use Rattle.values_api.specs.Updates.{cleared}
 
 abbrev pub emptied : List (ℕ × ℕ) → Updates
 emptied places = listed_of (λ row col. Some None) places
+
+-- those of the area that the block doesn't reach
+abbrev pub unreached : Area → Block → Updates
+unreached area block row col = cond (is_reached area block row col) None (Some None)
+
+abbrev pub rest_emptied : Area → Block → List (ℕ × ℕ) → Updates
+rest_emptied area block places = listed_of (unreached area block) places
+
+pub unreached_none : (area : Area) (block : Block) (row col : ℕ) → is_reached area block row col ≡ true
+    → unreached area block row col ≡ None
+unreached_none area block row col is = ap (λ b. cond b None (Some None)) is
+
+pub unreached_some : (area : Area) (block : Block) (row col : ℕ) → is_reached area block row col ≡ false
+    → unreached area block row col ≡ Some None
+unreached_some area block row col is = ap (λ b. cond b None (Some None)) is
 
 -- ---- a cleared area
 
@@ -72,7 +89,20 @@ module _ (area : Area) (sheet : PlaceSheet) (places : List (ℕ × ℕ)) (filled
   same_made = by_cases (is_listed places row col) (has_line area.rows row && has_line area.cols col)
       (item_at sheet.table row col) listed_held (not_some (item_at sheet.table row col) refl)
 
+rest_by_cases : (reached listed held : Bool) (item : Option Content)
+    → unwrap_or (cond listed (Some None) None) item ≡ unwrap_or (cond held (Some None) None) item
+    → unwrap_or (cond listed (cond reached None (Some None)) None) item
+    ≡ unwrap_or (cond reached None (cond held (Some None) None)) item
+rest_by_cases true true held item same = refl
+rest_by_cases true false held item same = refl
+rest_by_cases false listed held item same = same
+
 -- ---- a spreadsheet
+
+if_some : (P : PlaceSheet → Type 0) (found : Option PlaceSheet) → ((sheet : PlaceSheet) → found ≡ Some sheet → P sheet)
+    → IfSome found P
+if_some P None each = tt
+if_some P (Some sheet) each = each sheet refl
 
 module _ (book : PlaceBook) (sound : IsSound book) (area : Area) (places : List (ℕ × ℕ))
     (there : IsThere book.sheets area) (filled : ArePlacesOf area book.sheets places) where
@@ -95,17 +125,18 @@ module _ (book : PlaceBook) (sound : IsSound book) (area : Area) (places : List 
       (own.inside place.0 place.1 held.1)
 
   -- what is made of each place of the sheet
-  pub all_same_made : IfSome (place_sheet_with area.sheet book.sheets) (λ sheet. (row col : ℕ)
-      → unwrap_or (emptied places row col) (item_at sheet.table row col)
-      ≡ unwrap_or (cleared area row col) (item_at sheet.table row col))
-  all_same_made = if_some (place_sheet_with area.sheet book.sheets) (λ sheet is row col.
-      same_made area sheet places (are_filled sheet is) row col)
-    where
-      if_some : (found : Option PlaceSheet) → ((sheet : PlaceSheet) → found ≡ Some sheet → (row col : ℕ)
-          → unwrap_or (emptied places row col) (item_at sheet.table row col)
-          ≡ unwrap_or (cleared area row col) (item_at sheet.table row col))
-          → IfSome found (λ sheet. (row col : ℕ)
-          → unwrap_or (emptied places row col) (item_at sheet.table row col)
-          ≡ unwrap_or (cleared area row col) (item_at sheet.table row col))
-      if_some None each = tt
-      if_some (Some sheet) each = each sheet refl
+  abbrev MakeSame : Updates → Updates → PlaceSheet → Type 0
+  MakeSame updates updates' sheet = (row col : ℕ)
+      → unwrap_or (updates row col) (item_at sheet.table row col) ≡ unwrap_or (updates' row col) (item_at sheet.table row col)
+
+  pub all_same_made : IfSome (place_sheet_with area.sheet book.sheets) (MakeSame (emptied places) (cleared area))
+  all_same_made = if_some (MakeSame (emptied places) (cleared area)) (place_sheet_with area.sheet book.sheets)
+      (λ sheet is row col. same_made area sheet places (are_filled sheet is) row col)
+
+  pub all_same_rest : (block : Block) → IfSome (place_sheet_with area.sheet book.sheets)
+      (MakeSame (rest_emptied area block places) (rest_cleared area block))
+  all_same_rest block = if_some (MakeSame (rest_emptied area block places) (rest_cleared area block))
+      (place_sheet_with area.sheet book.sheets)
+      (λ sheet is row col. rest_by_cases (is_reached area block row col) (is_listed places row col)
+      (has_line area.rows row && has_line area.cols col) (item_at sheet.table row col)
+      (same_made area sheet places (are_filled sheet is) row col))

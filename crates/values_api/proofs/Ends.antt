@@ -26,7 +26,7 @@ use Rattle.values_api.proofs.Finding.{sound_sheet}
 
 -- ---- bands
 
-from_first : (band : Band) (line : ℕ) → HasLine band line → first_line band ≤ line
+pub from_first : (band : Band) (line : ℕ) → HasLine band line → first_line band ≤ line
 from_first Whole line has = omega arith
 from_first (From start) line has = has
 from_first (Span start end) line has = has.0

@@ -211,7 +211,7 @@ module _ (given : Given) where
     abbrev AreOf : ℕ → ℕ → List (ℕ × ℕ) → Type 0
     AreOf line place cells = AreGivenBefore merges given line place cells
 
-    has_value : (row col : ℕ) → IsSome (value_uncovered merges given row col) → IsSome (value_by given row col)
+    pub has_value : (row col : ℕ) → IsSome (value_uncovered merges given row col) → IsSome (value_by given row col)
     has_value row col = some_uncovered (is_covered merges row col) (value_by given row col)
 
     later : (line place : ℕ) (other : ℕ × ℕ) → IsBefore line place other → IsBefore line (place + 1) other

@@ -23,6 +23,10 @@ pub mod Told
 pub mod SameLines
 pub mod SameCells
 pub mod Kept
+pub mod Pushed
+pub mod Resting
+pub mod Denying
+pub mod Reached
 pub mod WriteOnce
 pub mod AppendOnce
 pub mod Between

@@ -67,6 +67,28 @@ module _ {A : Type 0} where
       ap (λ n. items n col) (eqb-true row cell.0 parts.0) ∙ ap (λ n. items cell.0 n) (eqb-true col cell.1 parts.1)
       ∙ made))))
 
+  none_more : (whole before here : Bool) (found : Option A) → whole ≡ (before || here) → (here ≡ true → found ≡ None)
+      → cond before found None ≡ cond whole found None
+  none_more true true here found is none = refl
+  none_more false false here found is none = refl
+  none_more true false true found is none = sym (none refl)
+  none_more true false false found is none = absurd (false≢true (sym is))
+  none_more false true here found is none = absurd (false≢true is)
+
+  -- a cell more that has no item is no item more
+  pub listed_passed : (items : ℕ → ℕ → Option A) (cells : List (ℕ × ℕ)) (k : ℕ) (cell : ℕ × ℕ) → k < length cells
+      → cell ≡ get_or cells k (0, 0) → items cell.0 cell.1 ≡ None
+      → listed_of items (take k cells) ≡ listed_of items (take (k + 1) cells)
+  listed_passed items cells k cell there is none = fun_ext (λ row. fun_ext (λ col.
+      none_more (is_listed (take (k + 1) cells) row col) (is_listed (take k cells) row col)
+      (row == cell.0 && col == cell.1) (items row col)
+      (list_any_more (λ other. row == other.0 && col == other.1) cells k (0, 0) there
+      ∙ ap (λ (other : ℕ × ℕ). is_listed (take k cells) row col || (row == other.0 && col == other.1)) (sym is))
+      (λ here.
+      let parts = and_parts (row == cell.0) (col == cell.1) here in
+      ap (λ n. items n col) (eqb-true row cell.0 parts.0) ∙ ap (λ n. items cell.0 n) (eqb-true col cell.1 parts.1)
+      ∙ none)))
+
   same_item : (listed covered : Bool) (found : Option A) → (listed ≡ true → IsSome (cond covered None found))
       → (IsSome (cond covered None found) → listed ≡ true) → cond listed found None ≡ cond covered None found
   same_item true true found has all = absurd (false≢true (has refl))

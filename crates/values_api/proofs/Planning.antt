@@ -30,7 +30,8 @@ use Rattle.values_api.specs.declared.table.Rectangle.{Rectangle}
 use Rattle.values_api.specs.declared.writing.Written.{Written}
 use Rattle.values_api.specs.Appending.{AreAdded, CanAdd, IsPlan, IsPlanOf, StartsInside}
 use Rattle.values_api.specs.Appends.{IsAppend, IsAppendUnless, IsAppended, answer_with, cell_area, changes_of, limit_passed, lines_added, places_added, size_added, start_of, table_area}
-use Rattle.values_api.specs.Blocks.{IsWrite, contents_of}
+use Rattle.values_api.specs.Blocks.{contents_of}
+use Rattle.values_api.specs.Denials.{IsWriteBy}
 use Rattle.values_api.specs.Ranges.{IsThere}
 use Rattle.values_api.specs.Tables.{IsLastOf, IsStored, IsTable, IsTableIn, LiesWithin}
 use Rattle.values_api.proofs.Finding.{some_and, sound_sheet}
@@ -210,11 +211,11 @@ module _ (insert : Bool) (area : Area) (block : Block) (sheets : List PlaceSheet
 
   -- ---- the append
 
-  module _ (turn : ChangesInTurn) (updates : UpdatesAreChanges) (before between after : PlaceBook)
+  module _ (user : List ℕ) (turn : ChangesInTurn) (updates : UpdatesAreChanges) (before between after : PlaceBook)
       (same : before.sheets ≡ sheets) (added : AreAdded area.sheet plan.added sheet before between) where
     planned_with : (changes : List BookChange) (answer : Result (Option Area × Written) Rule)
-        → IsAppended area.sheet plan.added plan.start block plan.table changes before after answer
-        → OnOk answer (AreChanges changes before after) → IsAppend insert area block sheet before after answer
+        → IsAppended user area.sheet plan.added plan.start block plan.table changes before after answer
+        → OnOk answer (AreChanges changes before after) → IsAppend user insert area block sheet before after answer
     planned_with changes answer done made =
         let is = is_of in
         let start : plan.start ≡ start_of plan.table area = is.start in
@@ -226,23 +227,23 @@ module _ (insert : Bool) (area : Area) (block : Block) (sheets : List PlaceSheet
           changes = changes;
           appended =
               subst (λ (a : Added). IsAppendUnless (limit_passed a sheet before.sheets)
-              (IsAppended area.sheet a (start_of plan.table area) block plan.table changes before after answer) changes answer) lines
+              (IsAppended user area.sheet a (start_of plan.table area) block plan.table changes before after answer) changes answer) lines
               (subst (λ limit. IsAppendUnless limit
-              (IsAppended area.sheet plan.added (start_of plan.table area) block plan.table changes before after answer) changes answer)
+              (IsAppended user area.sheet plan.added (start_of plan.table area) block plan.table changes before after answer) changes answer)
               (sym (ap (λ (list : List PlaceSheet). limit_passed plan.added sheet list) same ∙ no_limit))
-              (subst (λ (s : ℕ × ℕ). IsAppended area.sheet plan.added s block plan.table changes before after answer) start done));
+              (subst (λ (s : ℕ × ℕ). IsAppended user area.sheet plan.added s block plan.table changes before after answer) start done));
           made = made;
         }
 
     module _ (own : PlaceSheet) (found : place_sheet_with area.sheet between.sheets ≡ Some own) where
       abbrev made_of : {told : Result Written Rule}
-          → IsWrite true (cell_area area.sheet plan.start) block own between after told → List BookChange
+          → IsWriteBy user true (cell_area area.sheet plan.start) block own between after told → List BookChange
       made_of write = changes_of area.sheet plan.added
-          ++ BookChange.CellsUpdated area.sheet (contents_of write.entries) ∷ []
+          ++ BookChange.CellsUpdated area.sheet (contents_of write.is.entries) ∷ []
 
       wrote : (written : Written)
-          → (write : IsWrite true (cell_area area.sheet plan.start) block own between after (Ok written))
-          → IsAppended area.sheet plan.added plan.start block plan.table (made_of write) before after
+          → (write : IsWriteBy user true (cell_area area.sheet plan.start) block own between after (Ok written))
+          → IsAppended user area.sheet plan.added plan.start block plan.table (made_of write) before after
           (Ok (answer_with area.sheet plan.table written))
       wrote written write = record {
         between = between;
@@ -256,8 +257,8 @@ module _ (insert : Bool) (area : Area) (block : Block) (sheets : List PlaceSheet
       }
 
       refused : (rule : Rule)
-          → (write : IsWrite true (cell_area area.sheet plan.start) block own between after (Err rule))
-          → IsAppended area.sheet plan.added plan.start block plan.table (made_of write) before after (Err rule)
+          → (write : IsWriteBy user true (cell_area area.sheet plan.start) block own between after (Err rule))
+          → IsAppended user area.sheet plan.added plan.start block plan.table (made_of write) before after (Err rule)
       refused rule write = record {
         between = between;
         lines = added.changes;
@@ -271,25 +272,25 @@ module _ (insert : Bool) (area : Area) (block : Block) (sheets : List PlaceSheet
 
     pub append_told : (written : Written)
         → IsSomeAnd (place_sheet_with area.sheet between.sheets)
-        (λ own. IsWrite true (cell_area area.sheet plan.start) block own between after (Ok written))
-        → IsAppend insert area block sheet before after (Ok (answer_with area.sheet plan.table written))
+        (λ own. IsWriteBy user true (cell_area area.sheet plan.start) block own between after (Ok written))
+        → IsAppend user insert area block sheet before after (Ok (answer_with area.sheet plan.table written))
     append_told written write =
         let (own, found, its) = some_and
-        (λ own. IsWrite true (cell_area area.sheet plan.start) block own between after (Ok written))
+        (λ own. IsWriteBy user true (cell_area area.sheet plan.start) block own between after (Ok written))
         (place_sheet_with area.sheet between.sheets) write in
         planned_with (made_of own found its) (Ok (answer_with area.sheet plan.table written))
         (wrote own found written its)
         (turn.both (changes_of area.sheet plan.added)
-        (BookChange.CellsUpdated area.sheet (contents_of its.entries) ∷ []) before between after added.changes
-        (updates.changes between after area.sheet (contents_of its.entries) its.updated.places.id its.updated.names))
+        (BookChange.CellsUpdated area.sheet (contents_of its.is.entries) ∷ []) before between after added.changes
+        (updates.changes between after area.sheet (contents_of its.is.entries) its.is.updated.places.id its.is.updated.names))
 
     pub append_refused : (fault : RuleOr)
         → IsSomeAnd (place_sheet_with area.sheet between.sheets)
-        (λ own. IsUnlessNoMemory (IsWrite true (cell_area area.sheet plan.start) block own between after) (Err fault))
-        → IsUnlessNoMemory (IsAppend insert area block sheet before after) (Err fault)
+        (λ own. IsUnlessNoMemory (IsWriteBy user true (cell_area area.sheet plan.start) block own between after) (Err fault))
+        → IsUnlessNoMemory (IsAppend user insert area block sheet before after) (Err fault)
     append_refused (refusal.Rule rule) write =
         let (own, found, its) = some_and
-        (λ own. IsWrite true (cell_area area.sheet plan.start) block own between after (Err rule))
+        (λ own. IsWriteBy user true (cell_area area.sheet plan.start) block own between after (Err rule))
         (place_sheet_with area.sheet between.sheets) write in
         planned_with (made_of own found its) (Err rule) (refused own found rule its) tt
     append_refused refusal.NoMemory write = tt
@@ -334,44 +335,44 @@ module _ (insert : Bool) (area : Area) (block : Block) (before : PlaceBook) (pla
         (subst (λ o. IsSomeAnd o (λ own. AreAdded area.sheet plan.added own before between)) there added)
 
     -- the table stays where it is when the values are written
-    pub table_stays : IsSound before → (after : PlaceBook) (written : Written) (table : Option Area)
+    pub table_stays : (user : List ℕ) → IsSound before → (after : PlaceBook) (written : Written) (table : Option Area)
         → table ≡ option_map (table_area area.sheet) plan.table
         → IsSomeAnd (place_sheet_with area.sheet between.sheets)
-        (λ own. IsWrite true (cell_area area.sheet plan.start) block own between after (Ok written))
+        (λ own. IsWriteBy user true (cell_area area.sheet plan.start) block own between after (Ok written))
         → IfSome table (IsThere after.sheets)
-    table_stays sound after written table is write =
+    table_stays user sound after written table is write =
         let (sheet, there, its) = the_sheet in
         let (own, found, wrote) = some_and
-        (λ own. IsWrite true (cell_area area.sheet plan.start) block own between after (Ok written))
+        (λ own. IsWriteBy user true (cell_area area.sheet plan.start) block own between after (Ok written))
         (place_sheet_with area.sheet between.sheets) write in
-        stays_if area.sheet (contents_of wrote.entries) between.sheets after.sheets wrote.updated.places.sheets table
+        stays_if area.sheet (contents_of wrote.is.entries) between.sheets after.sheets wrote.is.updated.places.sheets table
         (subst (λ (t : Option Area). IfSome t (IsThere between.sheets)) (sym is)
         (table_there insert area block before.sheets plan sheet there its before between
         (sound_sheet before sound area.sheet sheet there)
         (subst (λ o. IsSomeAnd o (λ own. AreAdded area.sheet plan.added own before between)) there added)))
 
-    module _ (turn : ChangesInTurn) (updates : UpdatesAreChanges) (after : PlaceBook) where
+    module _ (user : List ℕ) (turn : ChangesInTurn) (updates : UpdatesAreChanges) (after : PlaceBook) where
       pub done_told : (written : Written) (table : Option Area) → table ≡ option_map (table_area area.sheet) plan.table
           → IsSomeAnd (place_sheet_with area.sheet between.sheets)
-          (λ own. IsWrite true (cell_area area.sheet plan.start) block own between after (Ok written))
+          (λ own. IsWriteBy user true (cell_area area.sheet plan.start) block own between after (Ok written))
           → IsSomeAnd (place_sheet_with area.sheet before.sheets)
-          (λ sheet. IsUnlessNoMemory (IsAppend insert area block sheet before after) (Ok (table, written)))
+          (λ sheet. IsUnlessNoMemory (IsAppend user insert area block sheet before after) (Ok (table, written)))
       done_told written table is write =
           let (sheet, there, its) = the_sheet in
-          subst (λ o. IsSomeAnd o (λ one. IsUnlessNoMemory (IsAppend insert area block one before after) (Ok (table, written))))
+          subst (λ o. IsSomeAnd o (λ one. IsUnlessNoMemory (IsAppend user insert area block one before after) (Ok (table, written))))
           (sym there)
-          (subst (λ (t : Option Area). IsAppend insert area block sheet before after (Ok (t, written))) (sym is)
-          (append_told insert area block before.sheets plan sheet there its turn updates before between after refl
+          (subst (λ (t : Option Area). IsAppend user insert area block sheet before after (Ok (t, written))) (sym is)
+          (append_told insert area block before.sheets plan sheet there its user turn updates before between after refl
           (subst (λ o. IsSomeAnd o (λ own. AreAdded area.sheet plan.added own before between)) there added) written write))
 
       pub done_refused : (fault : RuleOr)
           → IsSomeAnd (place_sheet_with area.sheet between.sheets)
-          (λ own. IsUnlessNoMemory (IsWrite true (cell_area area.sheet plan.start) block own between after) (Err fault))
+          (λ own. IsUnlessNoMemory (IsWriteBy user true (cell_area area.sheet plan.start) block own between after) (Err fault))
           → IsSomeAnd (place_sheet_with area.sheet before.sheets)
-          (λ sheet. IsUnlessNoMemory (IsAppend insert area block sheet before after) (Err fault))
+          (λ sheet. IsUnlessNoMemory (IsAppend user insert area block sheet before after) (Err fault))
       done_refused fault write =
           let (sheet, there, its) = the_sheet in
-          subst (λ o. IsSomeAnd o (λ one. IsUnlessNoMemory (IsAppend insert area block one before after) (Err fault)))
+          subst (λ o. IsSomeAnd o (λ one. IsUnlessNoMemory (IsAppend user insert area block one before after) (Err fault)))
           (sym there)
-          (append_refused insert area block before.sheets plan sheet there its turn updates before between after refl
+          (append_refused insert area block before.sheets plan sheet there its user turn updates before between after refl
           (subst (λ o. IsSomeAnd o (λ own. AreAdded area.sheet plan.added own before between)) there added) fault write)

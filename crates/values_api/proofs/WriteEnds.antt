@@ -1,9 +1,12 @@
 -- A write as far as the ends is the write of the area.
-use Rattle.std.proofs.Common.{◌≡◌, ℕ, ◌+◌, ◌-◌, ◌<◌, ◌≤◌, cond, Bool, true, false, refl, sym, subst, ap, arith}
+use Rattle.std.proofs.Common.{◌≡◌, ℕ, ◌+◌, ◌-◌, ◌<◌, ◌≤◌, cond, Bool, true, false, refl, sym, subst, ap, ◌∙◌, arith}
 use Rattle.std.specs.Prelude.{Option, Some, None, IsSomeAnd, Result, Ok, Err, IfOk, MatchResult}
 use Rattle.std.specs.Prelude.{◌&&◌, not, nat_le, nat_lt}
+use Rattle.std.specs.declared.alloc.Global.{Global}
 use Rattle.std.proofs.Math.Path.{fun_ext}
 use Rattle.std.proofs.lemmas.Bool.{and_parts, leb-true}
+use denote.Ref.{Bor}
+use Rattle.cell_value.specs.declared.cell.Block.{Block}
 use Rattle.cell_value.specs.declared.entered.Input.{Input}
 use Rattle.formula_reader.specs.declared.fault.FormulaFault.{FormulaFault}
 use Rattle.grid_range.specs.Area.{AreaWithin}
@@ -23,7 +26,7 @@ use Rattle.dimension_ops.specs.declared.rule.Rule.TheVariants.{PastLimit, Values
 use Rattle.dimension_ops.specs.declared.rule.RuleOr.{RuleOr}
 use Rattle.dimension_ops.specs.declared.rule.RuleOr.TheVariants as refusal
 use Rattle.values_api.specs.Blocks.{Entry, AreEntries, end_row, end_col, given_value, input_at, lies_in, rows_needed, cols_needed, area_written}
-use Rattle.values_api.specs.Blocks.{broken_by_formulas, broken_by_write, contents_of, most_formulas, most_stored, rule_of_limit, IsWrite, IsWritten}
+use Rattle.values_api.specs.Blocks.{broken_by_formulas, broken_by_write, contents_of, most_formulas, most_stored, rule_of_limit, written, IsWrite, IsWritten}
 use Rattle.values_api.specs.Given.{HasRoom, IsWithinSheet, IsDone, IsDoneOnSheet, first_row, first_col, fits_by}
 use Rattle.values_api.specs.Given.{value_uncovered}
 use Rattle.values_api.specs.Ranges.{IsThere}
@@ -88,6 +91,11 @@ fit_parts given fit =
       leb-true (first_row given + rows_needed given.block.now) given.end_row parts.0,
       leb-true (first_col given + cols_needed given.block.now) given.end_col parts.1,
     )
+
+-- the values for the area, as far as the ends
+abbrev pub given_as : Global → Bor Area → Bor Block → ℕ × ℕ → Given
+given_as alloc area block ends =
+    record { alloc = alloc; area = area; block = block; end_row = ends.0; end_col = ends.1 }
 
 module _ (given : Given) (one_cell : Bool) (book : PlaceBook) where
   abbrev area : Area
@@ -189,6 +197,12 @@ module _ (given : Given) (one_cell : Bool) (book : PlaceBook) where
         passed_over (is_covered sheet.merges row col) (lies_in (first_row given) given.end_row row)
         (lies_in (first_col given) given.end_col col)
         (given_value (input_at given.block.now (row - first_row given) (col - first_col given)))))
+
+    -- these are the values that are written to the area
+    pub written_is : Found (λ sheet. value_uncovered sheet.merges given ≡ written one_cell area given.block.now sheet)
+    written_is =
+        subst (λ found. IsSomeAnd found (λ sheet. value_uncovered sheet.merges given ≡ written one_cell area given.block.now sheet))
+        (sym has_sheet.found) (values_are ∙ ap values_to has_sheet.are)
 
     write_done : (after : PlaceBook) (answer : Result Written Rule)
         → IsDone given (value_uncovered sheet.merges given) book after answer

@@ -1,7 +1,7 @@
 -- What an append of values makes of a spreadsheet, and what it answers (Google Sheets API v4 reference,
 -- spreadsheets.values.append, InsertDataOption and AppendValuesResponse). Where the values begin is this project's
 -- profile.
-use Rattle.std.specs.Prelude.{◌≡◌, ℕ, Bool, ◌+◌, ◌-◌, ◌*◌, ◌++◌, ◌∷◌, ◌==◌, [], List, max, if◌then◌else◌}
+use Rattle.std.specs.Prelude.{◌≡◌, ℕ, Bool, true, ◌+◌, ◌-◌, ◌*◌, ◌++◌, ◌∷◌, ◌==◌, [], List, max, if◌then◌else◌}
 use Rattle.std.specs.Prelude.{Option, None, Some, Result, Ok, Err, MatchResult, OnOk}
 use Rattle.std.specs.List.{sum_by}
 use Rattle.std.specs.Option.{option_map}
@@ -25,7 +25,8 @@ use Rattle.dimension_ops.specs.declared.rule.Rule.TheVariants.{PastLimit}
 use Rattle.values_api.specs.declared.appending.Added.{Added}
 use Rattle.values_api.specs.declared.table.Rectangle.{Rectangle}
 use Rattle.values_api.specs.declared.writing.Written.{Written}
-use Rattle.values_api.specs.Blocks.{IsWrite, contents_of, rows_needed, cols_needed}
+use Rattle.values_api.specs.Blocks.{contents_of, rows_needed, cols_needed}
+use Rattle.values_api.specs.Denials.{IsWriteBy}
 use Rattle.values_api.specs.Tables.{IsTableIn}
 
 -- ---- where the values begin
@@ -89,32 +90,35 @@ limit_passed added sheet sheets = first_passed (passes_size (size_added added sh
 abbrev pub answer_with : ℕ → Option Rectangle → Written → Option Area × Written
 answer_with sheet table written = (option_map (table_area sheet) table, written)
 
--- the lines are added, then the values are written as far as the sheet goes
-pub record IsAppended (sheet : ℕ) (added : Added) (start : ℕ × ℕ) (block : Block) (table : Option Rectangle)
-    (changes : List BookChange) (before after : PlaceBook) (answer : Result (Option Area × Written) Rule) : Type 0 where
+-- the lines are added, then the user's values are written as far as the sheet goes: which protected ranges deny him a
+-- cell is taken once the lines are there, since it may be of a new one
+pub record IsAppended (user : List ℕ) (sheet : ℕ) (added : Added) (start : ℕ × ℕ) (block : Block)
+    (table : Option Rectangle) (changes : List BookChange) (before after : PlaceBook)
+    (answer : Result (Option Area × Written) Rule) : Type 0 where
   pub between : PlaceBook
   pub lines : AreChanges (changes_of sheet added) before between
   pub own : PlaceSheet
   pub there : place_sheet_with sheet between.sheets ≡ Some own
   pub told : Result Written Rule
-  pub write : IsWrite Rattle.std.specs.Prelude.true (cell_area sheet start) block own between after told
+  pub write : IsWriteBy user true (cell_area sheet start) block own between after told
   pub answered : MatchResult told (λ written. answer ≡ Ok (answer_with sheet table written)) (λ rule. answer ≡ Err rule)
-  pub changes_are : changes ≡ changes_of sheet added ++ BookChange.CellsUpdated sheet (contents_of write.entries) ∷ []
+  pub changes_are : changes ≡ changes_of sheet added ++ BookChange.CellsUpdated sheet (contents_of write.is.entries) ∷ []
 
 -- unless the lines pass a limit, which is told before those that the write may pass
 abbrev pub IsAppendUnless : Option Limit → Type 0 → List BookChange → Result (Option Area × Written) Rule → Type 0
 IsAppendUnless None IsDone changes answer = IsDone
 IsAppendUnless (Some limit) IsDone changes answer = (changes ≡ []) × (answer ≡ Err (PastLimit limit))
 
--- an append of the block to the table that the area of the sheet has makes that of the spreadsheet, and is answered so
-pub record IsAppend (insert : Bool) (area : Area) (block : Block) (sheet : PlaceSheet) (before after : PlaceBook)
-    (answer : Result (Option Area × Written) Rule) : Type 0 where
+-- an append of the user's block to the table that the area of the sheet has makes that of the spreadsheet, and is
+-- answered so
+pub record IsAppend (user : List ℕ) (insert : Bool) (area : Area) (block : Block) (sheet : PlaceSheet)
+    (before after : PlaceBook) (answer : Result (Option Area × Written) Rule) : Type 0 where
   pub table : Option Rectangle
   pub found : IsTableIn area sheet.table table
   pub changes : List BookChange
   pub appended : IsAppendUnless
       (limit_passed (lines_added insert (start_of table area) block sheet) sheet before.sheets)
-      (IsAppended area.sheet (lines_added insert (start_of table area) block sheet) (start_of table area) block table
-      changes before after answer)
+      (IsAppended user area.sheet (lines_added insert (start_of table area) block sheet) (start_of table area) block
+      table changes before after answer)
       changes answer
   pub made : OnOk answer (AreChanges changes before after)

@@ -31,10 +31,10 @@ pub record WritesOnce : Type 0 where
 
 -- an append changes a sound spreadsheet in one way, and has one answer
 pub record AppendsOnce : Type 0 where
-  pub once : (insert : Bool) (area : Area) (block : Block) (sheet : PlaceSheet) (before after after' : PlaceBook)
+  pub once : (user : List ℕ) (insert : Bool) (area : Area) (block : Block) (sheet : PlaceSheet) (before after after' : PlaceBook)
       (answer answer' : Result (Option Area × Written) Rule) → IsSound before
-      → (one : IsAppend insert area block sheet before after answer)
-      → (other : IsAppend insert area block sheet before after' answer')
+      → (one : IsAppend user insert area block sheet before after answer)
+      → (other : IsAppend user insert area block sheet before after' answer')
       → (one.changes ≡ other.changes) × (answer ≡ answer')
 
 -- an update makes one spreadsheet of a sound one, and that is sound; each sheet stays where it is, with its size

@@ -4,6 +4,9 @@ pub mod Shown
 pub mod Reading
 pub mod Updates
 pub mod Blocks
+pub mod Rest
+pub mod Denials
+pub mod DenialLaws
 pub mod Given
 pub mod Laws
 pub mod Tables

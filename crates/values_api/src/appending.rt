@@ -51,7 +51,8 @@ struct Plan {
 /// are written from the table's first column on, in the row behind its last one, or from the area's first cell on
 /// where there is none. Gives the table's area, and what was written. Values count as one row at least. With
 /// `insert` as many rows are inserted there first, and else the rows that are missing are added at the end of
-/// the sheet; with both the columns that are missing. Nothing denies a user a cell yet.
+/// the sheet; with both the columns that are missing. Which protected ranges deny the user a cell of the values is
+/// taken once the lines are there, since it may be of a new one.
 ///
 /// # Errors
 ///
@@ -69,7 +70,7 @@ pub fn append_values(
 ) -> Result<(Option<Area>, Written), RuleOr>
     requires { IsThere book.old.sheets area.now }
     ensures appended { IsSomeAnd (place_sheet_with area.now.sheet book.old.sheets)
-        (λ sheet. IsUnlessNoMemory (IsAppend insert area.now block.now sheet book.old book.new) result) }
+        (λ sheet. IsUnlessNoMemory (IsAppend user.now insert area.now block.now sheet book.old book.new) result) }
     ensures table { IfOk result (λ done. IfSome done.0 (IsThere book.new.sheets)) }
     ensures there { IfOk result (λ done. IsThere book.new.sheets done.1.area) }
 {

@@ -2,9 +2,11 @@ ghost use Rattle.std.specs.Prelude.{◌≡◌, IfOk, IsSomeAnd};
 ghost use Rattle.world_model.specs.Sound.{place_sheet_with};
 ghost use Rattle.dimension_ops.specs.Rules.{IsUnlessNoMemory};
 ghost use Rattle.values_api.specs.Blocks.{IsWrite, broken_by_write, rule_of_limit, end_row, end_col};
+ghost use Rattle.values_api.specs.Denials.{IsWriteBy};
 ghost use Rattle.values_api.specs.Given.{HasRoom, IsWithinSheet, AreGiven, IsAnswer, IsDoneOnSheet, value_listed};
 ghost use Rattle.values_api.specs.Ranges.{IsThere};
 
+use crate::denial::write_denial;
 use crate::given::{Given, lines_on};
 use crate::uncovered::uncovered_cells;
 use cell_value::{Block, Items};
@@ -35,7 +37,7 @@ pub struct Written {
 /// Writes values from the first corner of an area on (Sheets API v4 reference, spreadsheets.values.update).
 /// Where the area was named as one cell they may go on to the end of the sheet, and else to the area's
 /// end. A cell that a merge covers is passed over, whatever its value. A formula's text is read as a formula of
-/// the sheet. Nothing denies a user a cell yet.
+/// the sheet.
 ///
 /// # Errors
 ///
@@ -43,12 +45,38 @@ pub struct Written {
 /// 1,000,000 cells of the spreadsheet would be stored, [`Limit::Formulas`] where more than 20,000 formulas
 /// would be, and [`Limit::Tokens`], [`Limit::References`] and [`Limit::Depth`] where a formula that would be
 /// written has more than 512 tokens, 64 references and words or 32 brackets open at once;
-/// [`Rule::ValuesPastRange`] where the values need a line behind the ends; [`RuleOr::NoMemory`] where memory
-/// runs out. The spreadsheet is to be given up then.
+/// [`Rule::ValuesPastRange`] where the values need a line behind the ends; [`Rule::Protected`] with the least id of a
+/// protected range that denies the user a cell that is written or emptied; [`RuleOr::NoMemory`] where memory runs
+/// out. The spreadsheet is to be given up then.
 pub fn write_values(
     alloc: Global,
     book: &mut Book,
-    _user: &str,
+    user: &str,
+    area: &Area,
+    one_cell: bool,
+    block: &Block,
+) -> Result<Written, RuleOr>
+    requires { IsThere book.old.sheets area.now }
+    ensures written { IsSomeAnd (place_sheet_with area.now.sheet book.old.sheets) (λ sheet.
+        IsUnlessNoMemory (IsWriteBy user.now one_cell area.now block.now sheet book.old book.new) result) }
+    ensures there { IfOk result (λ written. IsThere book.new.sheets written.area) }
+{
+    let denied = write_denial(alloc, book, user, area, one_cell, block)?;
+    let written = put_values(alloc, book, area, one_cell, block)?;
+    match denied {
+        None => Ok(written),
+        Some(id) => Err(RuleOr::Rule(Rule::Protected(id))),
+    }
+}
+
+/// Writes values as [`write_values`] does, whatever cells protected ranges deny.
+///
+/// # Errors
+///
+/// Those of [`write_values`] but for [`Rule::Protected`].
+pub fn put_values(
+    alloc: Global,
+    book: &mut Book,
     area: &Area,
     one_cell: bool,
     block: &Block,
@@ -71,7 +99,7 @@ pub fn write_values(
 }
 
 /// The row and the column behind the last ones that values may be written to.
-fn ends(book: &Book, area: &Area, one_cell: bool) -> (u32, u32)
+pub(crate) fn ends(book: &Book, area: &Area, one_cell: bool) -> (u32, u32)
     requires { IsThere book.now.sheets area.now }
     ensures { IsSomeAnd (place_sheet_with area.now.sheet book.now.sheets)
         (λ sheet. result ≡ (end_row one_cell area.now sheet, end_col one_cell area.now sheet)) }

@@ -14,6 +14,7 @@ use Rattle.world_model.specs.StandsFor.{SheetStandsFor, BookStandsFor}
 use Rattle.world_model.proofs.ContentsApart.{same_held}
 use Rattle.world_model.proofs.Found.{merges_on}
 use Rattle.world_model.proofs.MergesApart.{merges_apart}
+use Rattle.world_model.proofs.ProtectionsNamed.{protections_apart}
 use Rattle.world_model.proofs.RangesNamed.{ranges_apart}
 
 nothing_there : {T : Type 0} (P : Type 0) (held : Option T) → (is_some held ≡ true → P) → ¬ P → held ≡ None
@@ -87,12 +88,16 @@ pub stands_for_apart : TablesByItems Content → ListsAreSame → (one other : P
 stands_for_apart tables lists one other names stands stands' =
     ap (λ text. record one { id = text }) (stands.id ∙ sym stands'.id)
     ∙ ap (λ text. record one { id = other.id; title = text }) (stands.title ∙ sym stands'.title)
-    ∙ ap (λ text. record other { owner = text; sheets = one.sheets; ranges = one.ranges }) (stands.owner ∙ sym stands'.owner)
-    ∙ ap (λ sheets. record other { sheets = sheets; ranges = one.ranges })
+    ∙ ap (λ text. record other { owner = text; sheets = one.sheets; ranges = one.ranges; protections = one.protections })
+    (stands.owner ∙ sym stands'.owner)
+    ∙ ap (λ sheets. record other { sheets = sheets; ranges = one.ranges; protections = one.protections })
     (same_sheets tables lists names.sheets one.sheets other.sheets stands.sheets stands'.sheets one.sheets other.sheets
     names.sheets stands.sheets stands'.sheets stands.sound.sheets stands'.sound.sheets
     (merges_on one.sheets one.sheets stands.sound.distinct stands.sound.sheets)
     (merges_on other.sheets other.sheets stands'.sound.distinct stands'.sound.sheets))
-    ∙ ap (λ ranges. record other { ranges = ranges })
+    ∙ ap (λ ranges. record other { ranges = ranges; protections = one.protections })
     (ranges_apart names.sheets one.sheets other.sheets stands.sheets stands'.sheets one.ranges other.ranges
     stands.sound.ranges stands'.sound.ranges (sym stands.ranges ∙ stands'.ranges))
+    ∙ ap (λ protections. record other { protections = protections })
+    (protections_apart names.sheets one.sheets other.sheets stands.sheets stands'.sheets one.protections other.protections
+    stands.sound.protections stands'.sound.protections (sym stands.protections ∙ stands'.protections))

@@ -24,13 +24,16 @@ use Rattle.merge_ranges.specs.Following.{FollowedStayMerges}
 use Rattle.merge_ranges.specs.Merges.{IsMerge}
 use Rattle.named_ranges.specs.Following.{range_followed}
 use Rattle.named_ranges.specs.declared.range.NamedRange.{NamedRange}
+use Rattle.protection.specs.Following.{protection_followed}
+use Rattle.protection.specs.declared.range.Protection.{Protection}
 use Rattle.ref_rewrite.specs.declared.cell_content.Content.{Content}
 use Rattle.world_model.specs.Area.{NameArea, Orders, area_named, band_named}
 use Rattle.world_model.specs.Book.{NameBook, PlaceBook, orders_of, sheet_with}
 use Rattle.world_model.specs.Counts.{grid_places}
 use Rattle.world_model.specs.Content.{content_named}
-use Rattle.world_model.specs.LineChange.{LineChange, line_change, sheet_followed, book_changed, name_content_followed, name_range_followed}
+use Rattle.world_model.specs.LineChange.{LineChange, book_changed, line_change, name_content_followed, name_protection_followed, name_range_followed, sheet_followed}
 use Rattle.world_model.specs.PlaceChange.{SheetChanged, BookChanged}
+use Rattle.world_model.specs.Protections.{protection_named}
 use Rattle.world_model.specs.Ranges.{range_named}
 use Rattle.world_model.specs.Sheet.{NameSheet, PlaceSheet, lines_of}
 use Rattle.world_model.specs.Sound.{AreMergesOf, IsSheetSound, IsLineCount, IsContentWithin, IsOnSheet, most_places, place_sheet_with}
@@ -40,6 +43,7 @@ use Rattle.world_model.proofs.Bands.{band_follows}
 use Rattle.world_model.proofs.Contents.{AreasFollow, held_follows}
 use Rattle.world_model.proofs.Counts.{count_after_change}
 use Rattle.world_model.proofs.MergesFollowed.{IsFollowed, IsInLines, merges_follow}
+use Rattle.world_model.proofs.ProtectionsNamed.{AreWithin as AreProtectionsWithin, protections_follow}
 use Rattle.world_model.proofs.RangesNamed.{AreOnSheets, ranges_follow}
 use Rattle.world_model.proofs.SoundAfter.{changes_stay_sound}
 use Rattle.world_model.proofs.Found.{IsOwn, FoundByName, found_by_name, merges_on, own_sheets, lines_if_found, as_long, distinct_on}
@@ -76,10 +80,10 @@ module _ (tracks : TracksAll) (places : PlacesAll) (orders_stay : OrdersStay) (p
   after = orders_of (map (sheet_followed to) sheets)
 
   module _ (made : Changes change count (before id axis) fresh to.order) where
-    new_distinct : IsOrder to.order
+    pub new_distinct : IsOrder to.order
     new_distinct = orders_stay (before id axis) (order_change change fresh) made.distinct made.made
 
-    lines_go : LinesGo change (before id axis) to.order
+    pub lines_go : LinesGo change (before id axis) to.order
     lines_go = record {
       distinct = new_distinct;
       places = λ place name at.
@@ -108,7 +112,7 @@ module _ (tracks : TracksAll) (places : PlacesAll) (orders_stay : OrdersStay) (p
               ∙ band_follows tracks (before id axis) fresh to.order (band_on axis area) count change fits made within;
         }
 
-    areas : AreasFollow placed to count change before after
+    pub areas : AreasFollow placed to count change before after
     areas = record {
       follow = λ area on. area_follows to count change before after area
           (area_here area (found_by_name sheets (λ sheet. AreaWithin area sheet.table.rows sheet.table.cols) area.sheet
@@ -121,6 +125,12 @@ module _ (tracks : TracksAll) (places : PlacesAll) (orders_stay : OrdersStay) (p
         → filter_map (name_range_followed to) (map (range_named before) ranges)
         ≡ map (range_named after) (filter_map (range_followed id axis count change) ranges)
     named_follow = ranges_follow to count change before after placed areas.follow
+
+    -- the protections
+    pub protected_follow : (protections : List Protection) → AreProtectionsWithin placed protections
+        → filter_map (name_protection_followed to) (map (protection_named before) protections)
+        ≡ map (protection_named after) (filter_map (protection_followed id axis count change) protections)
+    protected_follow = protections_follow to count change before after placed areas.follow
 
     -- a sheet
     module _ (sheet sheet' : PlaceSheet) (names : NameSheet) (stands : SheetStandsFor sheets sheet names)
@@ -369,4 +379,8 @@ module _ (tracks : TracksAll) (places : PlacesAll) (orders_stay : OrdersStay) (w
             ∙ named_follow tracks places orders_stay before.sheets names.sheets stands.sheets id axis count change fresh fits
             made before.ranges stands.sound.ranges
             ∙ ap (map (range_named (orders_of (map (sheet_followed to) names.sheets)))) (sym changed.ranges);
+        protections = ap (filter_map (name_protection_followed to)) stands.protections
+            ∙ protected_follow tracks places orders_stay before.sheets names.sheets stands.sheets id axis count change fresh
+            fits made before.protections stands.sound.protections
+            ∙ ap (map (protection_named (orders_of (map (sheet_followed to) names.sheets)))) (sym changed.protections);
       }

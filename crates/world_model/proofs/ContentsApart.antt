@@ -114,13 +114,26 @@ pieces_of (NameContent.Text text) = None
 pieces_of (NameContent.Truth truth) = None
 pieces_of (NameContent.Formula pieces) = Some pieces
 
-abbrev first_in : List NamePiece → Option NamePiece
-first_in [] = None
-first_in (one ∷ pieces) = Some one
+-- lists are known by the names of their elements where each element is known by its name
+module _ {A B : Type 0} (named : A → B) (P Q : A → Type 0)
+    (apart : (one other : A) → P one → Q other → named one ≡ named other → one ≡ other) where
+  abbrev first_in : List B → Option B
+  first_in [] = None
+  first_in (y ∷ ys) = Some y
 
-abbrev rest_of : List NamePiece → List NamePiece
-rest_of [] = []
-rest_of (one ∷ pieces) = pieces
+  abbrev rest_of : List B → List B
+  rest_of [] = []
+  rest_of (y ∷ ys) = ys
+
+  pub map_apart : (xs ys : List A) → All P xs → All Q ys → map named xs ≡ map named ys → xs ≡ ys
+  map_apart [] [] are are' same = refl
+  map_apart [] (y ∷ ys) are are' same = absurd (none-some (named y) (ap first_in same))
+  map_apart (x ∷ xs) [] are are' same = absurd (none-some (named x) (sym (ap first_in same)))
+  map_apart (x ∷ xs) (y ∷ ys) are are' same =
+      ap (λ one. one ∷ xs) (apart x y (are 0 x (omega arith)) (are' 0 y (omega arith))
+      (same_Some (named x) (named y) (ap first_in same)))
+      ∙ ap (λ rest. y ∷ rest) (map_apart xs ys (λ k d there. are (suc k) d (omega arith))
+      (λ k d there. are' (suc k) d (omega arith)) (ap rest_of same))
 
 module _ (sheets : List NameSheet) (ones others : List PlaceSheet) (stand : AllZip (SheetStandsFor sheets) ones sheets)
     (stand' : AllZip (SheetStandsFor sheets) others sheets) where
@@ -165,17 +178,6 @@ module _ (sheets : List NameSheet) (ones others : List PlaceSheet) (stand : AllZ
       absurd (none-some (reference_named orders reference) (ap reference_in same))
   same_piece piece.Lost piece.Lost within within' same = refl
 
-  same_pieces : (some more : List Piece) → All (IsPieceWithin ones) some → All (IsPieceWithin others) more
-      → map named some ≡ map named more → some ≡ more
-  same_pieces [] [] within within' same = refl
-  same_pieces [] (p ∷ ps) within within' same = absurd (none-some (named p) (ap first_in same))
-  same_pieces (p ∷ ps) [] within within' same = absurd (none-some (named p) (sym (ap first_in same)))
-  same_pieces (p ∷ ps) (q ∷ qs) within within' same =
-      ap (λ one. one ∷ ps) (same_piece p q (within 0 p (omega arith)) (within' 0 q (omega arith))
-      (same_Some (named p) (named q) (ap first_in same)))
-      ∙ ap (λ rest. q ∷ rest) (same_pieces ps qs (λ k d there. within (suc k) d (omega arith))
-      (λ k d there. within' (suc k) d (omega arith)) (ap rest_of same))
-
   same_content : (one other : Content) → IsContentWithin ones one → IsContentWithin others other
       → content_named orders one ≡ content_named orders other → one ≡ other
   same_content (content.Number number) (content.Number other) within within' same =
@@ -210,7 +212,7 @@ module _ (sheets : List NameSheet) (ones others : List PlaceSheet) (stand : AllZ
       absurd (none-some truth (ap truth_of same))
   same_content (content.Formula formula) (content.Formula other) within within' same =
       ap (λ pieces. content.Formula (record formula { pieces = pieces }))
-      (same_pieces formula.pieces other.pieces within within'
+      (map_apart named (IsPieceWithin ones) (IsPieceWithin others) same_piece formula.pieces other.pieces within within'
       (same_Some (map named formula.pieces) (map named other.pieces) (ap pieces_of same)))
 
   -- or nothing

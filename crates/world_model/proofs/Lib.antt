@@ -21,13 +21,14 @@ pub mod BandsApart
 pub mod ContentsApart
 pub mod StillStands
 pub mod RangesNamed
+pub mod ProtectionsNamed
 pub mod MergesApart
 pub mod Apart
 pub mod Filled
 pub mod Replaced
 pub mod Formulas
 pub mod Changes
-pub mod Untouched
+pub mod Leaving
 pub mod NewLines
 pub mod Inserted
 pub mod SheetAdded
@@ -38,3 +39,6 @@ pub mod Renamed
 pub mod RangesChanged
 pub mod SheetMarked
 pub mod MergesSet
+pub mod ProtectionsSet
+pub mod Protected
+pub mod Inserts

@@ -20,6 +20,7 @@ bare_sound id title owner = record {
   few_sheets = omega arith;
   few_places = omega arith;
   ranges = λ k d there. absurd (let no : ⊥ = omega (arith, there) in no);
+  protections = λ k d there. absurd (let no : ⊥ = omega (arith, there) in no);
 }
 
 bare_stands : (id title owner : List ℕ) → NearlyStands (bare_book id title owner) (bare_names id title owner)
@@ -30,6 +31,7 @@ bare_stands id title owner = record {
   owner = refl;
   sheets = tt;
   ranges = refl;
+  protections = refl;
 }
 
 bare_called : (id title owner : List ℕ) (next : ℕ) → HasNamesBelow next (bare_names id title owner)

@@ -83,7 +83,7 @@ module _ (next : ℕ) (order : List ℕ) (below : AreBelow next order) (distinct
     subst (λ n. to ≤ n) (sym long) fits.2,
   )
 
-  fresh_changes : (change : Change) (count : ℕ) → Fits change count → length order ≡ count
+  pub fresh_changes : (change : Change) (count : ℕ) → Fits change count → length order ≡ count
       → Changes change count order (fresh change) (order_after (order_change change (fresh change)) order)
   fresh_changes change count fits long = record {
     distinct = distinct;
@@ -127,7 +127,7 @@ either_below : (next : ℕ) (b : Bool) (one other : List ℕ) → AreBelow next 
 either_below next true one other below below' = below
 either_below next false one other below below' = below'
 
-orders_below : (next id : ℕ) (axis : Axis) (sheets : List NameSheet) → All (IsCalledBelow next) sheets
+pub orders_below : (next id : ℕ) (axis : Axis) (sheets : List NameSheet) → All (IsCalledBelow next) sheets
     → AreBelow next (orders_of sheets id axis)
 orders_below next id axis [] below = λ k d there. absurd (omega arith)
 orders_below next id axis (sheet ∷ sheets) below =

@@ -26,6 +26,7 @@ with_ranges_sound book ranges sound on = record {
   few_sheets = sound.few_sheets;
   few_places = sound.few_places;
   ranges = on;
+  protections = sound.protections;
 }
 
 with_ranges_stands : (book : PlaceBook) (ranges : List NamedRange) (named : Named) (names : List NameRange)
@@ -40,6 +41,7 @@ with_ranges_stands book ranges named names is on same = record {
     owner = is.stands.owner;
     sheets = is.stands.sheets;
     ranges = same;
+    protections = is.stands.protections;
   };
   called = is.called;
 }

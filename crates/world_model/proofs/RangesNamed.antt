@@ -5,7 +5,6 @@ use Rattle.std.specs.List.{All, AllZip, cons_option, filter_map}
 use Rattle.std.specs.Option.{option_map}
 use Rattle.std.proofs.lemmas.Bool.{false≢true}
 use Rattle.std.proofs.lemmas.List.Elements.{All-cons, All-nil}
-use Rattle.std.proofs.lemmas.Option.{none-some, same_Some}
 use Rattle.grid_range.specs.Tracking.{area_followed}
 use Rattle.grid_range.specs.declared.area.Area.{Area}
 use Rattle.grid_range.specs.declared.change.Change.{Change}
@@ -18,7 +17,7 @@ use Rattle.world_model.specs.Ranges.{NameRange, range_named}
 use Rattle.world_model.specs.Sheet.{NameSheet, PlaceSheet}
 use Rattle.world_model.specs.Sound.{IsOnSheet}
 use Rattle.world_model.specs.StandsFor.{SheetStandsFor}
-use Rattle.world_model.proofs.ContentsApart.{in_orders, same_area}
+use Rattle.world_model.proofs.ContentsApart.{in_orders, map_apart, same_area}
 use Rattle.world_model.proofs.StillStands.{area_same, map_same}
 
 -- each range is on one of the sheets
@@ -137,14 +136,6 @@ range_of_same one other id name area =
     ∙ ap (λ text. record one { id = other.id; name = text }) name
     ∙ ap (λ found. record other { area = found }) area
 
-abbrev first_range : List NameRange → Option NameRange
-first_range [] = None
-first_range (one ∷ ranges) = Some one
-
-abbrev later_ranges : List NameRange → List NameRange
-later_ranges [] = []
-later_ranges (one ∷ ranges) = ranges
-
 module _ (sheets : List NameSheet) (ones others : List PlaceSheet) (stand : AllZip (SheetStandsFor sheets) ones sheets)
     (stand' : AllZip (SheetStandsFor sheets) others sheets) where
   abbrev named : NamedRange → NameRange
@@ -159,11 +150,5 @@ module _ (sheets : List NameSheet) (ones others : List PlaceSheet) (stand : AllZ
 
   pub ranges_apart : (some more : List NamedRange) → AreOnSheets ones some → AreOnSheets others more
       → map named some ≡ map named more → some ≡ more
-  ranges_apart [] [] on on' same = refl
-  ranges_apart [] (r ∷ rs) on on' same = absurd (none-some (named r) (ap first_range same))
-  ranges_apart (r ∷ rs) [] on on' same = absurd (none-some (named r) (sym (ap first_range same)))
-  ranges_apart (r ∷ rs) (s ∷ ss) on on' same =
-      ap (λ one. one ∷ rs) (same_range r s (on 0 r (omega arith)) (on' 0 s (omega arith))
-      (same_Some (named r) (named s) (ap first_range same)))
-      ∙ ap (λ rest. s ∷ rest) (ranges_apart rs ss (λ k d there. on (suc k) d (omega arith))
-      (λ k d there. on' (suc k) d (omega arith)) (ap later_ranges same))
+  ranges_apart =
+      map_apart named (λ range. IsOnSheet ones range.area) (λ range. IsOnSheet others range.area) same_range

@@ -17,6 +17,7 @@ use Rattle.world_model.specs.Book.{PlaceBook, orders_of}
 use Rattle.world_model.specs.BookChange.{AreChanges, BookChange, Named, NamedStandsFor, name_content_renamed, name_piece_renamed, sheet_renamed, words_renamed}
 use Rattle.world_model.specs.Content.{NameContent, NamePiece, content_named, piece_named}
 use Rattle.world_model.specs.RangeChange.{PlaceWordsRenamed, SomeWordsRenamed, WordsRenamedIn, content_renamed}
+use Rattle.world_model.specs.Protections.{protection_named}
 use Rattle.world_model.specs.Ranges.{range_named}
 use Rattle.world_model.specs.Sheet.{NameSheet, PlaceSheet, lines_of}
 use Rattle.world_model.specs.Sound.{IsContentWithin, IsOnSheet, IsPieceWithin, IsSound}
@@ -71,6 +72,7 @@ module _ (old new : List ℕ) where
       → IsSound after
   some_renamed_sound before after sound renamed =
       some_sound (content_renamed old new) before after (each_may before.sheets after.sheets renamed.sheets) renamed.ranges
+      renamed.protections
       (renamed_within before.sheets after.sheets) sound
 
   all_are_some : (ones others : List PlaceSheet) → AllZip (WordsRenamedIn old new) ones others
@@ -88,6 +90,7 @@ module _ (old new : List ℕ) where
         owner = renamed.owner;
         sheets = all_are_some before.sheets after.sheets renamed.sheets;
         ranges = renamed.ranges;
+        protections = renamed.protections;
       })
 
   -- ---- and stands for the one by names
@@ -165,6 +168,9 @@ module _ (old new : List ℕ) where
       sheets = all_stand named.book.sheets before.sheets after.sheets named.book.sheets is.stands.sheets renamed.sheets;
       ranges = is.stands.ranges ∙ ap (map (range_named (orders_of named.book.sheets))) (sym renamed.ranges)
           ∙ ap (λ orders. map (range_named orders) after.ranges) (sym (same_orders named.book.sheets));
+      protections = is.stands.protections
+          ∙ ap (map (protection_named (orders_of named.book.sheets))) (sym renamed.protections)
+          ∙ ap (λ orders. map (protection_named orders) after.protections) (sym (same_orders named.book.sheets));
     };
     called = All-map
         (λ (one : NameSheet). All (λ name. name < named.next) one.rows × All (λ name. name < named.next) one.cols)

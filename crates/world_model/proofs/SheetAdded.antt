@@ -21,6 +21,7 @@ use Rattle.world_model.specs.Book.{NameBook, PlaceBook, orders_of}
 use Rattle.world_model.specs.BookChange.{AreChanges, BookChange, Named, NewSheet, new_sheet, sheet_added}
 use Rattle.world_model.specs.Content.{content_named}
 use Rattle.world_model.specs.Counts.{grid_places}
+use Rattle.world_model.specs.Protections.{protection_named}
 use Rattle.world_model.specs.Ranges.{range_named}
 use Rattle.world_model.specs.Sheet.{NameSheet, PlaceSheet, lines_of}
 use Rattle.world_model.specs.SheetChange.{new_place_sheet, place_sheet_added}
@@ -29,6 +30,7 @@ use Rattle.world_model.specs.Sound.{IsContentWithin, IsOnSheet, IsSheetSound, Is
 use Rattle.world_model.specs.StandsFor.{BookStandsFor, SheetStandsFor}
 use Rattle.world_model.specs.World.{HasNamesBelow}
 use Rattle.world_model.proofs.Inserted.{All-inserted, AllPairs-inserted, AllZip-inserted, find-inserted, length-inserted, still_not_all}
+use Rattle.world_model.proofs.ProtectionsNamed.{AreWithin, protections_same, protections_stay}
 use Rattle.world_model.proofs.RangesNamed.{AreOnSheets, ranges_same}
 use Rattle.world_model.proofs.StillStands.{held_same, merges_same, still_stands}
 use Rattle.world_model.proofs.WrittenSound.{held_within}
@@ -101,6 +103,7 @@ pub record IsNearlySound (book : PlaceBook) : Type 0 where
   pub few_sheets : length book.sheets ≤ most_sheets
   pub few_places : grid_places book.sheets ≤ most_places
   pub ranges : AreOnSheets book.sheets book.ranges
+  pub protections : AreWithin book.sheets book.protections
 
 pub record NearlyStands (book : PlaceBook) (names : NameBook) : Type 0 where
   pub sound : IsNearlySound book
@@ -109,6 +112,7 @@ pub record NearlyStands (book : PlaceBook) (names : NameBook) : Type 0 where
   pub owner : book.owner ≡ names.owner
   pub sheets : AllZip (SheetStandsFor names.sheets) book.sheets names.sheets
   pub ranges : names.ranges ≡ map (range_named (orders_of names.sheets)) book.ranges
+  pub protections : names.protections ≡ map (protection_named (orders_of names.sheets)) book.protections
 
 nearly_sound : (book : PlaceBook) → IsSound book → IsNearlySound book
 nearly_sound book sound = record {
@@ -118,6 +122,7 @@ nearly_sound book sound = record {
   few_sheets = sound.few_sheets;
   few_places = sound.few_places;
   ranges = sound.ranges;
+  protections = sound.protections;
 }
 
 pub sound_visible : (book : PlaceBook) → IsNearlySound book → list_all (λ sheet. sheet.hidden) book.sheets ≡ false
@@ -130,6 +135,7 @@ sound_visible book sound visible = record {
   few_sheets = sound.few_sheets;
   few_places = sound.few_places;
   ranges = sound.ranges;
+  protections = sound.protections;
 }
 
 nearly_stands : (book : PlaceBook) (names : NameBook) → BookStandsFor book names → NearlyStands book names
@@ -140,6 +146,7 @@ nearly_stands book names stands = record {
   owner = stands.owner;
   sheets = stands.sheets;
   ranges = stands.ranges;
+  protections = stands.protections;
 }
 
 pub stands_visible : (book : PlaceBook) (names : NameBook) → NearlyStands book names
@@ -151,6 +158,7 @@ stands_visible book names stands visible = record {
   owner = stands.owner;
   sheets = stands.sheets;
   ranges = stands.ranges;
+  protections = stands.protections;
 }
 
 module _ (empty : (rows cols row col : ℕ) → item_at (empty_table {T = Content} rows cols) row col ≡ None)
@@ -225,6 +233,7 @@ module _ (empty : (rows cols row col : ℕ) → item_at (empty_table {T = Conten
         let few = room.few_places in
         omega (arith, places, few);
     ranges = λ k d there. area_stays (get_or book.ranges k d).area (sound.ranges k d there);
+    protections = protections_stay book.sheets after area_stays book.protections sound.protections;
   }
 
   still_visible : IsSound book → list_all (λ (one : PlaceSheet). one.hidden) after ≡ false
@@ -301,6 +310,9 @@ module _ (empty : (rows cols row col : ℕ) → item_at (empty_table {T = Conten
       ranges = stands.ranges
           ∙ ranges_same book.sheets (orders_of named.book.sheets) (orders_of names) same_area book.ranges
           stands.sound.ranges;
+      protections = stands.protections
+          ∙ protections_same book.sheets (orders_of named.book.sheets) (orders_of names) same_area book.protections
+          stands.sound.protections;
     }
 
     abbrev next : ℕ

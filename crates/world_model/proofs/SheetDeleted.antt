@@ -1,11 +1,11 @@
 -- A sheet that is deleted with all references to it, by places and by names.
 use Rattle.std.proofs.Common.{◌≡◌, ◌≢◌, ℕ, suc, ◌+◌, ◌*◌, ◌<◌, ◌≤◌, refl, sym, ap, subst, ◌∙◌, List, [], ◌∷◌, length, get_or, Bool, true, false, cond, not, arith, inl, inr}
 use Rattle.std.specs.Prelude.{IsSomeAnd, Option, Some, filter, map, ◌⊎◌, ◌==◌}
-use Rattle.std.specs.List.{All, AllZip, find, list_all}
+use Rattle.std.specs.List.{All, AllZip, filter_map, find, list_all}
 use Rattle.std.specs.Option.{option_map_or}
 use Rattle.std.specs.Str.{str_eq_ignore_ascii_case}
 use Rattle.std.proofs.Math.Path.{fun_ext}
-use Rattle.std.proofs.lemmas.Bool.{cond-false, eq-eqb, eqb-true, false_from_ne_true, false≢true}
+use Rattle.std.proofs.lemmas.Bool.{cond-false, eq-eqb, eqb-true, false_from_ne_true, false≢true, not-true}
 use Rattle.std.proofs.lemmas.List.Elements.{All-filter, All-map, length_all_zip}
 use Rattle.std.proofs.lemmas.List.Kept.{AllPairs-filter}
 use Rattle.std.proofs.lemmas.List.Sums.{sum_by-cons}
@@ -26,6 +26,7 @@ use Rattle.world_model.specs.Book.{PlaceBook, orders_of}
 use Rattle.world_model.specs.BookChange.{AreChanges, BookChange, name_content_without, name_piece_without, without_references}
 use Rattle.world_model.specs.Content.{NameContent, NamePiece, content_named, piece_named}
 use Rattle.world_model.specs.Counts.{grid_places}
+use Rattle.world_model.specs.Protections.{name_protection_without, protection_named}
 use Rattle.world_model.specs.Ranges.{name_ranges_elsewhere, range_named}
 use Rattle.world_model.specs.Sheet.{NameSheet, PlaceSheet, lines_of}
 use Rattle.world_model.specs.SheetChange.{LosesReferences, PlaceSheetDeleted, SomeLoseReferences, content_without, other_sheets}
@@ -34,6 +35,7 @@ use Rattle.world_model.specs.StandsFor.{SheetStandsFor}
 use Rattle.world_model.proofs.Becoming.{EachBecomes, all_sound, becomes_keeps, becomes_stands, same_places, sheet_becomes, some_sound}
 use Rattle.world_model.proofs.Kept.{KeepsTitle, distinct_stay, size_within, still_found, titles_stay}
 use Rattle.world_model.proofs.Lines.{KeepsLines, orders_stay_same}
+use Rattle.world_model.proofs.ProtectionsNamed.{AreWithin, all_left_within, protections_left}
 use Rattle.world_model.proofs.RangesNamed.{All-left, AreOnSheets, filter-named, range_same}
 use Rattle.world_model.proofs.StillStands.{lines_same, merges_same}
 
@@ -61,10 +63,6 @@ module _ {X : Type 0} (id_of : X → ℕ) (deleted other : ℕ) (apart : (other 
       (find-others xs) refl
 
 -- ---- the spreadsheet is sound
-
-not_true : (b : Bool) → not b ≡ true → b ≡ false
-not_true true is = absurd (false≢true is)
-not_true false is = refl
 
 loses_is : (sheet : ℕ) (one other : PlaceSheet) → LosesReferences sheet one other
     → EachBecomes (content_without sheet) one other
@@ -164,8 +162,10 @@ deleted_sound before after sheet sound visible gone =
       ranges = subst (AreOnSheets after.sheets) (sym gone.ranges)
           (All-left (λ (range : NamedRange). not (range.area.sheet == sheet))
           (λ range. IsOnSheet before.sheets range.area) (λ range. IsOnSheet after.sheets range.area)
-          (λ range elsewhere on. areas range.area (not_true (range.area.sheet == sheet) elsewhere) on) before.ranges
+          (λ range elsewhere on. areas range.area (not-true (range.area.sheet == sheet) elsewhere) on) before.ranges
           sound.ranges);
+      protections = subst (AreWithin after.sheets) (sym gone.protections)
+          (all_left_within sheet before.sheets after.sheets areas before.protections sound.protections);
     }
 
 -- some are without their references already
@@ -173,6 +173,7 @@ pub lost_sound : (before after : PlaceBook) (sheet : ℕ) → IsSound before →
     → IsSound after
 lost_sound before after sheet sound lost =
     some_sound (content_without sheet) before after (each_may before.sheets after.sheets lost.sheets) lost.ranges
+    lost.protections
     (λ areas. content_left sheet before.sheets after.sheets (λ area apart. areas area)) sound
   where
     may : (one other : PlaceSheet) → (other ≡ one) ⊎ LosesReferences sheet one other
@@ -265,7 +266,7 @@ module _ (deleted : ℕ) (sheets : List NameSheet) where
       (λ range. not (range.area.sheet == deleted)) (λ range. not (range.area.sheet == deleted)) (λ range. refl) ranges
       (λ k d there elsewhere. range_same (orders_of sheets) (orders_of left) (get_or ranges k d)
       (area_same deleted (orders_of sheets) (orders_of left) same_lines (get_or ranges k d).area
-      (not_true ((get_or ranges k d).area.sheet == deleted) elsewhere)))
+      (not-true ((get_or ranges k d).area.sheet == deleted) elsewhere)))
 
   both_left : (b b' : Bool) (one : PlaceSheet) (names : NameSheet) (ones : List PlaceSheet) (others : List NameSheet)
       → b ≡ b' → SheetStandsFor sheets one names → AllZip (SheetStandsFor sheets) ones others
@@ -301,7 +302,7 @@ module _ (deleted : ℕ) (sheets : List NameSheet) where
   pub are_left : (ones : List PlaceSheet) → All (IsSheetSound ones) ones → All IsLeft (other_sheets deleted ones)
   are_left ones sound =
       All-left (λ one. not (one.id == deleted)) (IsSheetSound ones) IsLeft
-      (λ one elsewhere is. (not_true (one.id == deleted) elsewhere, is.merges)) ones sound
+      (λ one elsewhere is. (not-true (one.id == deleted) elsewhere, is.merges)) ones sound
 
 pub deleted_changes : (before after : PlaceBook) (sheet : ℕ) → IsSound after → PlaceSheetDeleted sheet before after
     → AreChanges (BookChange.SheetDeleted sheet ∷ []) before after
@@ -319,6 +320,11 @@ deleted_changes before after sheet sound gone = record {
           (filtered sheet named.book.sheets before.sheets named.book.sheets is.stands.sheets) gone.sheets;
       ranges = ap (name_ranges_elsewhere sheet) is.stands.ranges ∙ ranges_left sheet named.book.sheets before.ranges
           ∙ ap (map (range_named (orders_of (left sheet named.book.sheets)))) (sym gone.ranges);
+      protections = ap (filter_map (name_protection_without sheet)) is.stands.protections
+          ∙ protections_left sheet (orders_of named.book.sheets) (orders_of (left sheet named.book.sheets))
+          (area_same sheet (orders_of named.book.sheets) (orders_of (left sheet named.book.sheets))
+          (same_lines sheet named.book.sheets)) before.protections
+          ∙ ap (map (protection_named (orders_of (left sheet named.book.sheets)))) (sym gone.protections);
     };
     called = All-map
         (λ (one : NameSheet). All (λ name. name < named.next) one.rows × All (λ name. name < named.next) one.cols)

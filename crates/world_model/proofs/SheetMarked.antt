@@ -20,6 +20,7 @@ use Rattle.world_model.specs.Book.{PlaceBook}
 use Rattle.world_model.specs.BookChange.{AreChanges, BookChange, Named, NamedStandsFor, marked_hidden, on_sheet, titled}
 use Rattle.world_model.specs.Content.{content_named}
 use Rattle.world_model.specs.Counts.{grid_places}
+use Rattle.world_model.specs.Protections.{protection_named}
 use Rattle.world_model.specs.Ranges.{range_named}
 use Rattle.world_model.specs.Sheet.{NameSheet, PlaceSheet, lines_of}
 use Rattle.world_model.specs.SheetChange.{on_place_sheet, place_marked_hidden, place_titled}
@@ -27,6 +28,7 @@ use Rattle.world_model.specs.Sound.{AreMergesOf, IsContentWithin, IsLineCount, I
 use Rattle.world_model.specs.StandsFor.{SheetStandsFor}
 use Rattle.world_model.proofs.Kept.{merges_fit}
 use Rattle.world_model.proofs.Lines.{KeepsLines, orders_stay_same}
+use Rattle.world_model.proofs.ProtectionsNamed.{AreWithin, protections_stay}
 use Rattle.world_model.proofs.SheetAdded.{titles_apart}
 use Rattle.world_model.proofs.StillStands.{still_stands}
 use Rattle.world_model.proofs.WrittenSound.{held_within}
@@ -99,12 +101,12 @@ module _ (change : PlaceSheet → PlaceSheet) (keeps : KeepsTable change) where
 
   -- the sheets are sound if no two titles are one, each has one and can have its merges, and one is shown
   pub changed_sound : (book after : PlaceBook) → after.sheets ≡ map change book.sheets → after.ranges ≡ book.ranges
-      → IsSound book
+      → after.protections ≡ book.protections → IsSound book
       → All (λ sheet. 0 < length (change sheet).title) book.sheets
       → AllPairs (λ one other. str_eq_ignore_ascii_case (change one).title (change other).title ≡ false) book.sheets
       → list_all (λ sheet. sheet.hidden) (map change book.sheets) ≡ false
       → All (λ sheet. AreMergesOf sheet (change sheet).merges) book.sheets → IsSound after
-  changed_sound book after made same sound titled apart visible merges = record {
+  changed_sound book after made same same' sound titled apart visible merges = record {
     distinct = subst (λ sheets. AllPairs (λ (one other : PlaceSheet). one.id ≢ other.id) sheets) (sym made)
         (λ i j d below there.
         let inside : j < length book.sheets = subst (λ n. j < n) (length-map book.sheets change) there in
@@ -136,6 +138,10 @@ module _ (change : PlaceSheet → PlaceSheet) (keeps : KeepsTable change) where
     ranges = subst (λ sheets. All (λ (range : NamedRange). IsOnSheet sheets range.area) after.ranges) (sym made)
         (subst (λ ranges. All (λ (range : NamedRange). IsOnSheet (map change book.sheets) range.area) ranges) (sym same)
         (λ k d there. area_stays book.sheets (get_or book.ranges k d).area (sound.ranges k d there)));
+    protections = subst (λ sheets. AreWithin sheets after.protections) (sym made)
+        (subst (AreWithin (map change book.sheets)) (sym same')
+        (protections_stay book.sheets (map change book.sheets) (area_stays book.sheets) book.protections
+        sound.protections));
   }
 
 -- a sheet that may be changed keeps its merges
@@ -197,7 +203,7 @@ module _ (id : ℕ) (title : List ℕ) where
       → IsSound (on_place_sheet id (place_titled title) book)
   titled_sound book sound some free =
       changed_sound with_title (chosen_keeps id (place_titled title) (titled_keeps title)) book
-      (on_place_sheet id (place_titled title) book) refl refl sound
+      (on_place_sheet id (place_titled title) book) refl refl refl sound
       (λ k d there. has_title ((get_or book.sheets k d).id == id) (get_or book.sheets k d) some
       (sound.sheets k d there).titled)
       (λ i j d below there.
@@ -226,7 +232,7 @@ module _ (id : ℕ) (hidden : Bool) where
       → IsSound (on_place_sheet id (place_marked_hidden hidden) book)
   hidden_sound book sound visible =
       changed_sound with_mark (chosen_keeps id (place_marked_hidden hidden) (hidden_keeps hidden)) book
-      (on_place_sheet id (place_marked_hidden hidden) book) refl refl sound
+      (on_place_sheet id (place_marked_hidden hidden) book) refl refl refl sound
       (λ k d there. subst (λ title. 0 < length title)
       (sym (title_kept ((get_or book.sheets k d).id == id) (get_or book.sheets k d)))
       (sound.sheets k d there).titled)
@@ -307,6 +313,9 @@ module _ (id : ℕ) (by_names : NameSheet → NameSheet) (by_places : PlaceSheet
       sheets = each_stands named.book.sheets follows book.sheets named.book.sheets is.stands.sheets;
       ranges = is.stands.ranges
           ∙ ap (λ orders. map (range_named orders) book.ranges) (sym (orders_stay_same on_names on_keeps named.book.sheets));
+      protections = is.stands.protections
+          ∙ ap (λ orders. map (protection_named orders) book.protections)
+          (sym (orders_stay_same on_names on_keeps named.book.sheets));
     };
     called = All-map
         (λ (one : NameSheet). All (λ name. name < named.next) one.rows × All (λ name. name < named.next) one.cols)

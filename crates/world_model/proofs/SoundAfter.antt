@@ -21,6 +21,8 @@ use Rattle.cell_store.specs.Table.{Table, HasItemsInside, HasPlace, item_at}
 use Rattle.merge_ranges.specs.Following.{AreWithin, CameFrom, FollowedStayMerges}
 use Rattle.named_ranges.specs.Following.{range_followed}
 use Rattle.named_ranges.specs.declared.range.NamedRange.{NamedRange}
+use Rattle.protection.specs.Following.{protection_followed}
+use Rattle.protection.specs.declared.range.Protection.{Protection}
 use Rattle.ref_rewrite.specs.Following.{piece_followed}
 use Rattle.ref_rewrite.specs.declared.cell_content.Content.{Content}
 use Rattle.ref_rewrite.specs.declared.cell_content.Content.TheVariants as content
@@ -37,6 +39,7 @@ use Rattle.world_model.proofs.Forms.{notation_kept}
 use Rattle.world_model.proofs.Kept.{KeepsTitle, merges_kept, only_one, found_both, found_too, still_found, visible_stays, distinct_stay, titles_stay, there_before, same_length}
 use Rattle.world_model.proofs.MovedTables.{row_came, col_came, same_size, size_moved, holds_where_moved}
 use Rattle.world_model.proofs.Orders.{on_both}
+use Rattle.world_model.proofs.ProtectionsNamed.{AreWithin as AreProtectionsWithin, all_followed_within}
 use Rattle.world_model.proofs.RangesNamed.{All-filter_map, AreOnSheets}
 
 -- items stand in the sheet where their lines went
@@ -253,6 +256,11 @@ module _ (within : TracksStayWithin) (below : PlacesStayBelow) (stay : FollowedS
       (λ k d there. range_stays (get_or ranges k d) (area_followed id axis count change (get_or ranges k d).area)
       (area_stays_on (get_or ranges k d).area (on k d there)))
 
+  -- the protections
+  protections_stay : (protections : List Protection) → AreProtectionsWithin befores protections
+      → AreProtectionsWithin afters (filter_map (protection_followed id axis count change) protections)
+  protections_stay = all_followed_within id axis count change befores afters area_stays_on
+
   -- a reference that follows is within, and one that is lost is no reference
   reference_stays : (reference : Reference) (area : Option Area) → IfSome area (IsAreaWithin afters)
       → IsPieceWithin afters (option_map_or (λ found. piece.Ref (record reference { area = found })) area piece.Lost)
@@ -414,4 +422,7 @@ changes_stay_sound within below stay before after id axis count change sound fit
   ranges = subst (AreOnSheets after.sheets) (sym changed.ranges)
       (ranges_stay within below stay before.sheets after.sheets id axis count change fits changed.sheets sound.distinct
       long room before.ranges sound.ranges);
+  protections = subst (AreProtectionsWithin after.sheets) (sym changed.protections)
+      (protections_stay within below stay before.sheets after.sheets id axis count change fits changed.sheets
+      sound.distinct long room before.protections sound.protections);
 }

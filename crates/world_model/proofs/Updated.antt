@@ -9,6 +9,7 @@ use Rattle.grid_range.specs.Order.{IsOrder}
 use Rattle.cell_store.specs.Table.{item_at}
 use Rattle.ref_rewrite.specs.declared.cell_content.Content.{Content}
 use Rattle.world_model.specs.Content.{NameContent, content_named}
+use Rattle.world_model.specs.Protections.{protection_named}
 use Rattle.world_model.specs.Ranges.{range_named}
 use Rattle.world_model.specs.Sheet.{NameSheet, PlaceSheet}
 use Rattle.world_model.specs.Area.{area_named}
@@ -47,7 +48,14 @@ none_in id (s ∷ ss) = (
 )
 
 pub none_updated : (book : PlaceBook) (id : ℕ) → BookUpdated id no_updates book book
-none_updated book id = record { id = refl; title = refl; owner = refl; sheets = none_in id book.sheets; ranges = refl }
+none_updated book id = record {
+  id = refl;
+  title = refl;
+  owner = refl;
+  sheets = none_in id book.sheets;
+  ranges = refl;
+  protections = refl;
+}
 
 -- one update more is one write more
 one_more : {A : Type 0} (own is : Bool) (content : A) (update : Option A) (held : A)
@@ -96,6 +104,7 @@ one_updated before between id row col content updates so_far = record {
   owner = so_far.owner;
   sheets = all_in id row col content updates before.sheets between.sheets so_far.sheets;
   ranges = so_far.ranges;
+  protections = so_far.protections;
 }
 
 -- ---- sizes
@@ -186,6 +195,7 @@ same_updated before after id updates updates' sound is same = record {
       found_same id updates updates' before.sheets sheet
       (each_found (λ (one : PlaceSheet). one.id) before.sheets sound.distinct k d there) same) is.sheets;
   ranges = is.ranges;
+  protections = is.protections;
 }
 
 -- ---- by names
@@ -374,4 +384,6 @@ updates_follow before after names id updates stands sound updated = record {
   sheets = sheets_follow names.sheets id updates before.sheets after.sheets names.sheets stands.sheets updated.sheets;
   ranges = stands.ranges ∙ ap (map (range_named (orders_of names.sheets))) (sym updated.ranges)
       ∙ ap (λ orders. map (range_named orders) after.ranges) (sym (same_orders names.sheets id updates));
+  protections = stands.protections ∙ ap (map (protection_named (orders_of names.sheets))) (sym updated.protections)
+      ∙ ap (λ orders. map (protection_named orders) after.protections) (sym (same_orders names.sheets id updates));
 }

@@ -13,6 +13,7 @@ use Rattle.grid_range.specs.Area.{by_rows}
 use Rattle.cell_store.specs.Table.{HasPlace, item_at}
 use Rattle.ref_rewrite.specs.declared.cell_content.Content.{Content}
 use Rattle.world_model.specs.Content.{NameContent, content_named}
+use Rattle.world_model.specs.Protections.{protection_named}
 use Rattle.world_model.specs.Ranges.{range_named}
 use Rattle.world_model.specs.Sheet.{NameSheet, PlaceSheet, lines_of}
 use Rattle.world_model.specs.Area.{area_named}
@@ -245,4 +246,7 @@ writes_follow book names id row col r c content stands within at_row at_col = re
       (own_sheets book.sheets names.sheets stands.sheets stands.sound.distinct);
   ranges = stands.ranges
       ∙ ap (λ orders. map (range_named orders) book.ranges) (sym (same_orders names.sheets id row col r c content));
+  protections = stands.protections
+      ∙ ap (λ orders. map (protection_named orders) book.protections)
+      (sym (same_orders names.sheets id row col r c content));
 }

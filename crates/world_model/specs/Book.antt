@@ -3,17 +3,20 @@ use Rattle.std.specs.Prelude.{ℕ, List, [], Option, ◌==◌}
 use Rattle.std.specs.List.{find}
 use Rattle.std.specs.Option.{option_map_or}
 use Rattle.named_ranges.specs.declared.range.NamedRange.{NamedRange}
+use Rattle.protection.specs.declared.range.Protection.{Protection}
 use Rattle.world_model.specs.Area.{Orders}
+use Rattle.world_model.specs.Protections.{NameProtection}
 use Rattle.world_model.specs.Ranges.{NameRange}
 use Rattle.world_model.specs.Sheet.{NameSheet, PlaceSheet, lines_of}
 
--- the sheets are in their order, and the named ranges in order of creation
+-- the sheets are in their order, the named ranges in order of creation, and the protected ranges in order of id
 pub record NameBook : Type 0 where
   pub id : List ℕ
   pub title : List ℕ
   pub owner : List ℕ
   pub sheets : List NameSheet
   pub ranges : List NameRange
+  pub protections : List NameProtection
 
 pub record PlaceBook : Type 0 where
   pub id : List ℕ
@@ -21,6 +24,7 @@ pub record PlaceBook : Type 0 where
   pub owner : List ℕ
   pub sheets : List PlaceSheet
   pub ranges : List NamedRange
+  pub protections : List Protection
 
 -- the sheet with the id
 abbrev pub sheet_with : ℕ → List NameSheet → Option NameSheet

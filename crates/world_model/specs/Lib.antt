@@ -1,6 +1,7 @@
 pub mod Area
 pub mod Content
 pub mod Ranges
+pub mod Protections
 pub mod Sheet
 pub mod Counts
 pub mod Book
@@ -20,4 +21,6 @@ pub mod MergeLaws
 pub mod Making
 pub mod Laws
 pub mod ChangingLaws
-pub mod Untouched
+pub mod Leaving
+pub mod Protected
+pub mod ProtectionLaws

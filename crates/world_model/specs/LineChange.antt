@@ -1,7 +1,7 @@
 -- What a spreadsheet becomes when lines of a sheet are inserted, deleted or moved, by the names of lines:
 -- insertDimension, deleteDimension and moveDimension of the Google Sheets API v4. Cells keep their names, and the
--- cells of lines that went are gone; each reference to the sheet, each named range of it and each of its merges follows
--- its lines.
+-- cells of lines that went are gone; each reference to the sheet, each named range and each protected range of it, and
+-- each of its merges follows its lines.
 use Rattle.std.specs.Prelude.{ℕ, Bool, false, List, length, map, Option, None, Some, option_and_then, nat_lt, ◌==◌, ◌&&◌, ◌||◌, if◌then◌else◌}
 use Rattle.std.specs.List.{filter_map}
 use Rattle.std.specs.Option.{option_map, option_map_or}
@@ -14,6 +14,7 @@ use Rattle.grid_range.specs.declared.axis.Axis.TheVariants.{Rows, Columns}
 use Rattle.world_model.specs.Area.{NameArea, name_band_on, with_name_band}
 use Rattle.world_model.specs.Book.{NameBook, orders_of}
 use Rattle.world_model.specs.Content.{NameRef, NamePiece, NameContent}
+use Rattle.world_model.specs.Protections.{NameProtection}
 use Rattle.world_model.specs.Ranges.{NameRange}
 use Rattle.world_model.specs.Sheet.{NameSheet}
 
@@ -53,6 +54,16 @@ name_content_followed to (NameContent.Formula pieces) = NameContent.Formula (map
 -- a range follows with its area, and goes with it; its id and its name stay
 abbrev pub name_range_followed : LineChange → NameRange → Option NameRange
 name_range_followed to range = option_map (λ area. record range { area = area }) (name_area_followed to range.area)
+
+-- a protection follows with its area, and goes with it; its open areas follow, too, and those that are lost go
+abbrev pub name_protection_followed : LineChange → NameProtection → Option NameProtection
+name_protection_followed to protection =
+    option_map
+    (λ area. record protection {
+      area = area;
+      unprotected = filter_map (name_area_followed to) protection.unprotected;
+    })
+    (name_area_followed to protection.area)
 
 -- the band is one of more than one line side by side
 abbrev pub has_many_names : NameBand → Bool
@@ -94,11 +105,12 @@ line_change sheets id axis change =
     let order = orders_of sheets id axis in
     record { sheet = id; axis = axis; order = order_after change order; changed = changed_names change order }
 
--- the spreadsheet after the change: its sheets follow, and so do its ranges
+-- the spreadsheet after the change: its sheets follow, and so do its ranges and its protections
 abbrev pub book_changed : ℕ → Axis → OrderChange → NameBook → NameBook
 book_changed id axis change book =
     let to = line_change book.sheets id axis change in
     record book {
       sheets = map (sheet_followed to) book.sheets;
       ranges = filter_map (name_range_followed to) book.ranges;
+      protections = filter_map (name_protection_followed to) book.protections;
     }

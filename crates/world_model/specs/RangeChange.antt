@@ -56,6 +56,7 @@ pub record PlaceWordsRenamed (old new : List ℕ) (before after : PlaceBook) : T
   pub owner : after.owner ≡ before.owner
   pub sheets : AllZip (WordsRenamedIn old new) before.sheets after.sheets
   pub ranges : after.ranges ≡ before.ranges
+  pub protections : after.protections ≡ before.protections
 
 -- the words of some sheets are renamed, and those of others aren't yet
 pub record SomeWordsRenamed (old new : List ℕ) (before after : PlaceBook) : Type 0 where
@@ -64,3 +65,4 @@ pub record SomeWordsRenamed (old new : List ℕ) (before after : PlaceBook) : Ty
   pub owner : after.owner ≡ before.owner
   pub sheets : AllZip (λ one other. (other ≡ one) ⊎ WordsRenamedIn old new one other) before.sheets after.sheets
   pub ranges : after.ranges ≡ before.ranges
+  pub protections : after.protections ≡ before.protections

@@ -2,11 +2,12 @@
 -- merges, which is what a program does: addSheet, deleteSheet, updateSheetProperties, mergeCells and unmergeCells of
 -- the Google Sheets API v4.
 use Rattle.std.specs.Prelude.{◌≡◌, ◌⊎◌, ℕ, Bool, ◌++◌, ◌==◌, List, [], ◌∷◌, map, filter, take, drop, not, if◌then◌else◌}
-use Rattle.std.specs.List.{AllZip}
+use Rattle.std.specs.List.{AllZip, filter_map}
 use Rattle.std.specs.Option.{option_map}
 use Rattle.cell_store.specs.Table.{empty_table, item_at}
 use Rattle.grid_range.specs.declared.area.Area.{Area}
 use Rattle.named_ranges.specs.Following.{ranges_elsewhere}
+use Rattle.protection.specs.Following.{protection_without_sheet}
 use Rattle.ref_rewrite.specs.Following.{piece_without_sheet}
 use Rattle.ref_rewrite.specs.declared.cell_content.Content.{Content}
 use Rattle.ref_rewrite.specs.declared.cell_content.Content.TheVariants as content
@@ -55,13 +56,14 @@ pub record LosesReferences (sheet : ℕ) (before after : PlaceSheet) : Type 0 wh
 abbrev pub other_sheets : ℕ → List PlaceSheet → List PlaceSheet
 other_sheets id sheets = filter (λ sheet. not (sheet.id == id)) sheets
 
--- the other sheets are left, in their order, and so are their named ranges
+-- the other sheets are left, in their order, and so are their named ranges and their protections
 pub record PlaceSheetDeleted (sheet : ℕ) (before after : PlaceBook) : Type 0 where
   pub id : after.id ≡ before.id
   pub title : after.title ≡ before.title
   pub owner : after.owner ≡ before.owner
   pub sheets : AllZip (LosesReferences sheet) (other_sheets sheet before.sheets) after.sheets
   pub ranges : after.ranges ≡ ranges_elsewhere sheet before.ranges
+  pub protections : after.protections ≡ filter_map (protection_without_sheet sheet) before.protections
 
 -- some sheets are without their references to the sheet, which is still there
 pub record SomeLoseReferences (sheet : ℕ) (before after : PlaceBook) : Type 0 where
@@ -70,6 +72,7 @@ pub record SomeLoseReferences (sheet : ℕ) (before after : PlaceBook) : Type 0 
   pub owner : after.owner ≡ before.owner
   pub sheets : AllZip (λ one other. (other ≡ one) ⊎ LosesReferences sheet one other) before.sheets after.sheets
   pub ranges : after.ranges ≡ before.ranges
+  pub protections : after.protections ≡ before.protections
 
 -- ---- a sheet gets another title or mark
 

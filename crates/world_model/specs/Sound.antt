@@ -1,8 +1,8 @@
 -- What always holds of a spreadsheet: it has a visible sheet, no two sheets have one id or one title, a sheet has a
 -- row and a column, its items stand in it, and each reference of a formula is to a sheet that is there, to lines
 -- that this has, and of a form that A1 notation has. Each named range is on a sheet that is there, too, and of lines
--- that this has. The merges of a sheet lie in it, and none overlaps another. The sheets and their places are within the
--- limits.
+-- that this has; so is the area of each protected range, and each range that it leaves unprotected. The merges of a
+-- sheet lie in it, and none overlaps another. The sheets and their places are within the limits.
 use Rattle.std.specs.Prelude.{◌≡◌, ◌≢◌, ◌<◌, ◌≤◌, ℕ, false, List, length, Option, ◌==◌, IsSomeAnd, IfSome, ⊤}
 use Rattle.std.specs.List.{All, AllPairs, find, list_all}
 use Rattle.std.specs.Str.{str_eq_ignore_ascii_case}
@@ -14,6 +14,7 @@ use Rattle.grid_range.specs.declared.band.Band.{Band}
 use Rattle.grid_range.specs.declared.band.Band.TheVariants.{Whole, Span}
 use Rattle.cell_store.specs.Table.{HasItemsInside, item_at}
 use Rattle.merge_ranges.specs.Merges.{AreMerges}
+use Rattle.protection.specs.declared.range.Protection.{Protection}
 use Rattle.ref_rewrite.specs.declared.cell_content.Content.{Content}
 use Rattle.ref_rewrite.specs.declared.cell_content.Content.TheVariants as content
 use Rattle.ref_rewrite.specs.declared.pieces.Piece.{Piece}
@@ -53,6 +54,11 @@ IsContentWithin sheets (content.Formula formula) = All (IsPieceWithin sheets) fo
 IsContentWithin sheets (content.Number number) = ⊤
 IsContentWithin sheets (content.Text text) = ⊤
 IsContentWithin sheets (content.Truth truth) = ⊤
+
+-- the protection's area is on a sheet that is there, and within it, and so is each range that it leaves unprotected
+abbrev pub IsProtectionWithin : List PlaceSheet → Protection → Type 0
+IsProtectionWithin sheets protection =
+    IsOnSheet sheets protection.area × All (IsOnSheet sheets) protection.unprotected
 
 -- the sheet can have these merges: rectangles of more than one cell, none of which overlaps another, by first row, then
 -- by first column; and each is of the sheet, and of lines that this has
@@ -96,3 +102,4 @@ pub record IsSound (book : PlaceBook) : Type 0 where
   pub few_sheets : length book.sheets ≤ most_sheets
   pub few_places : grid_places book.sheets ≤ most_places
   pub ranges : All (λ range. IsOnSheet book.sheets range.area) book.ranges
+  pub protections : All (IsProtectionWithin book.sheets) book.protections

@@ -66,3 +66,4 @@ pub record BookUpdated (sheet : ℕ) (updates : Updates) (before after : PlaceBo
   pub owner : after.owner ≡ before.owner
   pub sheets : AllZip (SheetUpdated sheet updates) before.sheets after.sheets
   pub ranges : after.ranges ≡ before.ranges
+  pub protections : after.protections ≡ before.protections

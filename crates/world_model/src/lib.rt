@@ -5,6 +5,7 @@
 mod changing;
 mod laws;
 mod merges;
+mod protections;
 mod ranges;
 mod sheets;
 mod staying;
@@ -16,6 +17,7 @@ pub use laws::{
     writes_follow, writes_stay_sound,
 };
 pub use merges::merges_are_set;
+pub use protections::{denials_by_name, inserts_keep_protected, protections_are_set};
 pub use ranges::{ranges_added, ranges_changed, ranges_deleted, words_are_renamed};
 pub use sheets::{books_made, sheets_added, sheets_deleted, sheets_hidden, sheets_titled};
-pub use staying::untouched_cells_stay;
+pub use staying::left_cells_stay;

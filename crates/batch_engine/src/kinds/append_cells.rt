@@ -11,7 +11,7 @@ use dimension_ops::{Book, Limit, Rule, RuleOr, append_lines};
 use grid_range::{Area, Axis, Band};
 use sheets_json::Reply;
 use std::alloc::Global;
-use values_api::{row_behind, rows_needed, write_values};
+use values_api::{put_values, row_behind, rows_needed, write_denial};
 use world_model::{changes_in_turn, updates_are_changes};
 
 /// How many rows a sheet can have.
@@ -25,7 +25,7 @@ pub(crate) fn append_cells(
     sheet: u32,
     rows: &Block,
 ) -> Result<Reply, RuleOr>
-    ensures { IsUnlessNoMemory (IsDoneTo (IsAppendCells sheet rows.now book.old) book.old book.new) result }
+    ensures { IsUnlessNoMemory (IsDoneTo (IsAppendCells user.now sheet rows.now book.old) book.old book.new) result }
 {
     changes_in_turn();
     book.stays_sound();
@@ -51,7 +51,7 @@ fn write_from(
     requires there { IsSomeAnd (place_sheet_with sheet book.old.sheets) (λ found. row ≤ found.table.rows) }
     requires some { 0 < rows_needed rows.now }
     ensures { IsSomeAnd (place_sheet_with sheet book.old.sheets) (λ found. IsUnlessNoMemory
-        (IsDoneTo (AreWrittenFrom sheet row rows.now book.old found) book.old book.new) result) }
+        (IsDoneTo (AreWrittenFrom user.now sheet row rows.now book.old found) book.old book.new) result) }
 {
     changes_in_turn();
     updates_are_changes();
@@ -59,8 +59,12 @@ fn write_from(
     let missing = rows_missing(book, sheet, row, rows);
     add_rows(book, sheet, missing)?;
     let area = from_row(sheet, row);
-    write_values(alloc, book, user, &area, true, rows)?;
-    Ok(Reply::Empty)
+    let denied = write_denial(alloc, book, user, &area, true, rows)?;
+    put_values(alloc, book, &area, true, rows)?;
+    match denied {
+        None => Ok(Reply::Empty),
+        Some(id) => Err(RuleOr::Rule(Rule::Protected(id))),
+    }
 }
 
 /// How many of the rows, from the row of the sheet on, are behind its last one.

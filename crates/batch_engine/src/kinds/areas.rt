@@ -38,7 +38,7 @@ fn cut(sheet: &Sheet, area: &Area) -> Result<Area, Rule>
 }
 
 /// Whether the band has a start that isn't below its end.
-fn is_reversed(band: Band) -> bool
+pub(crate) fn is_reversed(band: Band) -> bool
     ensures { result ≡ is_reversed band }
 {
     match band {

@@ -9,11 +9,14 @@ ghost use Rattle.dimension_ops.specs.Rules.{IsUnlessNoMemory};
 ghost use Rattle.sheets_json.specs.declared.spreadsheet.Reply.TheVariants.{Empty};
 ghost use Rattle.batch_engine.specs.Dimensions.{append_broken, delete_broken, insert_broken, move_broken, end_of};
 ghost use Rattle.batch_engine.specs.Dimensions.{dimension_appended, dimension_deleted, dimension_inserted, dimension_moved};
+ghost use Rattle.values_api.specs.Denials.{IsDenial};
+ghost use Rattle.batch_engine.specs.Dimensions.{DeletedCells, MovedCells, lines_area, whole_sheet};
 ghost use Rattle.batch_engine.specs.Members.{IsDoneTo};
 
 use dimension_ops::{Book, Rule, RuleOr, Sheet, change_sheet, insert_lines};
-use grid_range::{Axis, Change};
+use grid_range::{Area, Axis, Band, Change};
 use sheets_json::{DimensionRange, Reply};
+use values_api::area_denial;
 
 /// Inserts the lines of the range; `inherits` tells whether they are to be like the line before them.
 pub(crate) fn insert_dimension(
@@ -220,5 +223,63 @@ fn change(book: &mut Book, sheet: u32, axis: Axis, change: &Change) -> Result<Re
     match change_sheet(book, sheet, axis, change) {
         Ok(()) => Ok(Reply::Empty),
         Err(fault) => Err(fault),
+    }
+}
+
+/// The least id of a protected range that denies the user a cell of the lines that are deleted; None where none does.
+pub(crate) fn deleted_denial(book: &Book, user: &str, range: DimensionRange) -> Option<u32>
+    ensures { IsDenial user.now book.now (DeletedCells range book.now.sheets) result }
+{
+    area_denial(book, user, &lines_area(book, range))
+}
+
+/// The same of lines that are moved before the line `to`; where they stay there none is denied.
+pub(crate) fn moved_denial(book: &Book, user: &str, range: DimensionRange, to: u32) -> Option<u32>
+    ensures { IsDenial user.now book.now (MovedCells range to book.now.sheets) result }
+{
+    if range.start_index <= to && to <= end_of(book, range) {
+        return None;
+    }
+    area_denial(book, user, &lines_area(book, range))
+}
+
+/// The lines of a range.
+fn lines_area(book: &Book, range: DimensionRange) -> Area
+    ensures { result ≡ lines_area range book.now.sheets }
+{
+    let lines = Band::Span(range.start_index, end_of(book, range));
+    match range.dimension {
+        Axis::Rows => Area {
+            rows: lines,
+            ..whole_sheet(range.sheet_id)
+        },
+        Axis::Columns => Area {
+            cols: lines,
+            ..whole_sheet(range.sheet_id)
+        },
+    }
+}
+
+/// The line behind the last one of a range; without it the range goes to the sheet's end.
+fn end_of(book: &Book, range: DimensionRange) -> u32
+    ensures { result ≡ end_of range book.now.sheets }
+{
+    match range.end_index {
+        Some(end) => end,
+        None => match book.sheet(range.sheet_id) {
+            Some(sheet) => lines_of(sheet, range.dimension),
+            None => 0,
+        },
+    }
+}
+
+/// All cells of a sheet.
+pub(crate) fn whole_sheet(sheet: u32) -> Area
+    ensures { result ≡ whole_sheet sheet }
+{
+    Area {
+        sheet,
+        rows: Band::Whole,
+        cols: Band::Whole,
     }
 }

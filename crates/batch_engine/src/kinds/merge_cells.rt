@@ -1,4 +1,4 @@
-ghost use Rattle.std.specs.Prelude.{◌≡◌, ◌<◌, if◌then◌else◌, length, IfErr, OnOk};
+ghost use Rattle.std.specs.Prelude.{◌≡◌, ◌<◌, if◌then◌else◌, length, OnOk};
 ghost use Rattle.grid_range.specs.Area.{AreaWithin};
 ghost use Rattle.grid_range.specs.Band.{Within};
 ghost use Rattle.merge_ranges.specs.Merges.{HasEnds, IsRectangle};
@@ -21,7 +21,7 @@ use dimension_ops::{Book, Limit, RuleOr, Sheet};
 use grid_range::{Area, Axis, Band};
 use merge_ranges::{has_many_cells, has_many_lines, line_count};
 use sheets_json::{MergeType, Reply};
-use values_api::clear_values;
+use values_api::empty_area;
 use world_model::{changes_in_turn, updates_are_changes, updates_are_writes, updates_follow};
 
 /// How many merges a sheet can have.
@@ -31,25 +31,19 @@ const MOST_MERGES: u64 = 10_000;
 /// those that become one keeps its content.
 pub(crate) fn merge_cells(
     book: &mut Book,
-    user: &str,
     range: &Area,
     merge_type: MergeType,
 ) -> Result<Reply, RuleOr>
     ensures { IsUnlessNoMemory (IsDoneTo (IsMergeCells range.now merge_type book.old) book.old book.new) result }
 {
     match area_on(book, range) {
-        Ok(area) => merge_on(book, user, &area, merge_type),
+        Ok(area) => merge_on(book, &area, merge_type),
         Err(rule) => Err(RuleOr::Rule(rule)),
     }
 }
 
 /// Merges the cells of the area, as it stands on its sheet.
-fn merge_on(
-    book: &mut Book,
-    user: &str,
-    area: &Area,
-    merge_type: MergeType,
-) -> Result<Reply, RuleOr>
+fn merge_on(book: &mut Book, area: &Area, merge_type: MergeType) -> Result<Reply, RuleOr>
     requires { IsThere book.old.sheets area.now }
     ensures { IsUnlessNoMemory (IsDoneTo (AreMergedOn merge_type book.old area.now) book.old book.new) result }
 {
@@ -60,7 +54,7 @@ fn merge_on(
     if let Some(rule) = first_broken(sheet, &area, past) {
         return Err(RuleOr::Rule(rule));
     }
-    merge(book, user, &area, merge_type)?;
+    merge(book, &area, merge_type)?;
     Ok(Reply::Empty)
 }
 
@@ -130,17 +124,16 @@ fn merged_lines(lines: Band, across: Band) -> u64
 }
 
 /// Merges the cells of the area, which cuts no merge of its sheet.
-fn merge(book: &mut Book, user: &str, area: &Area, merge_type: MergeType) -> Result<(), RuleOr>
+fn merge(book: &mut Book, area: &Area, merge_type: MergeType) -> Result<(), NoMemory>
     requires there { IsThere book.old.sheets area.now }
     requires ends { IsRectangle area.now }
     requires uncut { ¬ (CutsOne area.now book.old.sheets) }
-    ensures made { OnOk result (AreMergesMade area.now.sheet (IsMergeAfter merge_type area.now)
+    ensures { OnOk result (AreMergesMade area.now.sheet (IsMergeAfter merge_type area.now)
         (covered_emptied merge_type area.now) book.old book.new) }
-    ensures refused { IfErr result (λ fault. fault ≡ RuleOr.NoMemory) }
 {
     changes_in_turn();
     make(book, area, merge_type)?;
-    empty_covered(book, user, area, merge_type)?;
+    empty_covered(book, area, merge_type)?;
     Ok(())
 }
 
@@ -160,58 +153,45 @@ fn make(book: &mut Book, area: &Area, merge_type: MergeType) -> Result<(), NoMem
 }
 
 /// Empties the cells that the merged parts of the area cover.
-fn empty_covered(
-    book: &mut Book,
-    user: &str,
-    area: &Area,
-    merge_type: MergeType,
-) -> Result<(), RuleOr>
+fn empty_covered(book: &mut Book, area: &Area, merge_type: MergeType) -> Result<(), NoMemory>
     requires there { IsThere book.old.sheets area.now }
     requires ends { IsRectangle area.now }
-    ensures emptied { OnOk result (AreChanges (covered_emptied merge_type area.now) book.old book.new) }
-    ensures refused { IfErr result (λ fault. fault ≡ RuleOr.NoMemory) }
+    ensures { OnOk result (AreChanges (covered_emptied merge_type area.now) book.old book.new) }
 {
     updates_follow();
     updates_are_changes();
-    clear_covered(book, user, area, merge_type)?;
+    clear_covered(book, area, merge_type)?;
     book.stays_sound();
     Ok(())
 }
 
 /// Clears the cells that the merged parts of the area cover.
-fn clear_covered(
-    book: &mut Book,
-    user: &str,
-    area: &Area,
-    merge_type: MergeType,
-) -> Result<(), RuleOr>
+fn clear_covered(book: &mut Book, area: &Area, merge_type: MergeType) -> Result<(), NoMemory>
     requires there { IsThere book.old.sheets area.now }
     requires ends { IsRectangle area.now }
-    ensures cleared { OnOk result (BookUpdated area.now.sheet (covered_cleared merge_type area.now)
+    ensures { OnOk result (BookUpdated area.now.sheet (covered_cleared merge_type area.now)
         book.old book.new) }
-    ensures refused { IfErr result (λ fault. fault ≡ RuleOr.NoMemory) }
 {
     match merge_type {
         MergeType::All => {
-            clear_behind(book, user, area, Axis::Rows)?;
-            clear_behind(book, user, area, Axis::Columns)
+            clear_behind(book, area, Axis::Rows)?;
+            clear_behind(book, area, Axis::Columns)
         }
-        MergeType::Columns => clear_behind(book, user, area, Axis::Rows),
-        MergeType::Rows => clear_behind(book, user, area, Axis::Columns),
+        MergeType::Columns => clear_behind(book, area, Axis::Rows),
+        MergeType::Rows => clear_behind(book, area, Axis::Columns),
     }
 }
 
 /// Clears the lines of the area on the axis behind its first one.
-fn clear_behind(book: &mut Book, user: &str, area: &Area, axis: Axis) -> Result<(), RuleOr>
+fn clear_behind(book: &mut Book, area: &Area, axis: Axis) -> Result<(), NoMemory>
     requires there { IsThere book.old.sheets area.now }
     requires ends { IsRectangle area.now }
     ensures cleared { OnOk result (BookUpdated area.now.sheet (behind_cleared axis area.now) book.old book.new) }
     ensures there { OnOk result (IsThere book.new.sheets area.now) }
-    ensures refused { IfErr result (λ fault. fault ≡ RuleOr.NoMemory) }
 {
     updates_are_writes();
     match behind_first(area, axis) {
-        Some(rest) => clear_values(book, user, &rest),
+        Some(rest) => empty_area(book, &rest),
         None => Ok(()),
     }
 }

@@ -1,24 +1,24 @@
-ghost use Rattle.std.specs.Prelude.{◌≡◌, [], true, false};
+ghost use Rattle.std.specs.Prelude.{◌≡◌, [], true, false, IfOk};
 ghost use Rattle.dimension_ops.specs.Rules.{IsUnlessNoMemory};
 ghost use Rattle.values_api.specs.Ranges.{IsThere};
 ghost use Rattle.batch_engine.specs.Members.{IsDoneTo};
 ghost use Rattle.batch_engine.specs.Rows.{AreRowsWritten};
-ghost use Rattle.batch_engine.specs.UpdateCells.{IsUpdateCells, area_emptied, area_from};
+ghost use Rattle.batch_engine.specs.UpdateCells.{IsUpdateCells, UpdatedCells, area_from, rest_emptied};
+ghost use Rattle.values_api.specs.Denials.{IsDenial};
 
 use crate::kinds::areas::area_on;
-use cell_value::Block;
+use cell_value::{Block, NoMemory};
 use dimension_ops::{Book, RuleOr};
 use grid_range::{Area, Band};
 use sheets_json::{GridCoordinate, Reply, UpdatedArea};
 use std::alloc::Global;
-use values_api::{clear_values, write_values};
+use values_api::{empty_rest, fill_denial, put_values, write_denial};
 use world_model::{changes_in_turn, updates_are_changes};
 
 /// Writes rows from a cell on, or to an area whose other cells are emptied.
 pub(crate) fn update_cells(
     alloc: Global,
     book: &mut Book,
-    user: &str,
     rows: &Block,
     area: UpdatedArea,
 ) -> Result<Reply, RuleOr>
@@ -26,11 +26,11 @@ pub(crate) fn update_cells(
 {
     match area {
         UpdatedArea::Start(cell) => match area_on(book, &area_from(cell)) {
-            Ok(area) => write_from(alloc, book, user, &area, rows),
+            Ok(area) => write_from(alloc, book, &area, rows),
             Err(rule) => Err(RuleOr::Rule(rule)),
         },
         UpdatedArea::Range(range) => match area_on(book, &range) {
-            Ok(area) => fill(alloc, book, user, &area, rows),
+            Ok(area) => fill(alloc, book, &area, rows),
             Err(rule) => Err(RuleOr::Rule(rule)),
         },
     }
@@ -48,37 +48,47 @@ fn area_from(cell: GridCoordinate) -> Area
 }
 
 /// Writes rows from the area's first cell on, as far as they reach.
-fn write_from(
-    alloc: Global,
-    book: &mut Book,
-    user: &str,
-    area: &Area,
-    rows: &Block,
-) -> Result<Reply, RuleOr>
+fn write_from(alloc: Global, book: &mut Book, area: &Area, rows: &Block) -> Result<Reply, RuleOr>
     requires { IsThere book.old.sheets area.now }
     ensures { IsUnlessNoMemory (IsDoneTo (AreRowsWritten [] rows.now true book.old area.now) book.old book.new) result }
 {
     changes_in_turn();
     updates_are_changes();
-    write_values(alloc, book, user, area, true, rows)?;
+    put_values(alloc, book, area, true, rows)?;
     Ok(Reply::Empty)
 }
 
 /// Writes rows to the area, and empties those of its cells that they don't reach.
-fn fill(
-    alloc: Global,
-    book: &mut Book,
-    user: &str,
-    area: &Area,
-    rows: &Block,
-) -> Result<Reply, RuleOr>
+fn fill(alloc: Global, book: &mut Book, area: &Area, rows: &Block) -> Result<Reply, RuleOr>
     requires { IsThere book.old.sheets area.now }
-    ensures { IsUnlessNoMemory (IsDoneTo (AreRowsWritten (area_emptied area.now) rows.now false book.old area.now)
+    ensures { IsUnlessNoMemory (IsDoneTo (AreRowsWritten (rest_emptied area.now rows.now) rows.now false book.old area.now)
         book.old book.new) result }
 {
     changes_in_turn();
     updates_are_changes();
-    clear_values(book, user, area)?;
-    write_values(alloc, book, user, area, false, rows)?;
+    empty_rest(book, area, rows)?;
+    put_values(alloc, book, area, false, rows)?;
     Ok(Reply::Empty)
+}
+
+/// The least id of a protected range that denies the user a cell that is written or emptied; None where none does.
+pub(crate) fn updated_denial(
+    alloc: Global,
+    book: &Book,
+    user: &str,
+    rows: &Block,
+    area: UpdatedArea,
+) -> Result<Option<u32>, NoMemory>
+    ensures { IfOk result (IsDenial user.now book.now (UpdatedCells rows.now area book.now.sheets)) }
+{
+    match area {
+        UpdatedArea::Start(cell) => match area_on(book, &area_from(cell)) {
+            Ok(area) => write_denial(alloc, book, user, &area, true, rows),
+            Err(_) => Ok(None),
+        },
+        UpdatedArea::Range(range) => match area_on(book, &range) {
+            Ok(area) => fill_denial(alloc, book, user, &area, rows),
+            Err(_) => Ok(None),
+        },
+    }
 }

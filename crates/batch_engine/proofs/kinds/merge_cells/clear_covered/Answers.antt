@@ -9,8 +9,8 @@ use Rattle.batch_engine.proofs.MergesMade.{on_ok_so}
 use Rattle.batch_engine.proofs.UpdatesJoined.{updated_both}
 use Rattle.batch_engine.proofs.kinds.merge_cells.clear_covered.Goals as goal
 
-pub returns-in_ok-clear_behind-in-All-clause-cleared : goal.returns-in_ok-clear_behind-in-All-clause-cleared
-returns-in_ok-clear_behind-in-All-clause-cleared c =
+pub returns-in_ok-clear_behind-in-All : goal.returns-in_ok-clear_behind-in-All
+returns-in_ok-clear_behind-in-All c =
     let area : Area = c.args.area.now in
     on_ok_so c.clear_behind-in-All.result c.clear_behind-in-All.ensures.cleared
     (λ later. subst (λ (updates : Updates). BookUpdated area.sheet updates c.args.book.now c.clear_behind-in-All.new.book)
@@ -19,15 +19,15 @@ returns-in_ok-clear_behind-in-All-clause-cleared c =
     (covered_cleared merge.All area) (whole_emptied area c.requires.ends) c.args.book.now c.clear_behind.new.book
     c.clear_behind-in-All.new.book c.in_ok-clear_behind-in-All.ensures.cleared later))
 
-pub returns-in-Columns-clause-cleared : goal.returns-in-Columns-clause-cleared
-returns-in-Columns-clause-cleared c =
+pub returns-in-Columns : goal.returns-in-Columns
+returns-in-Columns c =
     let area : Area = c.args.area.now in
     on_ok_so c.clear_behind-in-Columns.result c.clear_behind-in-Columns.ensures.cleared
     (subst (λ (updates : Updates). BookUpdated area.sheet updates c.args.book.now c.clear_behind-in-Columns.new.book)
     (sym (ap (λ type. covered_cleared type area) c.in-Columns.is ∙ columns_emptied area c.requires.ends)))
 
-pub returns-in-Rows-clause-cleared : goal.returns-in-Rows-clause-cleared
-returns-in-Rows-clause-cleared c =
+pub returns-in-Rows : goal.returns-in-Rows
+returns-in-Rows c =
     let area : Area = c.args.area.now in
     on_ok_so c.clear_behind-in-Rows.result c.clear_behind-in-Rows.ensures.cleared
     (subst (λ (updates : Updates). BookUpdated area.sheet updates c.args.book.now c.clear_behind-in-Rows.new.book)

@@ -1,10 +1,10 @@
 use Rattle.batch_engine.specs.MergeCells.{covered_cleared}
 use Rattle.batch_engine.proofs.kinds.merge_cells.empty_covered.Goals as goal
 
-pub returns-clause-emptied : goal.returns-clause-emptied
-returns-clause-emptied c =
+pub returns : goal.returns
+returns c =
     let updates = covered_cleared c.args.merge_type c.args.area.now in
-    let cleared = c.in_ok-clear_covered.ensures.cleared in
+    let cleared = c.in_ok-clear_covered.ensures in
     c.updates_are_changes.ensures.changes c.args.book.now c.clear_covered.new.book c.args.area.now.sheet updates
     cleared.id
     (λ names stands. c.updates_follow.ensures.follows c.args.book.now c.clear_covered.new.book names

@@ -3,13 +3,13 @@ use Rattle.world_model.specs.BookChange.{BookChange}
 use Rattle.batch_engine.specs.MergeCells.{covered_emptied}
 use Rattle.batch_engine.proofs.kinds.merge_cells.merge.Goals as goal
 
-pub returns-clause-made : goal.returns-clause-made
-returns-clause-made c =
+pub returns : goal.returns
+returns c =
     let become = c.in_ok-make.ensures in
     let set : List BookChange = BookChange.MergesSet c.args.area.now.sheet become.merges ∷ [] in
     record {
       merges = become.merges;
       just = become.just;
       changes = c.changes_in_turn.ensures.both set (covered_emptied c.args.merge_type c.args.area.now) c.args.book.now
-          c.make.new.book c.empty_covered.new.book become.names c.in_ok-empty_covered.ensures.emptied;
+          c.make.new.book c.empty_covered.new.book become.names c.in_ok-empty_covered.ensures;
     }

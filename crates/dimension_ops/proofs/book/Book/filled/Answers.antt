@@ -23,6 +23,7 @@ overflow_add-filled c =
       owner = c.self.inside.owner;
       sheets = map arc_value c.self.inside.sheets.items;
       ranges = c.self.inside.names;
+      protections = c.self.inside.protections;
     })
     c.self.invariant.0) c.self.invariant.0.few_places) in
     omega (arith, within, few)

@@ -18,10 +18,10 @@ sheets_after c =
     ∙ ap (insert (map arc_value c.self.inside.sheets.items) c.args.at) c.in_ok-shared.ensures
 
 book_after : (c : After-drop-self-inside)
-    → as_book c.self.inside.id c.self.inside.title c.self.inside.owner c.self.inside.names (map arc_value c.insert.new.self.items)
+    → as_book c.self.inside.id c.self.inside.title c.self.inside.owner c.self.inside.names c.self.inside.protections (map arc_value c.insert.new.self.items)
     ≡ place_sheet_added c.args.at c.args.sheet c.args.self.now
 book_after c =
-    ap (as_book c.self.inside.id c.self.inside.title c.self.inside.owner c.self.inside.names) (sheets_after c)
+    ap (as_book c.self.inside.id c.self.inside.title c.self.inside.owner c.self.inside.names c.self.inside.protections) (sheets_after c)
     ∙ ap (place_sheet_added c.args.at c.args.sheet) c.self.view_is
 
 pub invariant_of-self-2 : goal.invariant_of-self-2
@@ -33,7 +33,6 @@ invariant_of-self-2 c = (
       ∙ sym (map-insert (λ (sheet : PlaceSheet). sheet.id) (map arc_value c.self.inside.sheets.items) c.args.at c.args.sheet)
       ∙ sym (ap (map (λ (sheet : PlaceSheet). sheet.id)) (sheets_after c)),
   c.self.invariant.2,
-  c.self.invariant.3,
 )
 
 pub returns-clause-added : goal.returns-clause-added

@@ -5,7 +5,7 @@ use Rattle.world_model.specs.Book.{PlaceBook}
 use Rattle.world_model.specs.Sound.{most_places, place_sheet_with}
 use Rattle.dimension_ops.specs.Lines.{lines_of_sheet, places_changed}
 use Rattle.dimension_ops.specs.References.{TearsNone}
-use Rattle.dimension_ops.proofs.Changed.{all_can, has_places, same_ids}
+use Rattle.dimension_ops.proofs.Changed.{all_can, has_places, protections_within, same_ids}
 use Rattle.dimension_ops.proofs.Marking.{as_book}
 use Rattle.dimension_ops.proofs.book.Book.lines_changed.Goals as goal
 
@@ -20,11 +20,20 @@ sheets_changed-requires-clause-ready c =
     (λ sheet. TearsNone c.args.by.now.axis c.args.by.now.count c.args.by.now.change.now sheet.merges))
     (sym c.self.view_is) c.requires.untorn)
 
+pub change-requires-2-clause-within : goal.change-requires-2-clause-within
+change-requires-2-clause-within c =
+    protections_within c.args.by.now.sheet c.args.by.now.axis c.args.by.now.count c.args.by.now.change.now
+    (map arc_value c.self.inside.sheets.items)
+    (subst (λ (book : PlaceBook). IsSomeAnd (place_sheet_with c.args.by.now.sheet book.sheets)
+    (λ sheet. lines_of_sheet c.args.by.now.axis sheet ≡ c.args.by.now.count)) (sym c.self.view_is) c.requires.long)
+    c.self.inside.protections c.self.invariant.0.protections
+
 pub invariant_of-result : goal.invariant_of-result
 invariant_of-result c =
-    let before = as_book c.self.inside.id c.self.inside.title c.self.inside.owner c.self.inside.names
+    let before = as_book c.self.inside.id c.self.inside.title c.self.inside.owner c.self.inside.names c.self.inside.protections
     (map arc_value c.self.inside.sheets.items) in
     let after = as_book c.self.inside.id c.self.inside.title c.self.inside.owner c.change.new.self
+    c.change-2.new.self
     (map arc_value c.in_ok-sheets.sheets.items) in (
       c.changes_stay_sound.ensures.stays before after c.args.by.now.sheet c.args.by.now.axis c.args.by.now.count
           c.args.by.now.change.now c.self.invariant.0 c.requires.fits c.requires.room
@@ -36,6 +45,7 @@ invariant_of-result c =
             owner = refl;
             sheets = c.in_ok-sheets.ensures;
             ranges = c.change.ensures.followed;
+            protections = c.change-2.ensures.followed;
           })
           (subst (λ n. n ≤ most_places)
           (sym (has_places c.args.by.now.sheet c.args.by.now.axis c.args.by.now.count c.args.by.now.change.now before.sheets
@@ -45,5 +55,4 @@ invariant_of-result c =
       c.self.invariant.1 ∙ same_ids c.args.by.now.sheet c.args.by.now.axis c.args.by.now.count c.args.by.now.change.now
           before.sheets after.sheets c.in_ok-sheets.ensures,
       c.self.invariant.2,
-      c.self.invariant.3,
     )

@@ -58,7 +58,7 @@ put_shared-requires c =
           c.index_mut.ensures.value at.there);
       room = room_at (map arc_value c.self.inside.sheets.items) c.in-Some.place (arc_value c.index_mut.result.now)
           (le_trans (c.filled_within_places.ensures.book
-          (as_book c.self.inside.id c.self.inside.title c.self.inside.owner c.self.inside.names (map arc_value c.self.inside.sheets.items))
+          (as_book c.self.inside.id c.self.inside.title c.self.inside.owner c.self.inside.names c.self.inside.protections (map arc_value c.self.inside.sheets.items))
           c.self.invariant.0) c.self.invariant.0.few_places)
           at.there
           (seen_stands arc_value c.self.inside.sheets.items c.in-Some.place c.index_mut.result.now c.index_mut.result.now
@@ -75,10 +75,10 @@ written c = seen_written arc_value c.self.inside.sheets.items c.in-Some.place c.
 
 pub invariant_of-self : goal.invariant_of-self
 invariant_of-self c = (
-  subst (λ sheets. IsSound (as_book c.self.inside.id c.self.inside.title c.self.inside.owner c.self.inside.names sheets))
+  subst (λ sheets. IsSound (as_book c.self.inside.id c.self.inside.title c.self.inside.owner c.self.inside.names c.self.inside.protections sheets))
       (sym (written c))
       (c.writes_stay_sound.ensures.stays
-      (as_book c.self.inside.id c.self.inside.title c.self.inside.owner c.self.inside.names
+      (as_book c.self.inside.id c.self.inside.title c.self.inside.owner c.self.inside.names c.self.inside.protections
       (map arc_value c.self.inside.sheets.items))
       c.args.sheet c.args.row c.args.column c.args.content c.self.invariant.0
       (subst (λ (book : PlaceBook). IfSome c.args.content (IsContentWithin book.sheets)) (sym c.self.view_is) c.requires.within)
@@ -88,7 +88,6 @@ invariant_of-self c = (
   seen_ids arc_value c.self.inside.sheets.items c.in-Some.place c.index_mut.result.now c.put_shared.new.sheet
       c.index_mut.ensures.value c.args.sheet c.args.row c.args.column c.args.content c.self.inside.ids (written c) c.self.invariant.1,
   c.self.invariant.2,
-  c.self.invariant.3,
 )
 
 -- the sheets as they were
@@ -99,19 +98,18 @@ kept c = seen_kept arc_value c.self.inside.sheets.items c.in-Some.place c.index_
 
 pub invariant_of-self-in_err-put_shared : goal.invariant_of-self-in_err-put_shared
 invariant_of-self-in_err-put_shared c = (
-  subst (λ sheets. IsSound (as_book c.self.inside.id c.self.inside.title c.self.inside.owner c.self.inside.names sheets))
+  subst (λ sheets. IsSound (as_book c.self.inside.id c.self.inside.title c.self.inside.owner c.self.inside.names c.self.inside.protections sheets))
       (sym (kept c)) c.self.invariant.0,
   c.self.invariant.1 ∙ sym (ap (map (λ (sheet : PlaceSheet). sheet.id)) (kept c)),
   c.self.invariant.2,
-  c.self.invariant.3,
 )
 
 pub returns-in_err-put_shared-clause-unchanged : goal.returns-in_err-put_shared-clause-unchanged
 returns-in_err-put_shared-clause-unchanged c =
-    let same : as_book c.self.inside.id c.self.inside.title c.self.inside.owner c.self.inside.names
+    let same : as_book c.self.inside.id c.self.inside.title c.self.inside.owner c.self.inside.names c.self.inside.protections
     (map arc_value (set c.self.inside.sheets.items c.in-Some.place c.put_shared.new.sheet)) ≡ c.args.self.now =
-    ap (as_book c.self.inside.id c.self.inside.title c.self.inside.owner c.self.inside.names) (kept c) ∙ c.self.view_is in
-    elim c.from_residual.result as (λ r. OnErr r (as_book c.self.inside.id c.self.inside.title c.self.inside.owner c.self.inside.names
+    ap (as_book c.self.inside.id c.self.inside.title c.self.inside.owner c.self.inside.names c.self.inside.protections) (kept c) ∙ c.self.view_is in
+    elim c.from_residual.result as (λ r. OnErr r (as_book c.self.inside.id c.self.inside.title c.self.inside.owner c.self.inside.names c.self.inside.protections
     (map arc_value (set c.self.inside.sheets.items c.in-Some.place c.put_shared.new.sheet)) ≡ c.args.self.now)) [
       | Ok u ↦ tt
       | Err e ↦ same
@@ -119,14 +117,14 @@ returns-in_err-put_shared-clause-unchanged c =
 
 pub returns-in_ok-put_shared-clause-put : goal.returns-in_ok-put_shared-clause-put
 returns-in_ok-put_shared-clause-put c =
-    ap (as_book c.self.inside.id c.self.inside.title c.self.inside.owner c.self.inside.names) (written c)
+    ap (as_book c.self.inside.id c.self.inside.title c.self.inside.owner c.self.inside.names c.self.inside.protections) (written c)
     ∙ ap (book_put c.args.sheet c.args.row c.args.column c.args.content) c.self.view_is
 
 pub returns-in_ok-put_shared-clause-names : goal.returns-in_ok-put_shared-clause-names
 returns-in_ok-put_shared-clause-names c = record {
   written = λ names r c' stands at_row at_col.
       subst (λ (book : PlaceBook). BookStandsFor book (book_written c.args.sheet r c' (option_map (content_named (orders_of names.sheets)) c.args.content) names))
-      (sym (ap (as_book c.self.inside.id c.self.inside.title c.self.inside.owner c.self.inside.names) (written c)
+      (sym (ap (as_book c.self.inside.id c.self.inside.title c.self.inside.owner c.self.inside.names c.self.inside.protections) (written c)
       ∙ ap (book_put c.args.sheet c.args.row c.args.column c.args.content) c.self.view_is))
       (c.writes_follow.ensures.follows c.args.self.now names c.args.sheet c.args.row c.args.column r c' c.args.content
       stands c.requires.within at_row at_col);

@@ -15,8 +15,8 @@ invariant_of-result c =
     let before = map arc_value c.self.inside.sheets.items in
     let left = map arc_value c.in_ok-sheets.sheets.items in (
       c.sheets_deleted.ensures.stays
-          (as_book c.self.inside.id c.self.inside.title c.self.inside.owner c.self.inside.names before)
-          (as_book c.self.inside.id c.self.inside.title c.self.inside.owner c.lose_sheet.new.self left)
+          (as_book c.self.inside.id c.self.inside.title c.self.inside.owner c.self.inside.names c.self.inside.protections before)
+          (as_book c.self.inside.id c.self.inside.title c.self.inside.owner c.lose_sheet.new.self c.lose_sheet-2.new.self left)
           c.args.sheet c.self.invariant.0
           (marks_left c.args.sheet (other_sheets c.args.sheet before) left c.in_ok-sheets.ensures
           ∙ subst (λ (book : PlaceBook). list_all (λ (sheet : PlaceSheet). sheet.hidden)
@@ -27,6 +27,7 @@ invariant_of-result c =
             owner = refl;
             sheets = c.in_ok-sheets.ensures;
             ranges = c.lose_sheet.ensures;
+            protections = c.lose_sheet-2.ensures;
           }),
       c.of.ensures
           ∙ filter_same _ (λ id. not (id == c.args.sheet)) _ (λ x b f' k. (search (rules, tests), search (rules, tests))) _ _
@@ -35,5 +36,4 @@ invariant_of-result c =
           ∙ other_ids c.args.sheet before
           ∙ sym (ids_left c.args.sheet (other_sheets c.args.sheet before) left c.in_ok-sheets.ensures),
       c.self.invariant.2,
-      c.self.invariant.3,
     )

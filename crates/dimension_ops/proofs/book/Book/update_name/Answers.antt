@@ -8,11 +8,10 @@ use Rattle.dimension_ops.proofs.book.Book.update_name.Goals as goal
 
 pub invariant_of-self : goal.invariant_of-self
 invariant_of-self c = (
-  after_updating c.self.inside.id c.self.inside.title c.self.inside.owner (map arc_value c.self.inside.sheets.items)
+  after_updating c.self.inside.id c.self.inside.title c.self.inside.owner c.self.inside.protections (map arc_value c.self.inside.sheets.items)
       c.self.inside.names c.update.new.self c.self.invariant.0 c.args.id.now c.args.name c.args.area
       (subst (λ (book : PlaceBook). IfSome c.args.area (IsOnSheet book.sheets)) (sym c.self.view_is) c.requires.there)
       c.update.result c.update.ensures.updated c.update.ensures.unchanged,
   c.self.invariant.1,
   c.self.invariant.2,
-  c.self.invariant.3,
 )

@@ -9,11 +9,10 @@ invariant_of-result c =
     let before = map arc_value c.self.inside.sheets.items in
     let renamed = map arc_value c.in_ok-sheets.sheets.items in (
       c.words_are_renamed.ensures.stays
-          (as_book c.self.inside.id c.self.inside.title c.self.inside.owner c.self.inside.names before)
-          (as_book c.self.inside.id c.self.inside.title c.self.inside.owner c.self.inside.names renamed)
+          (as_book c.self.inside.id c.self.inside.title c.self.inside.owner c.self.inside.names c.self.inside.protections before)
+          (as_book c.self.inside.id c.self.inside.title c.self.inside.owner c.self.inside.names c.self.inside.protections renamed)
           c.args.old.now c.args.new.now c.self.invariant.0
-          (record { id = refl; title = refl; owner = refl; sheets = c.in_ok-sheets.ensures; ranges = refl }),
+          (record { id = refl; title = refl; owner = refl; sheets = c.in_ok-sheets.ensures; ranges = refl; protections = refl }),
       c.self.invariant.1 ∙ ids_stay c.args.old.now c.args.new.now before renamed c.in_ok-sheets.ensures,
       c.self.invariant.2,
-      c.self.invariant.3,
     )

@@ -3,22 +3,20 @@ use Rattle.std.proofs.lemmas.Bool.{false≢true}
 use Rattle.std.proofs.lemmas.List.{take_all}
 use Rattle.std.proofs.lemmas.List.Elements.{All-more, All-same}
 use Rattle.protection.specs.declared.range.Protection.{Protection}
-use Rattle.protection.specs.Denial.{DeniesSome, IsFirstDenial}
+use Rattle.protection.specs.Denial.{DeniesSome, IsFirst}
 use Rattle.protection.specs.Listed.{IsInOrder}
-use Rattle.protection.proofs.Ordered.{IsFirstDenial-at}
+use Rattle.protection.proofs.Ordered.{IsFirst-at}
 use Rattle.protection.proofs.list.Protections.first_denial.Goals as goal
 
 pub returns-then-denies_some-clause-denied : goal.returns-then-denies_some-clause-denied
 returns-then-denies_some-clause-denied c =
     subst
-    (λ (one : Protection). IsFirstDenial c.args.user.now c.args.owner.now c.args.area.now c.args.rows
-    c.args.cols c.args.self.now one.id)
+    (λ (one : Protection). IsFirst (DeniesSome c.args.user.now c.args.owner.now c.args.area.now c.args.rows c.args.cols) c.args.self.now one.id)
     (sym c.get.ensures)
     (subst
-    (λ (list : List Protection). IsFirstDenial c.args.user.now c.args.owner.now c.args.area.now c.args.rows
-    c.args.cols list c.protection-item.result.id)
+    (λ (list : List Protection). IsFirst (DeniesSome c.args.user.now c.args.owner.now c.args.area.now c.args.rows c.args.cols) list c.protection-item.result.id)
     (c.deref-protection-items.ensures.value ∙ c.self.view_is)
-    (IsFirstDenial-at _ _ _ _ _ _ _ _
+    (IsFirst-at (DeniesSome c.args.user.now c.args.owner.now c.args.area.now c.args.rows c.args.cols) _ _ _
     (subst (λ (list : List Protection). IsInOrder list) (sym c.deref-protection-items.ensures.value) c.self.invariant)
     c.loop-protection-test.true c.protection-item.is c.loop-protection.invariant
     (c.denies_some.ensures.0 c.if-denies_some.true)))
