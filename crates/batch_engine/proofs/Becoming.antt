@@ -90,6 +90,7 @@ one_grows named (BookChange.RangeChanged range) = omega arith
 one_grows named (BookChange.RangeDeleted id) = omega arith
 one_grows named (BookChange.WordsRenamed old new) = omega arith
 one_grows named (BookChange.ProtectionsSet protections) = omega arith
+one_grows named (BookChange.MetadataSet items) = omega arith
 
 names_grow : (changes : List BookChange) (named : Named) → named.next ≤ (changed_by_all named changes).next
 names_grow [] named = omega arith

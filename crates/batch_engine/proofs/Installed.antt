@@ -1,5 +1,5 @@
 -- A call on a spreadsheet that is there, from its answer and from what takes its place.
-use Rattle.std.proofs.Common.{◌≡◌, ◌⊎◌, inl, inr, ℕ, refl, sym, ap, subst, ◌∙◌, List}
+use Rattle.std.proofs.Common.{◌≡◌, ℕ, refl, sym, ap, subst, ◌∙◌, List}
 use Rattle.std.specs.Prelude.{Bool, Option, Some, None, IsSomeAnd, IfOk, Result, Ok, Err}
 use Rattle.std.specs.Option.{IsSome}
 use Rattle.world_model.specs.Book.{PlaceBook}
@@ -8,7 +8,6 @@ use Rattle.dimension_ops.specs.ByName.{ReplacesByName}
 use Rattle.dimension_ops.specs.Rules.{IsUnlessNoMemory}
 use Rattle.dimension_ops.specs.World.{book_with}
 use Rattle.dimension_ops.specs.declared.rule.Rule.{Rule}
-use Rattle.dimension_ops.specs.declared.rule.Rule.TheVariants as rule
 use Rattle.sheets_json.specs.declared.answer.Answer.{Answer}
 use Rattle.dimension_ops.specs.declared.rule.RuleOr.{RuleOr}
 use Rattle.grid_range.specs.declared.axis.Axis.{Axis}
@@ -28,7 +27,8 @@ use Rattle.batch_engine.specs.Calls.{OnBook, IsAlone, IsAnswered, IsApplied, IsC
 use Rattle.batch_engine.specs.Calls.{AreNext, IsMaking}
 use Rattle.batch_engine.specs.Create.{IsCreateOf}
 use Rattle.batch_engine.specs.Looks.{looked}
-use Rattle.batch_engine.specs.Calls.{IsLookOf, IsNotDone, IsClearOf, IsReadOf, IsReadManyOf, IsWriteOf}
+use Rattle.batch_engine.specs.Calls.{IsItemOf, IsLookOf, IsClearOf, IsReadFilteredOf, IsReadOf, IsReadManyOf, IsSearchOf, IsWriteOf}
+use Rattle.batch_engine.specs.Searches.{item_told}
 use Rattle.batch_engine.specs.declared.calls.Caller.{Caller}
 use Rattle.batch_engine.specs.declared.calls.Outcome.{Outcome}
 use Rattle.batch_engine.proofs.Becoming.{found_has_id, becomes_changed}
@@ -56,32 +56,6 @@ applied_unchanged caller called books told outcome next answered is none = recor
   told_is = is;
   next_is = none_next books next none;
 }
-
--- a call that isn't done yet
-not_done_answered : (caller : Caller) (called : Call) (books : List PlaceBook) (told : Result Answer Refusal)
-    (effect : Effect)
-    → ((id : List ℕ) × (filters : List (Reading DataFilter)) × (dimension : Option Axis) × (render : Option Render)
-    × (called ≡ call.ReadFiltered id filters dimension render))
-    ⊎ ((id : List ℕ) × (item : ℕ) × (called ≡ call.Item id item))
-    ⊎ ((id : List ℕ) × (filters : List (Reading MetadataLookup)) × (called ≡ call.Search id filters))
-    → IsNotDone told effect → IsAnswered caller called books told effect
-not_done_answered caller called books told effect (inl (id, filters, dimension, render, is)) holds =
-    subst (λ one. IsAnswered caller one books told effect) (sym is) holds
-not_done_answered caller called books told effect (inr (inl (id, item, is))) holds =
-    subst (λ one. IsAnswered caller one books told effect) (sym is) holds
-not_done_answered caller called books told effect (inr (inr (id, filters, is))) holds =
-    subst (λ one. IsAnswered caller one books told effect) (sym is) holds
-
-pub not_done_applied : (caller : Caller) (called : Call) (books : List PlaceBook) (outcome : Outcome)
-    (next : Option (List PlaceBook))
-    → ((id : List ℕ) × (filters : List (Reading DataFilter)) × (dimension : Option Axis) × (render : Option Render)
-    × (called ≡ call.ReadFiltered id filters dimension render))
-    ⊎ ((id : List ℕ) × (item : ℕ) × (called ≡ call.Item id item))
-    ⊎ ((id : List ℕ) × (filters : List (Reading MetadataLookup)) × (called ≡ call.Search id filters))
-    → outcome ≡ told_as (Err (place.Alone, rule.Unsupported)) → next ≡ None → IsApplied caller called books outcome next
-not_done_applied caller called books outcome next one is none =
-    applied_unchanged caller called books (Err (place.Alone, rule.Unsupported)) outcome next
-    (not_done_answered caller called books (Err (place.Alone, rule.Unsupported)) Nothing one (refl, refl)) is none
 
 module _ (caller : Caller) (called : Call) (id : List ℕ) (books : List PlaceBook)
     (Answered : PlaceBook → Result Answer Refusal → Effect → Type 0)
@@ -262,6 +236,43 @@ module _ (books : List PlaceBook) (book : PlaceBook) (caller : Caller) (called :
       (subst (λ one. IsAnswered caller one books told Nothing) (sym called_is)
       (subst (λ one. IsSomeAnd one (λ (b : PlaceBook). IsReadManyOf ranges dimension render b told Nothing)) (sym found)
       holds)) is none
+
+  -- looks at metadata
+  pub item_applied : (id : List ℕ) (item : ℕ) → called ≡ call.Item id item → book_with id books ≡ Some book
+      → (told : Result Answer Rule) → told ≡ item_told caller.project item book → outcome ≡ told_as (alone told)
+      → IsApplied caller called books outcome next
+  item_applied id item called_is found told holds is =
+      applied_read caller called id books (IsItemOf caller.project item)
+      (λ answered effect on. subst (λ one. IsAnswered caller one books answered effect) (sym called_is) on) book found
+      (alone told) outcome next (ap alone holds, refl) is none
+
+  pub search_applied : (id : List ℕ) (filters : List (Reading MetadataLookup)) → called ≡ call.Search id filters
+      → book_with id books ≡ Some book → (told : Result Answer Refusal)
+      → IsSearchOf caller.project filters book told Nothing → outcome ≡ told_as told
+      → IsApplied caller called books outcome next
+  search_applied id filters called_is found told holds is =
+      applied_read caller called id books (IsSearchOf caller.project filters)
+      (λ answered effect on. subst (λ one. IsAnswered caller one books answered effect) (sym called_is) on) book found
+      told outcome next holds is none
+
+  pub read_filtered_applied : (id : List ℕ) (filters : List (Reading DataFilter)) (dimension : Option Axis)
+      (render : Option Render) → called ≡ call.ReadFiltered id filters dimension render
+      → book_with id books ≡ Some book → (told : Result Answer Refusal)
+      → IsReadFilteredOf caller.project filters (record { dimension = dimension; render = render }) book told Nothing
+      → outcome ≡ told_as told → IsApplied caller called books outcome next
+  read_filtered_applied id filters dimension render called_is found told holds is =
+      applied_read caller called id books
+      (IsReadFilteredOf caller.project filters (record { dimension = dimension; render = render }))
+      (λ answered effect on. subst (λ one. IsAnswered caller one books answered effect) (sym called_is) on) book found
+      told outcome next holds is none
+
+-- what is told of an item for which memory didn't run out
+pub item_judged : (project : List ℕ) (item : ℕ) (book : PlaceBook) (told : Result Answer RuleOr)
+    (judged : Result Answer Rule) → IsUnlessNoMemory (λ told. told ≡ item_told project item book) told
+    → told ≡ as_told judged → judged ≡ item_told project item book
+item_judged project item book told judged is told_is =
+    judged_so (λ told. told ≡ item_told project item book) judged
+    (subst (IsUnlessNoMemory (λ told. told ≡ item_told project item book)) told_is is)
 
 -- ---- a spreadsheet that is made
 

@@ -60,6 +60,11 @@ module _ {M A : Type 0} (Is : M → Result A Rule → Type 0) (members : List M)
         (subst (λ list. InOrder Is at list (Err (at, broken))) (sym (drop_more members at d there))
         (Err broken, holds, refl)))
 
+-- what is told for which memory didn't run out
+pub told_so : {A : Type 0} (Is : Result A Rule → Type 0) (told : Result A RuleOr) (judged : Result A Rule)
+    → IsUnlessNoMemory Is told → told ≡ as_told judged → Is judged
+told_so Is told judged is told_is = judged_so Is judged (subst (IsUnlessNoMemory Is) told_is is)
+
 -- what a range shows for which memory didn't run out
 pub shown_so : (dimension : Option Axis) (render : Option Render) (book : PlaceBook) (range other : List ℕ)
     (told : Result ShownRange RuleOr) (judged : Result ShownRange Rule) → other ≡ range

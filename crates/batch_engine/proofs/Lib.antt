@@ -17,6 +17,8 @@ pub mod MergedParts
 pub mod UpdatesJoined
 pub mod MergesMade
 pub mod MergesOnce
+pub mod MetadataOnce
+pub mod FilteredOnce
 pub mod RequestsOnce
 pub mod Once
 pub mod Judging
@@ -27,6 +29,13 @@ pub mod PatchWithin
 pub mod ProtectionsJudged
 pub mod ProtectionsMade
 pub mod ProtectionsShown
+pub mod MetadataJudged
+pub mod MetadataSeen
+pub mod MetadataMade
+pub mod LocationsWithin
+pub mod LookingUp
+pub mod Searching
+pub mod Filtering
 pub mod ToldChanges
 pub mod UntouchedLines
 pub mod UntouchedCells

@@ -1,7 +1,9 @@
 -- A list that is read one place after another.
-use Rattle.std.proofs.Common.{◌≡◌, ◌+◌, ◌++◌, ◌∷◌, ℕ, List, [], inl, inr, sym, ap, ◌∙◌, take}
-use Rattle.std.specs.Prelude.{None, Some, slice_get}
+use Rattle.std.proofs.Common.{◌≡◌, ◌+◌, ◌<◌, ◌++◌, ◌∷◌, ℕ, List, [], length, get_or, inl, inr, sym, ap, ◌∙◌, take}
+use Rattle.std.specs.Prelude.{Option, None, Some, slice_get}
+use Rattle.std.specs.List.{filter_map}
 use Rattle.std.proofs.lemmas.List.{take_more, take_all}
+use Rattle.std.proofs.lemmas.List.Elements.{filter_map-append}
 use Rattle.std.proofs.lemmas.Option.{get_or_from_slice_get, slice_get_cases, slice_get_within}
 
 none_is_some : {A : Type 0} (one : A) → None ≡ Some one → ⊥
@@ -22,3 +24,12 @@ all_read all at none = elim (slice_get_cases all at).1 [
       absurd (none_is_some one (sym none ∙ is))
   | inr past ↦ take_all at all past.0
 ]
+
+-- what is listed of one more
+pub more_listed : {X Y : Type 0} (h : X → Option Y) (all : List X) (at : ℕ) (one : X) → at < length all
+    → one ≡ get_or all at one
+    → filter_map h (take at all) ++ filter_map h (one ∷ []) ≡ filter_map h (take (at + 1) all)
+more_listed h all at one there is =
+    sym (filter_map-append h (take at all) (one ∷ []))
+    ∙ ap (λ last. filter_map h (take at all ++ last ∷ [])) is
+    ∙ ap (filter_map h) (sym (take_more all at one there))

@@ -1,6 +1,6 @@
 -- A call on given spreadsheets has one answer and one effect.
-use Rattle.std.proofs.Common.{◌≡◌, ℕ, Bool, sym, ap, subst, ◌∙◌, List, suc, [], ◌∷◌, cond, true, false, arith}
-use Rattle.std.specs.Prelude.{◌+◌, Option, Some, None, IsSomeAnd, IfSome, OnOk, Result, Ok, Err, MatchResult}
+use Rattle.std.proofs.Common.{◌≡◌, ℕ, Bool, refl, sym, ap, subst, ◌∙◌, List, suc, [], ◌∷◌, cond, true, false, arith}
+use Rattle.std.specs.Prelude.{◌+◌, Option, Some, None, IsSomeAnd, IfOk, IfSome, OnOk, Result, Ok, Err, MatchResult, flat_map}
 use Rattle.std.specs.List.{All}
 use Rattle.std.specs.Str.{bytes_eq}
 use Rattle.cell_value.specs.declared.cell.Block.{Block}
@@ -8,6 +8,7 @@ use Rattle.cell_value.specs.declared.cell.Render.{Render}
 use Rattle.grid_range.specs.declared.area.Area.{Area}
 use Rattle.grid_range.specs.declared.axis.Axis.{Axis}
 use Rattle.a1_notation.specs.Laws.{HasOneReading}
+use Rattle.dev_metadata.specs.Listed.{AreIdsInOrder, found_by_some}
 use Rattle.world_model.specs.Book.{PlaceBook}
 use Rattle.world_model.specs.BookChange.{AreChanges, BookChange}
 use Rattle.merge_ranges.specs.Calls.{ListsAreSame}
@@ -18,12 +19,13 @@ use Rattle.world_model.specs.Updating.{Updates}
 use Rattle.dimension_ops.specs.SheetRequests.{NewSheetsOnce}
 use Rattle.dimension_ops.specs.World.{book_with}
 use Rattle.dimension_ops.specs.declared.rule.Rule.{Rule}
-use Rattle.dimension_ops.specs.declared.rule.Rule.TheVariants as rule
 use Rattle.values_api.specs.Blocks.{contents_of}
 use Rattle.values_api.specs.Denials.{AreaCells, WriteCells}
 use Rattle.values_api.specs.Laws.{AppendsOnce, ReadsOnce, WritesOnce}
-use Rattle.values_api.specs.Ranges.{FoundArea, Resolves, named, unnamed, part_of}
+use Rattle.values_api.specs.Ranges.{FoundArea, Resolves}
 use Rattle.values_api.specs.declared.writing.Written.{Written}
+use Rattle.json_requests.specs.declared.request.DataFilter.{DataFilter}
+use Rattle.json_requests.specs.declared.request.MetadataLookup.{MetadataLookup}
 use Rattle.json_shapes.specs.Reading.{Reading}
 use Rattle.sheets_json.specs.declared.answer.Answer.{Answer}
 use Rattle.sheets_json.specs.declared.answer.Answer.TheVariants as answer
@@ -41,15 +43,20 @@ use Rattle.batch_engine.specs.Values.{Appended, IsAppendOn, IsAppended, IsUpdate
 use Rattle.batch_engine.specs.Values.{axis_or_rows, is_columns, render_or_formatted, shown_range}
 use Rattle.batch_engine.specs.Looks.{looked}
 use Rattle.batch_engine.specs.Calls.{AreMade, IsAppendOf, IsBatchOf, IsLookOf, IsAlone, IsAnswered, IsClearManyOf, IsClearOf, IsMade, IsReadManyOf}
-use Rattle.batch_engine.specs.Calls.{IsNotDone, IsReadOf, IsSeen, IsWriteManyOf, IsWriteOf, OnBook, Refusal, alone, answered_at}
+use Rattle.batch_engine.specs.Calls.{IsReadFilteredOf, IsReadOf, IsSearchOf, IsItemOf, IsSeen, IsWriteManyOf, IsWriteOf, OnBook, Refusal, alone, answered_at}
 use Rattle.batch_engine.specs.Calls.{answered_by, effect_of, effect_on, told_of, written_answer}
+use Rattle.batch_engine.specs.Filtered.{AreShownBy, Showing}
 use Rattle.batch_engine.specs.Members.{InOrder, Then, Told, with_first}
+use Rattle.batch_engine.specs.Metadata.{lookups_of}
+use Rattle.batch_engine.specs.Searches.{asked_or_broken, item_told, search_answer}
 use Rattle.sheets_json.specs.declared.answer.ShownRange.{ShownRange}
 use Rattle.sheets_json.specs.declared.place.Place.{Place}
 use Rattle.sheets_json.specs.declared.place.Place.TheVariants as place
 use Rattle.batch_engine.specs.Laws.{IsOnce}
 use Rattle.batch_engine.proofs.Created.{create_once}
 use Rattle.batch_engine.proofs.DeniedOnce.{unless_once, unless_told_once}
+use Rattle.batch_engine.proofs.FilteredOnce.{resolves_once, shown_by_once}
+use Rattle.batch_engine.proofs.MetadataOnce.{ids_once}
 use Rattle.batch_engine.proofs.InTurns.{in_turn_once}
 use Rattle.batch_engine.proofs.RequestsOnce.{requested_once}
 use Rattle.batch_engine.specs.Requests.{IsRequested}
@@ -63,21 +70,13 @@ none_some x e = cc
 -- ---- ranges
 
 module _ (one_reading : HasOneReading) where
-  resolves_once : (text : List ℕ) (book : PlaceBook) (one other : Result FoundArea Rule)
-      → Resolves text book one → Resolves text book other → one ≡ other
-  resolves_once text book one other (named range names is) (named range' names' is') =
-      is ∙ ap (λ read. part_of book read.sheet read.part) (one_reading 3 text range range' names names') ∙ sym is'
-  resolves_once text book one other (named range names is) (unnamed none is') = absurd (none range names)
-  resolves_once text book one other (unnamed none is) (named range' names' is') = absurd (none range' names')
-  resolves_once text book one other (unnamed none is) (unnamed none' is') = is ∙ sym is'
-
   target_once : (range : List ℕ) (body : Option (List ℕ)) (book : PlaceBook) (one other : Result FoundArea Rule)
       → IsTarget range body book one → IsTarget range body book other → one ≡ other
-  target_once range None book one other is is' = resolves_once range book one other is is'
+  target_once range None book one other is is' = resolves_once one_reading range book one other is is'
   target_once range (Some body) book one other is is' =
       is.found_is
-      ∙ ap (λ found. agreed found is.said) (resolves_once range book is.named is'.named is.resolves is'.resolves)
-      ∙ ap (λ said. agreed is'.named said) (resolves_once body book is.said is'.said is.says is'.says)
+      ∙ ap (λ found. agreed found is.said) (resolves_once one_reading range book is.named is'.named is.resolves is'.resolves)
+      ∙ ap (λ said. agreed is'.named said) (resolves_once one_reading body book is.said is'.said is.says is'.says)
       ∙ sym is'.found_is
 
 abbrev as_found : FoundArea → Result FoundArea Rule
@@ -119,9 +118,6 @@ module _ {A : Type 0} (Found : Result FoundArea Rule → Type 0) (sheets : List 
 -- what is answered and made so has one answer and one effect
 said_once : {Broken : Type 0} (says : Result Answer Broken) (makes : Effect) → IsOnce (λ told effect. (told ≡ says) × (effect ≡ makes))
 said_once says makes told told' effect effect' is is' = (is.0 ∙ sym is'.0, is.1 ∙ sym is'.1)
-
-not_done_once : IsOnce IsNotDone
-not_done_once = said_once (Err (place.Alone, rule.Unsupported)) Nothing
 
 -- ---- reads
 
@@ -253,6 +249,33 @@ module _ {A : Type 0} where
         is.effect_is ∙ ap (effect_on book) same ∙ sym is'.effect_is,
       )
 
+-- ---- searches
+
+module _ (project : List ℕ) (filters : List (Reading MetadataLookup)) (book : PlaceBook) where
+  -- the ids are those that are found
+  abbrev AreFound : List ℕ → Told MetadataLookup → Type 0
+  AreFound ids asked = IfOk asked (λ all. AreIdsInOrder (found_by_some (lookups_of all) project book.metadata) ids)
+
+  abbrev found_told : List ℕ → Told MetadataLookup → Result Answer Refusal
+  found_told ids asked = answered_at place.Filters (search_answer project ids book) asked
+
+  told_once : (asked : Told MetadataLookup) (ids ids' : List ℕ) → AreFound ids asked → AreFound ids' asked
+      → found_told ids asked ≡ found_told ids' asked
+  told_once (Ok all) ids ids' is is' =
+      ap (λ ids. found_told ids (Ok all))
+      (ids_once (found_by_some (lookups_of all) project book.metadata) ids ids' is is')
+  told_once (Err broken) ids ids' is is' = refl
+
+  search_once : IsOnce (IsSearchOf project filters book)
+  search_once told told' effect effect' is is' =
+      let same = in_order_once (λ given one. one ≡ asked_or_broken book.sheets given)
+      (λ given one other is is'. is ∙ sym is') 0 filters is.asked is'.asked is.searched.each is'.searched.each in (
+        is.told_is ∙ ap (found_told is.ids) same
+            ∙ told_once is'.asked is.ids is'.ids (subst (AreFound is.ids) same is.searched.in_order) is'.searched.in_order
+            ∙ sym is'.told_is,
+        is.nothing ∙ sym is'.nothing,
+      )
+
 first_sound : (b : Bool) (book : PlaceBook) (rest : Option PlaceBook) → IsSound book → IfSome rest IsSound
     → IfSome (cond b (Some book) rest) IsSound
 first_sound true book rest sound behind = sound
@@ -318,6 +341,17 @@ module _ (one_reading : HasOneReading) (news : NewSheetsOnce) (reads : ReadsOnce
     is.nothing ∙ sym is'.nothing,
   )
 
+  read_filtered_once : (project : List ℕ) (filters : List (Reading DataFilter)) (how : Showing) (book : PlaceBook)
+      → IsSound book → IsOnce (IsReadFilteredOf project filters how book)
+  read_filtered_once project filters how book sound told told' effect effect' is is' = (
+    is.told_is
+        ∙ ap (answered_at place.Filters (λ all. answer.ReadFiltered book.id (flat_map (λ part. part) all)))
+        (in_order_once (AreShownBy project how book) (shown_by_once reads how book sound one_reading project) 0 filters
+        is.shown is'.shown is.each is'.each)
+        ∙ sym is'.told_is,
+    is.nothing ∙ sym is'.nothing,
+  )
+
   are_made_once : {M A : Type 0} (Is : PlaceBook → M → Result (A × List BookChange) Rule → Type 0)
       (once : (book : PlaceBook) → IsSound book → (member : M) (one other : Result (A × List BookChange) Rule)
       → Is book member one → Is book member other → one ≡ other) (members : List M) (at : ℕ → Place)
@@ -368,13 +402,19 @@ module _ (one_reading : HasOneReading) (news : NewSheetsOnce) (reads : ReadsOnce
         on_book_once id (IsLookOf caller.user grids)
         (λ book sound. said_once (Ok (looked caller.user grids book)) Nothing)
     answered_once caller (call.Batch id requests) =
-        on_book_once id (IsBatchOf caller.user requests)
-        (λ book sound. are_made_once (IsRequested caller.user)
-        (requested_once news writes apart turns lists caller.user) requests place.Requests
+        on_book_once id (IsBatchOf caller.user caller.project requests)
+        (λ book sound. are_made_once (IsRequested caller.user caller.project)
+        (requested_once news writes apart turns lists caller.user caller.project) requests place.Requests
         (λ replies. answer.Batch replies book.id) book sound)
-    answered_once caller (call.ReadFiltered id filters dimension render) = not_done_once
-    answered_once caller (call.Item id item) = not_done_once
-    answered_once caller (call.Search id filters) = not_done_once
+    answered_once caller (call.ReadFiltered id filters dimension render) =
+        let how : Showing = record { dimension = dimension; render = render } in
+        on_book_once id (IsReadFilteredOf caller.project filters how)
+        (λ book sound. read_filtered_once caller.project filters how book sound)
+    answered_once caller (call.Item id item) =
+        on_book_once id (IsItemOf caller.project item)
+        (λ book sound. said_once (alone (item_told caller.project item book)) Nothing)
+    answered_once caller (call.Search id filters) =
+        on_book_once id (IsSearchOf caller.project filters) (λ book sound. search_once caller.project filters book)
     answered_once caller (call.Append id range mode option values) =
         on_book_once id (λ book. IsAlone (IsAppendOf caller.user range option values book))
         (λ book sound. alone_once (IsAppendOf caller.user range option values book)

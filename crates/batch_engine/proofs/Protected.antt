@@ -143,68 +143,68 @@ module _ (keep : UntouchedCellsKeep) (stays : LeftCellsStay) (denials : DenialsB
 
   -- ---- requests
 
-  by_kind_parts : (book : PlaceBook) (asked : Request) (denied : Option ℕ) → denied ≡ None
+  by_kind_parts : (project : List ℕ) (book : PlaceBook) (asked : Request) (denied : Option ℕ) → denied ≡ None
       → IsDenial user book (TouchedCells book.sheets asked) denied → (reply : Reply) (changes : List BookChange)
-      → appends_rows asked ≡ false → IsDoneByKind user book asked (Ok (reply, changes)) → InParts book changes
-  by_kind_parts book asked denied none is_denied reply changes other is =
+      → appends_rows asked ≡ false → IsDoneByKind user project book asked (Ok (reply, changes)) → InParts book changes
+  by_kind_parts project book asked denied none is_denied reply changes other is =
       one_part denials user book (TouchedCells book.sheets asked) changes
       (subst (IsDenial user book (TouchedCells book.sheets asked)) none is_denied)
-      (keep.request user book asked reply changes other is)
+      (keep.request user project book asked reply changes other is)
 
-  done_parts : (book : PlaceBook) (asked : Request) (denied : Option ℕ) → denied ≡ None
+  done_parts : (project : List ℕ) (book : PlaceBook) (asked : Request) (denied : Option ℕ) → denied ≡ None
       → IsDenial user book (TouchedCells book.sheets asked) denied → (reply : Reply) (changes : List BookChange)
-      → IsDoneByKind user book asked (Ok (reply, changes)) → InParts book changes
-  done_parts book (request.AppendCells sheet rows) denied none is_denied reply changes is =
+      → IsDoneByKind user project book asked (Ok (reply, changes)) → InParts book changes
+  done_parts project book (request.AppendCells sheet rows) denied none is_denied reply changes is =
       append_rows_parts denials user stays sheet rows book (reply, changes) is
-  done_parts book (request.UpdateCells rows area) denied none is_denied reply changes is =
-      by_kind_parts book (request.UpdateCells rows area) denied none is_denied reply changes refl is
-  done_parts book (request.AddSheet given) denied none is_denied reply changes is =
-      by_kind_parts book (request.AddSheet given) denied none is_denied reply changes refl is
-  done_parts book (request.DeleteSheet sheet) denied none is_denied reply changes is =
-      by_kind_parts book (request.DeleteSheet sheet) denied none is_denied reply changes refl is
-  done_parts book (request.UpdateSheetProperties sheet properties) denied none is_denied reply changes is =
-      by_kind_parts book (request.UpdateSheetProperties sheet properties) denied none is_denied reply changes refl is
-  done_parts book (request.InsertDimension range inherits) denied none is_denied reply changes is =
-      by_kind_parts book (request.InsertDimension range inherits) denied none is_denied reply changes refl is
-  done_parts book (request.DeleteDimension range) denied none is_denied reply changes is =
-      by_kind_parts book (request.DeleteDimension range) denied none is_denied reply changes refl is
-  done_parts book (request.AppendDimension sheet axis length) denied none is_denied reply changes is =
-      by_kind_parts book (request.AppendDimension sheet axis length) denied none is_denied reply changes refl is
-  done_parts book (request.MoveDimension range to) denied none is_denied reply changes is =
-      by_kind_parts book (request.MoveDimension range to) denied none is_denied reply changes refl is
-  done_parts book (request.MergeCells range type) denied none is_denied reply changes is =
-      by_kind_parts book (request.MergeCells range type) denied none is_denied reply changes refl is
-  done_parts book (request.UnmergeCells range) denied none is_denied reply changes is =
-      by_kind_parts book (request.UnmergeCells range) denied none is_denied reply changes refl is
-  done_parts book (request.AddNamedRange asked) denied none is_denied reply changes is =
-      by_kind_parts book (request.AddNamedRange asked) denied none is_denied reply changes refl is
-  done_parts book (request.UpdateNamedRange id name range) denied none is_denied reply changes is =
-      by_kind_parts book (request.UpdateNamedRange id name range) denied none is_denied reply changes refl is
-  done_parts book (request.DeleteNamedRange id) denied none is_denied reply changes is =
-      by_kind_parts book (request.DeleteNamedRange id) denied none is_denied reply changes refl is
-  done_parts book (request.AddProtectedRange id patch) denied none is_denied reply changes is =
-      by_kind_parts book (request.AddProtectedRange id patch) denied none is_denied reply changes refl is
-  done_parts book (request.UpdateProtectedRange id patch) denied none is_denied reply changes is =
-      by_kind_parts book (request.UpdateProtectedRange id patch) denied none is_denied reply changes refl is
-  done_parts book (request.DeleteProtectedRange id) denied none is_denied reply changes is =
-      by_kind_parts book (request.DeleteProtectedRange id) denied none is_denied reply changes refl is
-  done_parts book (request.SetBasicFilter filter) denied none is_denied reply changes is =
-      by_kind_parts book (request.SetBasicFilter filter) denied none is_denied reply changes refl is
-  done_parts book (request.ClearBasicFilter sheet) denied none is_denied reply changes is =
-      by_kind_parts book (request.ClearBasicFilter sheet) denied none is_denied reply changes refl is
-  done_parts book (request.CreateDeveloperMetadata item) denied none is_denied reply changes is =
-      by_kind_parts book (request.CreateDeveloperMetadata item) denied none is_denied reply changes refl is
-  done_parts book (request.UpdateDeveloperMetadata filters patch) denied none is_denied reply changes is =
-      by_kind_parts book (request.UpdateDeveloperMetadata filters patch) denied none is_denied reply changes refl is
-  done_parts book (request.DeleteDeveloperMetadata filter) denied none is_denied reply changes is =
-      by_kind_parts book (request.DeleteDeveloperMetadata filter) denied none is_denied reply changes refl is
+  done_parts project book (request.UpdateCells rows area) denied none is_denied reply changes is =
+      by_kind_parts project book (request.UpdateCells rows area) denied none is_denied reply changes refl is
+  done_parts project book (request.AddSheet given) denied none is_denied reply changes is =
+      by_kind_parts project book (request.AddSheet given) denied none is_denied reply changes refl is
+  done_parts project book (request.DeleteSheet sheet) denied none is_denied reply changes is =
+      by_kind_parts project book (request.DeleteSheet sheet) denied none is_denied reply changes refl is
+  done_parts project book (request.UpdateSheetProperties sheet properties) denied none is_denied reply changes is =
+      by_kind_parts project book (request.UpdateSheetProperties sheet properties) denied none is_denied reply changes refl is
+  done_parts project book (request.InsertDimension range inherits) denied none is_denied reply changes is =
+      by_kind_parts project book (request.InsertDimension range inherits) denied none is_denied reply changes refl is
+  done_parts project book (request.DeleteDimension range) denied none is_denied reply changes is =
+      by_kind_parts project book (request.DeleteDimension range) denied none is_denied reply changes refl is
+  done_parts project book (request.AppendDimension sheet axis length) denied none is_denied reply changes is =
+      by_kind_parts project book (request.AppendDimension sheet axis length) denied none is_denied reply changes refl is
+  done_parts project book (request.MoveDimension range to) denied none is_denied reply changes is =
+      by_kind_parts project book (request.MoveDimension range to) denied none is_denied reply changes refl is
+  done_parts project book (request.MergeCells range type) denied none is_denied reply changes is =
+      by_kind_parts project book (request.MergeCells range type) denied none is_denied reply changes refl is
+  done_parts project book (request.UnmergeCells range) denied none is_denied reply changes is =
+      by_kind_parts project book (request.UnmergeCells range) denied none is_denied reply changes refl is
+  done_parts project book (request.AddNamedRange asked) denied none is_denied reply changes is =
+      by_kind_parts project book (request.AddNamedRange asked) denied none is_denied reply changes refl is
+  done_parts project book (request.UpdateNamedRange id name range) denied none is_denied reply changes is =
+      by_kind_parts project book (request.UpdateNamedRange id name range) denied none is_denied reply changes refl is
+  done_parts project book (request.DeleteNamedRange id) denied none is_denied reply changes is =
+      by_kind_parts project book (request.DeleteNamedRange id) denied none is_denied reply changes refl is
+  done_parts project book (request.AddProtectedRange id patch) denied none is_denied reply changes is =
+      by_kind_parts project book (request.AddProtectedRange id patch) denied none is_denied reply changes refl is
+  done_parts project book (request.UpdateProtectedRange id patch) denied none is_denied reply changes is =
+      by_kind_parts project book (request.UpdateProtectedRange id patch) denied none is_denied reply changes refl is
+  done_parts project book (request.DeleteProtectedRange id) denied none is_denied reply changes is =
+      by_kind_parts project book (request.DeleteProtectedRange id) denied none is_denied reply changes refl is
+  done_parts project book (request.SetBasicFilter filter) denied none is_denied reply changes is =
+      by_kind_parts project book (request.SetBasicFilter filter) denied none is_denied reply changes refl is
+  done_parts project book (request.ClearBasicFilter sheet) denied none is_denied reply changes is =
+      by_kind_parts project book (request.ClearBasicFilter sheet) denied none is_denied reply changes refl is
+  done_parts project book (request.CreateDeveloperMetadata item) denied none is_denied reply changes is =
+      by_kind_parts project book (request.CreateDeveloperMetadata item) denied none is_denied reply changes refl is
+  done_parts project book (request.UpdateDeveloperMetadata filters patch) denied none is_denied reply changes is =
+      by_kind_parts project book (request.UpdateDeveloperMetadata filters patch) denied none is_denied reply changes refl is
+  done_parts project book (request.DeleteDeveloperMetadata filter) denied none is_denied reply changes is =
+      by_kind_parts project book (request.DeleteDeveloperMetadata filter) denied none is_denied reply changes refl is
 
-  requested_parts : (book : PlaceBook) (asked : Step) (reply : Reply) (changes : List BookChange)
-      → IsRequested user book asked (Ok (reply, changes)) → InParts book changes
-  requested_parts book (step.Read asked) reply changes is =
-      done_parts book asked is.denied (none_denied is.denied is.done (reply, changes) is.told_is) is.is_denied reply changes
-      (subst (IsDoneByKind user book asked) (done_of is.denied is.done (reply, changes) is.told_is) is.is)
-  requested_parts book (step.Shape shape) reply changes is = absurd (told_apart {A = Reply × List BookChange} (reply, changes) (rule_of shape) is)
+  requested_parts : (project : List ℕ) (book : PlaceBook) (asked : Step) (reply : Reply) (changes : List BookChange)
+      → IsRequested user project book asked (Ok (reply, changes)) → InParts book changes
+  requested_parts project book (step.Read asked) reply changes is =
+      done_parts project book asked is.denied (none_denied is.denied is.done (reply, changes) is.told_is) is.is_denied reply changes
+      (subst (IsDoneByKind user project book asked) (done_of is.denied is.done (reply, changes) is.told_is) is.is)
+  requested_parts project book (step.Shape shape) reply changes is = absurd (told_apart {A = Reply × List BookChange} (reply, changes) (rule_of shape) is)
 
   -- ---- calls
 
@@ -294,8 +294,8 @@ protected_cells_stay keep stays denials caller (call.Get of grids) books told id
     on_book keep stays denials caller.user id changes books of _ (λ book is. absurd (no_effect keep stays denials caller.user id changes is.1)) is
 protected_cells_stay keep stays denials caller (call.Batch of requests) books told id changes is =
     on_book keep stays denials caller.user id changes books of _
-    (λ book. are_made_parts keep stays denials caller.user id changes (IsRequested caller.user) requests place.Requests
-    (λ replies. answer.Batch replies book.id) book told (requested_parts keep stays denials caller.user)) is
+    (λ book. are_made_parts keep stays denials caller.user id changes (IsRequested caller.user caller.project) requests place.Requests
+    (λ replies. answer.Batch replies book.id) book told (requested_parts keep stays denials caller.user caller.project)) is
 protected_cells_stay keep stays denials caller (call.Read of range dimension render) books told id changes is =
     on_book keep stays denials caller.user id changes books of _
     (λ book is. absurd (no_effect keep stays denials caller.user id changes is.answered.nothing)) is
@@ -324,8 +324,11 @@ protected_cells_stay keep stays denials caller (call.ClearMany of ranges) books 
     (λ book. are_made_parts keep stays denials caller.user id changes (IsCleared caller.user) ranges place.Ranges
     (λ texts. answer.ClearMany texts book.id) book told (cleared_parts keep stays denials caller.user)) is
 protected_cells_stay keep stays denials caller (call.ReadFiltered of filters dimension render) books told id changes is =
-    unanswered keep stays denials caller.user id changes books is.1
+    on_book keep stays denials caller.user id changes books of _
+    (λ book is. absurd (no_effect keep stays denials caller.user id changes is.nothing)) is
 protected_cells_stay keep stays denials caller (call.Item of item) books told id changes is =
-    unanswered keep stays denials caller.user id changes books is.1
+    on_book keep stays denials caller.user id changes books of _
+    (λ book is. absurd (no_effect keep stays denials caller.user id changes is.1)) is
 protected_cells_stay keep stays denials caller (call.Search of filters) books told id changes is =
-    unanswered keep stays denials caller.user id changes books is.1
+    on_book keep stays denials caller.user id changes books of _
+    (λ book is. absurd (no_effect keep stays denials caller.user id changes is.nothing)) is

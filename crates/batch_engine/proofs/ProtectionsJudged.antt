@@ -26,7 +26,7 @@ none_broken None none = refl
 none_broken (Some broken) none = absurd (none broken refl)
 
 -- the rules of a bad shape and of areas come first
-abbrev first_of : Bool → Bool → Bool → Bool → Option Rule → Option Rule
+abbrev pub first_of : Bool → Bool → Bool → Bool → Option Rule → Option Rule
 first_of bad_shape no_sheet bad_range outside behind =
     cond bad_shape (Some rule.BadShape)
     (cond no_sheet (Some rule.NoSheet) (cond bad_range (Some rule.BadRange) (cond outside (Some rule.OutsideGrid) behind)))

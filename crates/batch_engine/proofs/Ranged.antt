@@ -30,8 +30,9 @@ use Rattle.sheets_json.specs.declared.answer.ShownRange.{ShownRange}
 use Rattle.sheets_json.specs.declared.answer.Update.{Update as UpdateAnswer}
 use Rattle.batch_engine.specs.Effects.{cells_updated}
 use Rattle.batch_engine.specs.Effects.Effect.{Nothing}
+use Rattle.batch_engine.specs.Filtered.{IsShownAs, Showing}
 use Rattle.batch_engine.specs.Members.{IsDoneTo}
-use Rattle.batch_engine.specs.Values.{OnRange, done, refused, is_columns, axis_or_rows, render_or_formatted, unless_empty}
+use Rattle.batch_engine.specs.Values.{OnRange, done, refused, is_columns, axis_or_rows, render_or_formatted, shown_range, unless_empty}
 use Rattle.batch_engine.specs.Values.{IsCleared, IsShown, IsUpdate, Wrote, clear, update_of}
 use Rattle.batch_engine.specs.Calls.{IsChange, IsMade, IsReadOf}
 use Rattle.batch_engine.proofs.DeniedOnce.{denied_same, done_of, none_denied}
@@ -133,28 +134,38 @@ seen_so range dimension render book refusal.NoMemory is = tt
 
 -- ---- reads
 
-pub read_done : (range : List ℕ) (dimension : Option Axis) (render : Option Render) (book : PlaceBook)
-    (found : FoundArea) (text : List ℕ) (shown : List (List Cell)) → Resolves range book (Ok found)
-    → IsSomeAnd (place_sheet_with found.0.sheet book.sheets) (λ sheet. text ≡ area_text sheet found.0)
-    → IfSome (place_sheet_with found.0.sheet book.sheets)
-    (λ sheet. IsAreaShown book found.0 (is_columns (axis_or_rows dimension)) (render_or_formatted render) sheet shown)
-    → IsShown dimension render book range
-    (Ok (record { range = text; major_dimension = axis_or_rows dimension; values = unless_empty shown }))
-read_done range dimension render book found text shown resolves text_of shown_if =
-    let (sheet, is, text_is) = some_and (λ (sheet : PlaceSheet). text ≡ area_text sheet found.0)
-    (place_sheet_with found.0.sheet book.sheets) text_of in
-    let shown_is : IsAreaShown book found.0 (is_columns (axis_or_rows dimension)) (render_or_formatted render) sheet shown =
-    subst (λ one. IfSome one (λ (sheet : PlaceSheet).
-    IsAreaShown book found.0 (is_columns (axis_or_rows dimension)) (render_or_formatted render) sheet shown)) is shown_if in
-    done found sheet resolves is (record {
-      lines = shown;
-      shown = shown_is;
-      told_is = ap (λ told. as_shown (record {
-        range = told;
-        major_dimension = axis_or_rows dimension;
-        values = unless_empty shown;
-      })) text_is;
-    })
+module _ (dimension : Option Axis) (render : Option Render) (book : PlaceBook) where
+  abbrev how : Showing
+  how = record { dimension = dimension; render = render }
+
+  module _ (area : Area) (text : List ℕ) (lines : List (List Cell)) where
+    abbrev as_read : List ℕ → ShownRange
+    as_read text = record { range = text; major_dimension = axis_or_rows dimension; values = unless_empty lines }
+
+    abbrev AreLines : PlaceSheet → Type 0
+    AreLines sheet =
+        IsAreaShown book area (is_columns (axis_or_rows dimension)) (render_or_formatted render) sheet lines
+
+    on_found : (found : Option PlaceSheet) → IsSomeAnd found (λ sheet. text ≡ area_text sheet area)
+        → IfSome found AreLines
+        → IsSomeAnd found (λ sheet. (lines : List (List Cell))
+        × IsAreaShown book area (is_columns (axis_or_rows dimension)) (render_or_formatted render) sheet lines
+        × (as_read text ≡ shown_range (axis_or_rows dimension) area sheet lines))
+    on_found None text_is shown = absurd text_is
+    on_found (Some sheet) text_is shown = (lines, shown, ap as_read text_is)
+
+    pub area_read : IsSomeAnd (place_sheet_with area.sheet book.sheets) (λ sheet. text ≡ area_text sheet area)
+        → IfSome (place_sheet_with area.sheet book.sheets) AreLines → IsShownAs how book area (as_read text)
+    area_read = on_found (place_sheet_with area.sheet book.sheets)
+
+  pub read_done : (range : List ℕ) (found : FoundArea) (shown : ShownRange) → Resolves range book (Ok found)
+      → IsShownAs how book found.0 shown → IsShown dimension render book range (Ok shown)
+  read_done range found shown resolves is_shown =
+      let (sheet, is, (lines, are, shown_is)) = some_and (λ (sheet : PlaceSheet). (lines : List (List Cell))
+      × IsAreaShown book found.0 (is_columns (axis_or_rows dimension)) (render_or_formatted render) sheet lines
+      × (shown ≡ shown_range (axis_or_rows dimension) found.0 sheet lines))
+      (place_sheet_with found.0.sheet book.sheets) is_shown in
+      done found sheet resolves is (record { lines = lines; shown = are; told_is = ap as_shown shown_is })
 
 -- ---- clears
 

@@ -25,6 +25,18 @@ use Rattle.batch_engine.specs.AddProtectedRange.{IsProtectionAdded, protection_a
 use Rattle.batch_engine.specs.Requests.{IsDoneByKind, IsRequested}
 use Rattle.batch_engine.specs.Touching.{TouchedCells}
 use Rattle.batch_engine.proofs.DeniedOnce.{unless_once}
+use Rattle.dev_metadata.specs.Listed as listed
+use Rattle.dev_metadata.specs.Listed.{found, found_by_some, not_found}
+use Rattle.json_requests.specs.declared.request.MetadataLookup.{MetadataLookup}
+use Rattle.json_requests.specs.declared.request.MetadataPatch.{MetadataPatch}
+use Rattle.json_requests.specs.declared.request.NewMetadata.{NewMetadata}
+use Rattle.batch_engine.specs.CreateDeveloperMetadata.{IsMetadataCreated, item_made, item_put, metadata_created_broken}
+use Rattle.batch_engine.specs.DeleteDeveloperMetadata.{IsMetadataDeleted}
+use Rattle.batch_engine.specs.Metadata.{broken_by_lookups, items_seen, lookup_of, lookups_of}
+use Rattle.batch_engine.specs.Telling.{UnlessBroken}
+use Rattle.batch_engine.specs.UpdateDeveloperMetadata.{IsMetadataUpdated, metadata_updated, metadata_updated_broken}
+use Rattle.sheets_json.specs.declared.spreadsheet.Reply.TheVariants as reply
+use Rattle.batch_engine.proofs.MetadataOnce.{ids_once}
 use Rattle.protection.specs.Listed.{has_id}
 use Rattle.protection.specs.declared.range.ProtectionPatch.{ProtectionPatch}
 use Rattle.batch_engine.specs.Rows.{AreRowsWritten, area_or_broken}
@@ -55,6 +67,38 @@ module _ (user : List ℕ) (book : PlaceBook) where
       (new_number_once (has_id book.protections) id new new' is is')
       ∙ sym tells'
 
+module _ (project : List ℕ) (book : PlaceBook) where
+  item_created_once : (asked : NewMetadata) (broken : Option Rule)
+      → IsOne (UnlessBroken broken (IsMetadataCreated project asked book))
+  item_created_once asked (Some broken) told told' is is' = is ∙ sym is'
+  item_created_once asked None told told' is is' =
+      is.told_is ∙ ap (λ id. Ok (item_put book (item_made project asked id)))
+      (new_number_once (listed.has_id book.metadata) asked.metadata_id is.id is'.id is.new is'.new)
+      ∙ sym is'.told_is
+
+  items_updated_once : (asked : List MetadataLookup) (patch : MetadataPatch) (broken : Option Rule)
+      → IsOne (UnlessBroken broken (IsMetadataUpdated project asked patch book))
+  items_updated_once asked patch (Some broken) told told' is is' = is ∙ sym is'
+  items_updated_once asked patch None told told' is is' =
+      let after = metadata_updated project asked patch book in
+      is.told_is
+      ∙ ap (λ ids. Ok (reply.UpdateDeveloperMetadata (items_seen project ids after), BookChange.MetadataSet after ∷ []))
+      (ids_once (found_by_some (lookups_of asked) project book.metadata) is.ids is'.ids is.in_order is'.in_order)
+      ∙ sym is'.told_is
+
+  items_deleted_once : (asked : MetadataLookup) (broken : Option Rule)
+      → IsOne (UnlessBroken broken (IsMetadataDeleted project asked book))
+  items_deleted_once asked (Some broken) told told' is is' = is ∙ sym is'
+  items_deleted_once asked None told told' is is' =
+      let left = not_found (lookup_of asked) project book.metadata in
+      is.told_is
+      ∙ ap (λ ids. Ok (
+        reply.DeleteDeveloperMetadata (items_seen project ids book.metadata),
+        BookChange.MetadataSet left ∷ [],
+      ))
+      (ids_once (found (lookup_of asked) project book.metadata) is.ids is'.ids is.in_order is'.in_order)
+      ∙ sym is'.told_is
+
 module _ (news : NewSheetsOnce) (book : PlaceBook) where
   added_once : (properties : SheetProperties) (broken : Option Rule) → IsOne (IsAdded properties book.sheets broken)
   added_once properties (Some broken) told told' is is' = is ∙ sym is'
@@ -70,7 +114,7 @@ module _ (news : NewSheetsOnce) (book : PlaceBook) where
       added_once properties (first_broken (sheet_added_broken properties book.sheets))
 
 module _ (news : NewSheetsOnce) (writes : WritesOnce) (apart : ChangesApart) (turns : ChangesInTurn)
-    (lists : ListsAreSame) (user : List ℕ) (book : PlaceBook) (sound : IsSound book) where
+    (lists : ListsAreSame) (user project : List ℕ) (book : PlaceBook) (sound : IsSound book) where
   update_cells_once : (rows : Block) (area : UpdatedArea) → IsOne (IsUpdateCells rows area book)
   update_cells_once rows (Start cell) =
       on_area_once (AreRowsWritten [] rows true book)
@@ -81,7 +125,7 @@ module _ (news : NewSheetsOnce) (writes : WritesOnce) (apart : ChangesApart) (tu
       (λ area. rows_once writes apart turns (rest_emptied area rows) rows false area book sound)
       (area_or_broken book.sheets range)
 
-  by_kind_once : (asked : Request) → IsOne (IsDoneByKind user book asked)
+  by_kind_once : (asked : Request) → IsOne (IsDoneByKind user project book asked)
   by_kind_once (request.UpdateCells rows area) = update_cells_once rows area
   by_kind_once (request.AddSheet properties) = add_sheet_once news book properties
   by_kind_once (request.DeleteSheet sheet) = λ told told' is is'. is ∙ sym is'
@@ -102,11 +146,14 @@ module _ (news : NewSheetsOnce) (writes : WritesOnce) (apart : ChangesApart) (tu
   by_kind_once (request.DeleteProtectedRange id) = λ told told' is is'. is ∙ sym is'
   by_kind_once (request.SetBasicFilter filter) = refused_once _
   by_kind_once (request.ClearBasicFilter sheet) = refused_once _
-  by_kind_once (request.CreateDeveloperMetadata item) = refused_once _
-  by_kind_once (request.UpdateDeveloperMetadata filters patch) = refused_once _
-  by_kind_once (request.DeleteDeveloperMetadata filter) = refused_once _
+  by_kind_once (request.CreateDeveloperMetadata item) =
+      item_created_once project book item (first_broken (metadata_created_broken item book))
+  by_kind_once (request.UpdateDeveloperMetadata filters patch) =
+      items_updated_once project book filters patch (first_broken (metadata_updated_broken filters patch book))
+  by_kind_once (request.DeleteDeveloperMetadata filter) =
+      items_deleted_once project book filter (first_broken (broken_by_lookups book.sheets (filter ∷ [])))
 
-  pub requested_once : (asked : Step) → IsOne (IsRequested user book asked)
+  pub requested_once : (asked : Step) → IsOne (IsRequested user project book asked)
   requested_once (step.Read asked) = unless_once user book (TouchedCells book.sheets asked)
-      (IsDoneByKind user book asked) (by_kind_once asked)
+      (IsDoneByKind user project book asked) (by_kind_once asked)
   requested_once (step.Shape shape) = refused_once _

@@ -5,12 +5,14 @@ use Rattle.std.specs.Prelude.{Option, None, Some, unwrap_or, Result, Ok, Err, Ma
 use Rattle.cell_value.specs.declared.cell.Block.{Block}
 use Rattle.grid_range.specs.declared.area.Area.{Area}
 use Rattle.protection.specs.Denial.{Cells}
+use Rattle.dev_metadata.specs.Listed.{not_found}
+use Rattle.dev_metadata.specs.declared.types.Item.{Item}
 use Rattle.protection.specs.Listed.{with_one_more, without_id}
 use Rattle.protection.specs.declared.range.Protection.{Protection}
 use Rattle.protection.specs.declared.range.ProtectionPatch.{ProtectionPatch}
 use Rattle.world_model.specs.Book.{PlaceBook}
 use Rattle.world_model.specs.BookChange.{BookChange}
-use Rattle.world_model.specs.BookChange.BookChange.{ProtectionsSet, RangeAdded, RangeDeleted, SheetDeleted}
+use Rattle.world_model.specs.BookChange.BookChange.{ProtectionsSet, RangeAdded, RangeDeleted, SheetDeleted, MetadataSet}
 use Rattle.world_model.specs.ChangingLaws.{ChangesApart, ChangesInTurn}
 use Rattle.dimension_ops.specs.Broken.{Broken, first_broken, judged_by}
 use Rattle.dimension_ops.specs.RangeRequests.{range_of, range_updates}
@@ -30,6 +32,14 @@ use Rattle.batch_engine.specs.AddNamedRange.{IsRangePut, names_broken, put_behin
 use Rattle.batch_engine.specs.AddProtectedRange.{IsProtectionAdded, protection_added_broken, protection_made, put_among}
 use Rattle.batch_engine.specs.AddSheet.{any_properties}
 use Rattle.batch_engine.specs.DeleteNamedRange.{range_deleted_broken}
+use Rattle.json_requests.specs.declared.request.MetadataLookup.{MetadataLookup}
+use Rattle.json_requests.specs.declared.request.MetadataPatch.{MetadataPatch}
+use Rattle.json_requests.specs.declared.request.NewMetadata.{NewMetadata}
+use Rattle.batch_engine.specs.CreateDeveloperMetadata.{IsMetadataCreated, item_made, item_put, metadata_created_broken, with_item}
+use Rattle.batch_engine.specs.DeleteDeveloperMetadata.{IsMetadataDeleted}
+use Rattle.batch_engine.specs.Metadata.{broken_by_lookups, lookup_of}
+use Rattle.batch_engine.specs.Telling.{UnlessBroken}
+use Rattle.batch_engine.specs.UpdateDeveloperMetadata.{IsMetadataUpdated, metadata_updated, metadata_updated_broken}
 use Rattle.batch_engine.specs.DeleteProtectedRange.{protection_deleted_broken}
 use Rattle.batch_engine.specs.Dimensions.{MovedCells, append_broken, end_of, insert_broken, lines_there, move_broken}
 use Rattle.batch_engine.specs.Requests.{IsDoneByKind}
@@ -65,6 +75,35 @@ protection_added_leave user id patch book None reply changes (new, is_new, is) =
     subst (Leave [] NoCells book) (reply_changes (reply, changes) (put_among user book (protection_made user patch book new)) is)
     (protections_leave book (with_one_more (protection_made user patch book new) book.protections))
 
+metadata_leaves : (book : PlaceBook) (items : List Item) → Leave [] NoCells book (MetadataSet items ∷ [])
+metadata_leaves book items = plain_leave NoCells book (MetadataSet items) (λ named id row col. tt) (λ id. tt)
+
+item_created_leaves : (project : List ℕ) (asked : NewMetadata) (book : PlaceBook) (first : Option Rule) (reply : Reply)
+    (changes : List BookChange) → UnlessBroken first (IsMetadataCreated project asked book) (as_reply (reply, changes))
+    → Leave [] NoCells book changes
+item_created_leaves project asked book (Some broken) reply changes is = absurd (reply_apart (reply, changes) broken is)
+item_created_leaves project asked book None reply changes is =
+    subst (Leave [] NoCells book)
+    (reply_changes (reply, changes) (item_put book (item_made project asked is.id)) is.told_is)
+    (metadata_leaves book (with_item (item_made project asked is.id) book.metadata))
+
+items_updated_leave : (project : List ℕ) (asked : List MetadataLookup) (patch : MetadataPatch) (book : PlaceBook)
+    (first : Option Rule) (reply : Reply) (changes : List BookChange)
+    → UnlessBroken first (IsMetadataUpdated project asked patch book) (as_reply (reply, changes))
+    → Leave [] NoCells book changes
+items_updated_leave project asked patch book (Some broken) reply changes is = absurd (reply_apart (reply, changes) broken is)
+items_updated_leave project asked patch book None reply changes is =
+    subst (Leave [] NoCells book) (reply_changes (reply, changes) _ is.told_is)
+    (metadata_leaves book (metadata_updated project asked patch book))
+
+items_deleted_leave : (project : List ℕ) (asked : MetadataLookup) (book : PlaceBook) (first : Option Rule) (reply : Reply)
+    (changes : List BookChange) → UnlessBroken first (IsMetadataDeleted project asked book) (as_reply (reply, changes))
+    → Leave [] NoCells book changes
+items_deleted_leave project asked book (Some broken) reply changes is = absurd (reply_apart (reply, changes) broken is)
+items_deleted_leave project asked book None reply changes is =
+    subst (Leave [] NoCells book) (reply_changes (reply, changes) _ is.told_is)
+    (metadata_leaves book (not_found (lookup_of asked) project book.metadata))
+
 -- ---- named ranges
 
 range_put_leave : (asked : NewNamedRange) (book : PlaceBook) (area : Area) (reply : Reply) (changes : List BookChange)
@@ -98,7 +137,7 @@ update_range_leave id name (Some area) book reply changes is =
 
 -- ---- kinds
 
-module _ (apart : ChangesApart) (turns : ChangesInTurn) (user : List ℕ) (book : PlaceBook) (reply : Reply)
+module _ (apart : ChangesApart) (turns : ChangesInTurn) (user project : List ℕ) (book : PlaceBook) (reply : Reply)
     (changes : List BookChange) where
   abbrev Leaves : Cells → Type 0
   Leaves cells = Leave [] cells book changes
@@ -111,7 +150,7 @@ module _ (apart : ChangesApart) (turns : ChangesInTurn) (user : List ℕ) (book 
   update_cells_leave rows (Start cell) is = cells_from_leave apart turns rows cell book reply changes is
   update_cells_leave rows (Range range) is = range_leave rows range book reply changes is
 
-  pub by_kind_leave : (asked : Request) → appends_rows asked ≡ false → IsDoneByKind user book asked (as_reply (reply, changes))
+  pub by_kind_leave : (asked : Request) → appends_rows asked ≡ false → IsDoneByKind user project book asked (as_reply (reply, changes))
       → Leaves (TouchedCells book.sheets asked)
   by_kind_leave (request.UpdateCells rows area) none is = update_cells_leave rows area is
   by_kind_leave (request.AppendCells sheet rows) none is = absurd (false≢true (sym none))
@@ -155,6 +194,10 @@ module _ (apart : ChangesApart) (turns : ChangesInTurn) (user : List ℕ) (book 
       (ProtectionsSet (without_id id book.protections) ∷ []) (protections_leave book (without_id id book.protections)) is
   by_kind_leave (request.SetBasicFilter filter) none is = refused NoCells rule.Unsupported is
   by_kind_leave (request.ClearBasicFilter sheet) none is = refused NoCells rule.Unsupported is
-  by_kind_leave (request.CreateDeveloperMetadata item) none is = refused NoCells rule.Unsupported is
-  by_kind_leave (request.UpdateDeveloperMetadata filters patch) none is = refused NoCells rule.Unsupported is
-  by_kind_leave (request.DeleteDeveloperMetadata filter) none is = refused NoCells rule.Unsupported is
+  by_kind_leave (request.CreateDeveloperMetadata item) none is =
+      item_created_leaves project item book (first_broken (metadata_created_broken item book)) reply changes is
+  by_kind_leave (request.UpdateDeveloperMetadata filters patch) none is =
+      items_updated_leave project filters patch book (first_broken (metadata_updated_broken filters patch book)) reply
+      changes is
+  by_kind_leave (request.DeleteDeveloperMetadata filter) none is =
+      items_deleted_leave project filter book (first_broken (broken_by_lookups book.sheets (filter ∷ []))) reply changes is

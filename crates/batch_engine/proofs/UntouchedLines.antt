@@ -19,7 +19,7 @@ use Rattle.world_model.specs.Area.{area_named}
 use Rattle.world_model.specs.Book.{NameBook, orders_of, sheet_with}
 use Rattle.world_model.specs.BookChange.{BookChange, Named, changed_by, marked_hidden, merged, new_sheet, sheet_renamed, titled, without_references}
 use Rattle.world_model.specs.BookChange.BookChange.{CellsUpdated, LinesChanged, SheetAdded, SheetDeleted, SheetTitled, SheetHidden}
-use Rattle.world_model.specs.BookChange.BookChange.{RangeAdded, RangeChanged, RangeDeleted, WordsRenamed, MergesSet, ProtectionsSet}
+use Rattle.world_model.specs.BookChange.BookChange.{RangeAdded, RangeChanged, RangeDeleted, WordsRenamed, MergesSet, ProtectionsSet, MetadataSet}
 use Rattle.world_model.specs.Leaving.{HasCell}
 use Rattle.world_model.specs.LineChange.{LineChange, line_change, sheet_followed, with_all_followed, with_lines}
 use Rattle.world_model.specs.Sheet.{NameSheet, lines_of}
@@ -142,6 +142,7 @@ KeepsSheet (RangeDeleted range) id = Unit {0}
 KeepsSheet (WordsRenamed old new) id = Unit {0}
 KeepsSheet (MergesSet sheet merges) id = Unit {0}
 KeepsSheet (ProtectionsSet protections) id = Unit {0}
+KeepsSheet (MetadataSet items) id = Unit {0}
 
 module _ (named : Named) (id : ℕ) (axis : Axis) where
   abbrev sheets : List NameSheet
@@ -174,6 +175,7 @@ module _ (named : Named) (id : ℕ) (axis : Axis) where
   lines_kept (RangeChanged range) keeps = refl
   lines_kept (RangeDeleted range) keeps = refl
   lines_kept (ProtectionsSet protections) keeps = refl
+  lines_kept (MetadataSet items) keeps = refl
 
 -- ---- a change of the lines of a sheet
 

@@ -53,4 +53,5 @@ module _ (id : ℕ) (one later both : Updates) (same : (row col : ℕ) (held : O
     sheets = sheets_both before.sheets between.sheets after.sheets first.sheets second.sheets;
     ranges = second.ranges ∙ first.ranges;
     protections = second.protections ∙ first.protections;
+    metadata = second.metadata ∙ first.metadata;
   }

@@ -1,6 +1,6 @@
 -- What a call is answered, and what it makes of the spreadsheets (Google Sheets API v4 reference, spreadsheets.create,
--- spreadsheets.get, spreadsheets.batchUpdate, spreadsheets.values.get, batchGet, update, batchUpdate, append, clear and
--- batchClear).
+-- spreadsheets.get, spreadsheets.batchUpdate, spreadsheets.values.get, batchGet, batchGetByDataFilter, update,
+-- batchUpdate, append, clear and batchClear, and spreadsheets.developerMetadata.get and search).
 use Rattle.std.specs.Prelude.{◌≡◌, ℕ, Bool, ◌==◌, ◌&&◌, List, map, flat_map, Option, Some, None, Result, Ok, Err}
 use Rattle.std.specs.Prelude.{IsSomeAnd, ⊤}
 use Rattle.std.specs.List.{sum_by}
@@ -14,12 +14,12 @@ use Rattle.world_model.specs.BookChange.{AreChanges, BookChange}
 use Rattle.dimension_ops.specs.ByName.{ReplacesByName}
 use Rattle.dimension_ops.specs.World.{book_with}
 use Rattle.dimension_ops.specs.declared.rule.Rule.{Rule}
-use Rattle.dimension_ops.specs.declared.rule.Rule.TheVariants as rule
 use Rattle.dimension_ops.specs.declared.rule.RuleOr.{RuleOr}
 use Rattle.dimension_ops.specs.declared.rule.RuleOr.TheVariants as refusal
 use Rattle.values_api.specs.declared.writing.Written.{Written}
 use Rattle.sheets_json.specs.declared.answer.Answer.{Answer}
 use Rattle.sheets_json.specs.declared.answer.Answer.TheVariants as answer
+use Rattle.sheets_json.specs.declared.answer.MatchedRange.{MatchedRange}
 use Rattle.sheets_json.specs.declared.answer.ShownRange.{ShownRange}
 use Rattle.sheets_json.specs.declared.call.Call.{Call}
 use Rattle.sheets_json.specs.declared.call.Call.TheVariants as call
@@ -28,14 +28,18 @@ use Rattle.sheets_json.specs.declared.call.RangeBlock.{RangeBlock}
 use Rattle.sheets_json.specs.declared.call.ValueRange.{ValueRange}
 use Rattle.sheets_json.specs.declared.place.Place.{Place}
 use Rattle.sheets_json.specs.declared.place.Place.TheVariants as place
+use Rattle.json_requests.specs.declared.request.DataFilter.{DataFilter}
+use Rattle.json_requests.specs.declared.request.MetadataLookup.{MetadataLookup}
 use Rattle.json_requests.specs.declared.request.Step.{Step}
 use Rattle.json_shapes.specs.Reading.{Reading}
 use Rattle.batch_engine.specs.Create.{IsCreateOf}
 use Rattle.batch_engine.specs.Effects.{Effect, IsNext}
 use Rattle.batch_engine.specs.Effects.Effect.{Nothing, Changes}
+use Rattle.batch_engine.specs.Filtered.{AreShownBy, Showing}
 use Rattle.batch_engine.specs.Looks.{looked}
 use Rattle.batch_engine.specs.Members.{InOrder, InTurn, Told}
 use Rattle.batch_engine.specs.Requests.{IsRequested}
+use Rattle.batch_engine.specs.Searches.{AreSearched, item_told, search_answer}
 use Rattle.batch_engine.specs.Values.{IsAppended, IsCleared, IsShown, IsUpdated, IsWritten, Wrote, inserts}
 use Rattle.batch_engine.specs.declared.calls.Caller.{Caller}
 use Rattle.batch_engine.specs.declared.calls.Outcome.{Outcome}
@@ -162,9 +166,31 @@ IsWriteManyOf user blocks book = AreMade (IsUpdated user) blocks place.Data (wri
 -- ---- batches
 
 -- requests are done one after another, or none is
-abbrev pub IsBatchOf : List ℕ → List Step → PlaceBook → Result Answer Refusal → Effect → Type 0
-IsBatchOf user requests book =
-    AreMade (IsRequested user) requests place.Requests (λ replies. answer.Batch replies book.id) book
+abbrev pub IsBatchOf : List ℕ → List ℕ → List Step → PlaceBook → Result Answer Refusal → Effect → Type 0
+IsBatchOf user project requests book =
+    AreMade (IsRequested user project) requests place.Requests (λ replies. answer.Batch replies book.id) book
+
+-- ---- looks at metadata
+
+abbrev pub IsItemOf : List ℕ → ℕ → PlaceBook → Result Answer Refusal → Effect → Type 0
+IsItemOf project id book told effect = (told ≡ alone (item_told project id book)) × (effect ≡ Nothing)
+
+pub record IsSearchOf (project : List ℕ) (filters : List (Reading MetadataLookup)) (book : PlaceBook)
+    (told : Result Answer Refusal) (effect : Effect) : Type 0 where
+  pub asked : Told MetadataLookup
+  pub ids : List ℕ
+  pub searched : AreSearched project filters book asked ids
+  pub told_is : told ≡ answered_at place.Filters (search_answer project ids book) asked
+  pub nothing : effect ≡ Nothing
+
+-- what each filter shows, filter by filter
+pub record IsReadFilteredOf (project : List ℕ) (filters : List (Reading DataFilter)) (how : Showing) (book : PlaceBook)
+    (told : Result Answer Refusal) (effect : Effect) : Type 0 where
+  pub shown : Told (List MatchedRange)
+  pub each : InOrder (AreShownBy project how book) 0 filters shown
+  pub told_is : told
+      ≡ answered_at place.Filters (λ all. answer.ReadFiltered book.id (flat_map (λ part. part) all)) shown
+  pub nothing : effect ≡ Nothing
 
 -- ---- calls
 
@@ -176,17 +202,13 @@ OnBook id books Holds = IsSomeAnd (book_with id books) Holds
 abbrev pub IsLookOf : List ℕ → Option Bool → PlaceBook → Result Answer Refusal → Effect → Type 0
 IsLookOf user grids book told effect = (told ≡ Ok (looked user grids book)) × (effect ≡ Nothing)
 
--- a call that isn't done yet is unsupported
-abbrev pub IsNotDone : Result Answer Refusal → Effect → Type 0
-IsNotDone told effect = (told ≡ Err (place.Alone, rule.Unsupported)) × (effect ≡ Nothing)
-
 -- the call of its caller is answered so, or breaks that rule there, and makes that of the spreadsheets
 abbrev pub IsAnswered : Caller → Call → List PlaceBook → Result Answer Refusal → Effect → Type 0
 IsAnswered caller (call.Create spreadsheet) books told effect =
     IsAlone (IsCreateOf caller.user spreadsheet books) told effect
 IsAnswered caller (call.Get id grids) books told effect = OnBook id books (λ book. IsLookOf caller.user grids book told effect)
 IsAnswered caller (call.Batch id requests) books told effect =
-    OnBook id books (λ book. IsBatchOf caller.user requests book told effect)
+    OnBook id books (λ book. IsBatchOf caller.user caller.project requests book told effect)
 IsAnswered caller (call.Read id range dimension render) books told effect =
     OnBook id books (λ book. IsAlone (IsReadOf range dimension render book) told effect)
 IsAnswered caller (call.Write id range mode values) books told effect =
@@ -201,9 +223,13 @@ IsAnswered caller (call.WriteMany id mode blocks) books told effect =
     OnBook id books (λ book. IsWriteManyOf caller.user blocks book told effect)
 IsAnswered caller (call.ClearMany id ranges) books told effect =
     OnBook id books (λ book. IsClearManyOf caller.user ranges book told effect)
-IsAnswered caller (call.ReadFiltered id filters dimension render) books told effect = IsNotDone told effect
-IsAnswered caller (call.Item id item) books told effect = IsNotDone told effect
-IsAnswered caller (call.Search id filters) books told effect = IsNotDone told effect
+IsAnswered caller (call.ReadFiltered id filters dimension render) books told effect =
+    let how : Showing = record { dimension = dimension; render = render } in
+    OnBook id books (λ book. IsReadFilteredOf caller.project filters how book told effect)
+IsAnswered caller (call.Item id item) books told effect =
+    OnBook id books (λ book. IsItemOf caller.project item book told effect)
+IsAnswered caller (call.Search id filters) books told effect =
+    OnBook id books (λ book. IsSearchOf caller.project filters book told effect)
 
 -- the spreadsheet that a call is on is there; one that makes a spreadsheet is on none
 abbrev pub HasItsBook : Call → List PlaceBook → Type 0

@@ -22,6 +22,12 @@ pub mod UnmergeCells
 pub mod AddProtectedRange
 pub mod UpdateProtectedRange
 pub mod DeleteProtectedRange
+pub mod Metadata
+pub mod CreateDeveloperMetadata
+pub mod UpdateDeveloperMetadata
+pub mod DeleteDeveloperMetadata
+pub mod Searches
+pub mod Filtered
 pub mod Touching
 pub mod Requests
 pub mod Calls

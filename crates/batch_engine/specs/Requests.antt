@@ -1,6 +1,7 @@
--- A batch of a user's requests (Google Sheets API v4 reference, spreadsheets.batchUpdate): each is done on what those
--- before it leave, and the first that breaks a rule refuses all of them. Each kind of request says its reply, what it
--- changes, the rules that it breaks and the cells that it touches in a file of its own.
+-- A batch of requests of a user, and of the project under which metadata is seen (Google Sheets API v4 reference,
+-- spreadsheets.batchUpdate): each is done on what those before it leave, and the first that breaks a rule refuses all
+-- of them. Each kind of request says its reply, what it changes, the rules that it breaks and the cells that it
+-- touches in a file of its own.
 use Rattle.std.specs.Prelude.{◌≡◌, ℕ, false, List, unwrap_or, Result, Err}
 use Rattle.world_model.specs.Book.{PlaceBook}
 use Rattle.world_model.specs.BookChange.{BookChange}
@@ -16,6 +17,8 @@ use Rattle.batch_engine.specs.AddNamedRange.{IsAddNamedRange}
 use Rattle.batch_engine.specs.AddProtectedRange.{IsAddProtectedRange}
 use Rattle.batch_engine.specs.AddSheet.{IsAddSheet}
 use Rattle.batch_engine.specs.AppendCells.{IsAppendCells}
+use Rattle.batch_engine.specs.CreateDeveloperMetadata.{IsCreateDeveloperMetadata}
+use Rattle.batch_engine.specs.DeleteDeveloperMetadata.{IsDeleteDeveloperMetadata}
 use Rattle.batch_engine.specs.DeleteNamedRange.{range_deleted}
 use Rattle.batch_engine.specs.DeleteProtectedRange.{protection_deleted}
 use Rattle.batch_engine.specs.DeleteSheet.{IsDeleteSheet}
@@ -24,6 +27,7 @@ use Rattle.batch_engine.specs.MergeCells.{IsMergeCells}
 use Rattle.batch_engine.specs.Touching.{TouchedCells}
 use Rattle.batch_engine.specs.UnmergeCells.{IsUnmergeCells}
 use Rattle.batch_engine.specs.UpdateCells.{IsUpdateCells}
+use Rattle.batch_engine.specs.UpdateDeveloperMetadata.{IsUpdateDeveloperMetadata}
 use Rattle.batch_engine.specs.UpdateNamedRange.{IsUpdateNamedRange}
 use Rattle.batch_engine.specs.UpdateProtectedRange.{protection_updated}
 use Rattle.batch_engine.specs.UpdateSheetProperties.{sheet_properties_updated}
@@ -31,35 +35,43 @@ use Rattle.batch_engine.specs.Values.{rule_of}
 
 -- what a user's request is replied, or which rule it breaks, and what it changes, whatever cells are denied; no other
 -- kind is done yet
-abbrev pub IsDoneByKind : List ℕ → PlaceBook → Request → Result (Reply × List BookChange) Rule → Type 0
-IsDoneByKind user book (request.UpdateCells rows area) told = IsUpdateCells rows area book told
-IsDoneByKind user book (request.AppendCells sheet rows) told = IsAppendCells user sheet rows book told
-IsDoneByKind user book (request.AddSheet properties) told = IsAddSheet properties book told
-IsDoneByKind user book (request.DeleteSheet sheet) told = IsDeleteSheet sheet book told
-IsDoneByKind user book (request.UpdateSheetProperties sheet properties) told =
+abbrev pub IsDoneByKind : List ℕ → List ℕ → PlaceBook → Request → Result (Reply × List BookChange) Rule → Type 0
+IsDoneByKind user project book (request.UpdateCells rows area) told = IsUpdateCells rows area book told
+IsDoneByKind user project book (request.AppendCells sheet rows) told = IsAppendCells user sheet rows book told
+IsDoneByKind user project book (request.AddSheet properties) told = IsAddSheet properties book told
+IsDoneByKind user project book (request.DeleteSheet sheet) told = IsDeleteSheet sheet book told
+IsDoneByKind user project book (request.UpdateSheetProperties sheet properties) told =
     told ≡ sheet_properties_updated sheet properties book.sheets
-IsDoneByKind user book (request.InsertDimension range inherits) told =
+IsDoneByKind user project book (request.InsertDimension range inherits) told =
     told ≡ dimension_inserted range (unwrap_or inherits false) book.sheets
-IsDoneByKind user book (request.DeleteDimension range) told = told ≡ dimension_deleted range book.sheets
-IsDoneByKind user book (request.AppendDimension sheet axis length) told =
+IsDoneByKind user project book (request.DeleteDimension range) told = told ≡ dimension_deleted range book.sheets
+IsDoneByKind user project book (request.AppendDimension sheet axis length) told =
     told ≡ dimension_appended sheet axis length book.sheets
-IsDoneByKind user book (request.MoveDimension range to) told = told ≡ dimension_moved range to book.sheets
-IsDoneByKind user book (request.MergeCells range type) told = IsMergeCells range type book told
-IsDoneByKind user book (request.UnmergeCells range) told = IsUnmergeCells range book told
-IsDoneByKind user book (request.AddNamedRange range) told = IsAddNamedRange range book told
-IsDoneByKind user book (request.UpdateNamedRange id name range) told = IsUpdateNamedRange id name range book told
-IsDoneByKind user book (request.DeleteNamedRange id) told = told ≡ range_deleted id book.ranges
-IsDoneByKind user book (request.AddProtectedRange id patch) told = IsAddProtectedRange user id patch book told
-IsDoneByKind user book (request.UpdateProtectedRange id patch) told = told ≡ protection_updated user id patch book
-IsDoneByKind user book (request.DeleteProtectedRange id) told = told ≡ protection_deleted user id book
-IsDoneByKind user book _ told = told ≡ Err rule.Unsupported
+IsDoneByKind user project book (request.MoveDimension range to) told = told ≡ dimension_moved range to book.sheets
+IsDoneByKind user project book (request.MergeCells range type) told = IsMergeCells range type book told
+IsDoneByKind user project book (request.UnmergeCells range) told = IsUnmergeCells range book told
+IsDoneByKind user project book (request.AddNamedRange range) told = IsAddNamedRange range book told
+IsDoneByKind user project book (request.UpdateNamedRange id name range) told =
+    IsUpdateNamedRange id name range book told
+IsDoneByKind user project book (request.DeleteNamedRange id) told = told ≡ range_deleted id book.ranges
+IsDoneByKind user project book (request.AddProtectedRange id patch) told = IsAddProtectedRange user id patch book told
+IsDoneByKind user project book (request.UpdateProtectedRange id patch) told =
+    told ≡ protection_updated user id patch book
+IsDoneByKind user project book (request.DeleteProtectedRange id) told = told ≡ protection_deleted user id book
+IsDoneByKind user project book (request.CreateDeveloperMetadata item) told =
+    IsCreateDeveloperMetadata project item book told
+IsDoneByKind user project book (request.UpdateDeveloperMetadata filters patch) told =
+    IsUpdateDeveloperMetadata project filters patch book told
+IsDoneByKind user project book (request.DeleteDeveloperMetadata filter) told =
+    IsDeleteDeveloperMetadata project filter book told
+IsDoneByKind user project book _ told = told ≡ Err rule.Unsupported
 
 -- it is done unless a protected range denies the user a cell that it touches: both as they are before it
-abbrev pub IsDoneAsAsked : List ℕ → PlaceBook → Request → Result (Reply × List BookChange) Rule → Type 0
-IsDoneAsAsked user book asked =
-    IsUnlessDenied user book (TouchedCells book.sheets asked) (IsDoneByKind user book asked)
+abbrev pub IsDoneAsAsked : List ℕ → List ℕ → PlaceBook → Request → Result (Reply × List BookChange) Rule → Type 0
+IsDoneAsAsked user project book asked =
+    IsUnlessDenied user book (TouchedCells book.sheets asked) (IsDoneByKind user project book asked)
 
 -- a request whose shape is broken is refused in its turn
-abbrev pub IsRequested : List ℕ → PlaceBook → Step → Result (Reply × List BookChange) Rule → Type 0
-IsRequested user book (step.Read asked) told = IsDoneAsAsked user book asked told
-IsRequested user book (step.Shape shape) told = told ≡ Err (rule_of shape)
+abbrev pub IsRequested : List ℕ → List ℕ → PlaceBook → Step → Result (Reply × List BookChange) Rule → Type 0
+IsRequested user project book (step.Read asked) told = IsDoneAsAsked user project book asked told
+IsRequested user project book (step.Shape shape) told = told ≡ Err (rule_of shape)

@@ -29,8 +29,8 @@ appends_rows (request.AppendCells sheet rows) = true
 appends_rows _ = false
 
 pub record UntouchedCellsKeep : Type 0 where
-  pub request : (user : List ℕ) (book : PlaceBook) (asked : Request) (reply : Reply) (changes : List BookChange)
-      → appends_rows asked ≡ false → IsDoneByKind user book asked (Ok (reply, changes))
+  pub request : (user project : List ℕ) (book : PlaceBook) (asked : Request) (reply : Reply) (changes : List BookChange)
+      → appends_rows asked ≡ false → IsDoneByKind user project book asked (Ok (reply, changes))
       → LeavesOthers [] (TouchedCells book.sheets asked) book changes
   pub rows : (user : List ℕ) (sheet at count : ℕ) (rows : Block) (book : PlaceBook) (area : Area) (reply : Reply)
       (changes : List BookChange)

@@ -6,6 +6,7 @@ ghost use Rattle.values_api.specs.Ranges.{IsThere};
 ghost use Rattle.values_api.specs.Sheets.{stored_in};
 ghost use Rattle.batch_engine.specs.Calls.{IsChange, IsReadOf, IsClearOf, IsWriteOf};
 ghost use Rattle.batch_engine.specs.Effects.Effect.{Nothing};
+ghost use Rattle.batch_engine.specs.Filtered.{IsShownAs};
 ghost use Rattle.batch_engine.specs.Members.{IsDoneTo};
 ghost use Rattle.batch_engine.specs.Values.{is_columns, axis_or_rows, render_or_formatted, unless_empty, update_of, rule_of, IsShown, IsCleared, IsWritten, IsUpdated, IsUpdate};
 
@@ -51,11 +52,28 @@ pub(crate) fn shown(
     ensures table { OnOk result (IsTableOf (stored_in book.now) table.new) }
 {
     let (area, _) = resolve(alloc, book, range)?;
+    Ok(shown_area(alloc, book, table, &area, dimension, render)?)
+}
+
+/// What a read of an area shows. The table comes to tell the values that are shown.
+pub(crate) fn shown_area(
+    alloc: Global,
+    book: &Book,
+    table: &mut Table,
+    area: &Area,
+    dimension: Option<Axis>,
+    render: Option<Render>,
+) -> Result<ShownRange, NoMemory>
+    requires there { IsThere book.now.sheets area.now }
+    requires table { IsTableOf (stored_in book.now) table.old }
+    ensures shown { IfOk result (IsShownAs (record { dimension = dimension; render = render }) book.now area.now) }
+    ensures table { OnOk result (IsTableOf (stored_in book.now) table.new) }
+{
     let (axis, render) = (axis_or_rows(dimension), render_or_formatted(render));
-    calculate_shown(alloc, book, table, &area, render)?;
-    let shown = read_values(alloc, book, table, &area, is_columns(axis), render)?;
+    calculate_shown(alloc, book, table, area, render)?;
+    let shown = read_values(alloc, book, table, area, is_columns(axis), render)?;
     Ok(ShownRange {
-        range: range_text(alloc, book, &area)?,
+        range: range_text(alloc, book, area)?,
         major_dimension: axis,
         values: unless_empty(shown.values),
     })

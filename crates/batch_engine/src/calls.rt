@@ -8,8 +8,10 @@ use crate::answers::{clear, read, write};
 use crate::appends::append;
 use crate::batch::batch;
 use crate::create::create;
+use crate::filtered::read_filtered;
 use crate::lists::{Refusal, clear_many, read_many, write_many};
 use crate::looks::look;
+use crate::searches::{item, search};
 use cell_value::{Duplicate, NoMemory, Text};
 use dimension_ops::{Book, Rule, RuleOr, World};
 use sheets_json::{Answer, Call, Place};
@@ -48,12 +50,10 @@ pub struct Applied {
     pub outcome: Outcome,
 }
 
-/// Makes a call of its caller on the spreadsheets, which stay as they are: what they are after it is told. New
-/// spreadsheets, looks at one, batches of requests, appends, and reads, writes and clears of one range and of a
-/// list of them are done (Sheets API v4 reference, spreadsheets.create, spreadsheets.get, spreadsheets.batchUpdate
-/// and spreadsheets.values); another call, and a request of a kind that isn't done, is refused as
-/// [`Rule::Unsupported`]. A batch and a list are done in their order, each member on what those before it leave,
-/// and the first member that breaks a rule refuses the call.
+/// Makes a call of its caller on the spreadsheets, which stay as they are: what they are after it is told (Sheets API
+/// v4 reference, spreadsheets, spreadsheets.values and spreadsheets.developerMetadata). A request of a kind that isn't
+/// done is refused as [`Rule::Unsupported`]. A batch and a list are done in their order, each member on what those
+/// before it leave, and the first member that breaks a rule refuses the call.
 ///
 /// # Errors
 ///
@@ -133,7 +133,11 @@ pub fn apply(
         Call::Batch { id, requests } => {
             let book = book_of(world, id.as_str());
             let user = caller.user.as_str();
-            changed(world, batch(alloc, book, user, requests.as_slice())?)
+            let project = caller.project.as_str();
+            changed(
+                world,
+                batch(alloc, book, user, project, requests.as_slice())?,
+            )
         }
         Call::Get {
             id,
@@ -147,8 +151,29 @@ pub fn apply(
             let told = judged(create(alloc, world, caller.user.as_str(), spreadsheet))?;
             Ok(made(alone(told)))
         }
-        Call::ReadFiltered { .. } | Call::Item { .. } | Call::Search { .. } => {
-            Ok(unchanged(Err((Place::Alone, Rule::Unsupported))))
+        Call::ReadFiltered {
+            id,
+            data_filters,
+            major_dimension,
+            value_render_option,
+        } => {
+            let book = book_of(world, id.as_str());
+            let project = caller.project.as_str();
+            let filters = data_filters.as_slice();
+            let (dimension, render) = (*major_dimension, *value_render_option);
+            let told = read_filtered(alloc, book, project, filters, dimension, render)?;
+            Ok(unchanged(told))
+        }
+        Call::Item { id, metadata_id } => {
+            let book = book_of(world, id.as_str());
+            let project = caller.project.as_str();
+            let told = judged(item(book, project, *metadata_id))?;
+            Ok(unchanged(alone(told)))
+        }
+        Call::Search { id, data_filters } => {
+            let book = book_of(world, id.as_str());
+            let project = caller.project.as_str();
+            Ok(unchanged(search(alloc, book, project, data_filters.as_slice())?))
         }
     }
 }

@@ -7,6 +7,8 @@ mod add_protected_range;
 mod add_sheet;
 mod append_cells;
 mod areas;
+mod create_developer_metadata;
+mod delete_developer_metadata;
 mod delete_named_range;
 mod delete_protected_range;
 mod delete_sheet;
@@ -18,6 +20,7 @@ mod protections;
 mod touching;
 mod unmerge_cells;
 mod update_cells;
+mod update_developer_metadata;
 mod update_named_range;
 mod update_protected_range;
 mod update_sheet_properties;
@@ -26,11 +29,16 @@ use add_named_range::add_named_range;
 use add_protected_range::add_protected_range;
 use add_sheet::add_sheet;
 use append_cells::append_cells;
+pub(crate) use areas::area_on;
+use create_developer_metadata::create_developer_metadata;
+use delete_developer_metadata::delete_developer_metadata;
 use delete_named_range::delete_named_range;
 use delete_protected_range::delete_protected_range;
 use delete_sheet::delete_sheet;
 use dimension_ops::{Book, Rule, RuleOr};
+pub(crate) use dimensions::{end_of, lines_area, lines_of, whole_sheet};
 use dimensions::{append_dimension, delete_dimension, insert_dimension, move_dimension};
+pub(crate) use given::given_text;
 use merge_cells::merge_cells;
 pub(crate) use protections::shown_protections;
 use sheets_json::{Reply, Request};
@@ -38,11 +46,13 @@ use std::alloc::Global;
 use touching::denial;
 use unmerge_cells::unmerge_cells;
 use update_cells::update_cells;
+use update_developer_metadata::update_developer_metadata;
 use update_named_range::update_named_range;
 use update_protected_range::update_protected_range;
 use update_sheet_properties::update_sheet_properties;
 
-/// Does what a user's request asks for, unless a protected range denies him a cell that it touches: its reply.
+/// Does what a request of a user and a project asks for, unless a protected range denies the user a cell that it
+/// touches: its reply.
 ///
 /// # Errors
 ///
@@ -52,12 +62,14 @@ pub(crate) fn done(
     alloc: Global,
     book: &mut Book,
     user: &str,
+    project: &str,
     request: &Request,
 ) -> Result<Reply, RuleOr>
-    ensures { IsUnlessNoMemory (IsDoneTo (IsDoneAsAsked user.now book.old request.now) book.old book.new) result }
+    ensures { IsUnlessNoMemory (IsDoneTo (IsDoneAsAsked user.now project.now book.old request.now)
+        book.old book.new) result }
 {
     let denied = denial(alloc, book, user, request)?;
-    let reply = done_by_kind(alloc, book, user, request)?;
+    let reply = done_by_kind(alloc, book, user, project, request)?;
     match denied {
         None => Ok(reply),
         Some(id) => Err(RuleOr::Rule(Rule::Protected(id))),
@@ -69,9 +81,11 @@ fn done_by_kind(
     alloc: Global,
     book: &mut Book,
     user: &str,
+    project: &str,
     request: &Request,
 ) -> Result<Reply, RuleOr>
-    ensures { IsUnlessNoMemory (IsDoneTo (IsDoneByKind user.now book.old request.now) book.old book.new) result }
+    ensures { IsUnlessNoMemory (IsDoneTo (IsDoneByKind user.now project.now book.old request.now)
+        book.old book.new) result }
 {
     match request {
         Request::UpdateCells { rows, area } => update_cells(alloc, book, rows, *area),
@@ -117,6 +131,19 @@ fn done_by_kind(
         } => update_protected_range(alloc, book, user, *protected_range_id, patch),
         Request::DeleteProtectedRange { protected_range_id } => {
             delete_protected_range(book, user, *protected_range_id)
+        }
+        Request::CreateDeveloperMetadata { developer_metadata } => {
+            create_developer_metadata(alloc, book, project, developer_metadata)
+        }
+        Request::UpdateDeveloperMetadata {
+            data_filters,
+            developer_metadata,
+        } => {
+            let filters = data_filters.as_slice();
+            update_developer_metadata(alloc, book, project, filters, developer_metadata)
+        }
+        Request::DeleteDeveloperMetadata { data_filter } => {
+            delete_developer_metadata(book, project, data_filter)
         }
         _ => Err(RuleOr::Rule(Rule::Unsupported)),
     }

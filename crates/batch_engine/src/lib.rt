@@ -7,10 +7,13 @@ mod appends;
 mod batch;
 mod calls;
 mod create;
+mod filtered;
 mod kinds;
 mod laws;
 mod lists;
 mod looks;
+mod metadata;
+mod searches;
 mod targets;
 mod totals;
 

@@ -59,8 +59,8 @@ added : (told : List Noted) (b : Bool) (e : Entry)
 added told true e = entries_entry told e
 added told false e = refl
 
-module _ {E K W : Type 0} (plain : List Entry → Ask → Outcome → Type 0) (failures : K → ℕ) (steady : K → Bool)
-    (desk : Desk E K W) (users : UserTable) (one_caller : callers_at desk ≡ 1)
+module _ {E K W A : Type 0} (plain : List Entry → Ask → Outcome → Type 0) (failures : K → ℕ) (steady : K → Bool)
+    (desk : Desk E K W A) (users : UserTable) (one_caller : callers_at desk ≡ 1)
     (opened : pair_at desk ≡ (LONGEST_JOURNAL, 0)) (never : (keeper : K) → failures keeper ≡ 0) where
   answer_alone : (before : List Noted) (wire : Wire) (after : List Noted) (response : List ℕ)
       → IsAnswer plain failures steady desk users 0 before wire after response

@@ -79,8 +79,8 @@ anyway : {A : Type 0} {P : A → Type 0} (o : Option A) → ((a : A) → P a) �
 anyway None always = tt
 anyway (Some a) always = always a
 
-module _ {E K W : Type 0} (plain : List Entry → Ask → Outcome → Type 0) (failures : K → ℕ) (steady : K → Bool)
-    (desk : Desk E K W) (users : UserTable) (caller : ℕ) where
+module _ {E K W A : Type 0} (plain : List Entry → Ask → Outcome → Type 0) (failures : K → ℕ) (steady : K → Bool)
+    (desk : Desk E K W A) (users : UserTable) (caller : ℕ) where
   -- what is said of a call's reply is said of an answer
   pub said_answer : (before : List Noted) (wire : Wire) (after : List Noted) (reply : Reply) (ask : Ask)
       → ask ≡ ask_of users wire → IsCallAt plain (pair_at desk) (callers_at desk) caller ask before after reply

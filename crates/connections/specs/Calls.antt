@@ -36,8 +36,8 @@ response_of close reply =
 
 -- A request of this caller is answered by a call at a point of the desk's list: the caller had seen the items before,
 -- and has then seen those after. `failures` and `steady` are what a keeper tells of its faults.
-pub record IsAnswer {E K W : Type 0} (plain : List Entry → Ask → Outcome → Type 0) (failures : K → ℕ)
-    (steady : K → Bool) (desk : Desk E K W) (users : UserTable) (caller : ℕ) (before : List Noted) (wire : Wire)
+pub record IsAnswer {E K W A : Type 0} (plain : List Entry → Ask → Outcome → Type 0) (failures : K → ℕ)
+    (steady : K → Bool) (desk : Desk E K W A) (users : UserTable) (caller : ℕ) (before : List Noted) (wire : Wire)
     (after : List Noted) (response : List ℕ) : Type 0 where
   pub reply : Reply
   pub call : IsCallAt plain (pair_at desk) (callers_at desk) caller (ask_of users wire) before after reply
@@ -47,7 +47,7 @@ pub record IsAnswer {E K W : Type 0} (plain : List Entry → Ask → Outcome →
   pub response_is : response ≡ response_of wire.close reply
 
 -- who calls a desk for a connection: the desk, the users, and the pass
-pub record Calling (E K W : Type 0) : Type 0 where
-  pub desk : Desk E K W
+pub record Calling (E K W A : Type 0) : Type 0 where
+  pub desk : Desk E K W A
   pub users : UserTable
   pub pass : Pass Noted

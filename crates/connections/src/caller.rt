@@ -33,7 +33,7 @@ impl<'a, E: Engine, K: Keeper> Model for Caller<'a, E, K> {
     ghost use Rattle.desk.specs.Desks.{IsPass};
     ghost use Rattle.connections.specs.Calls.{Calling};
 
-    ghost Value = { Calling E K E.World };
+    ghost Value = { Calling E K E.World E.Asked };
 
     ghost view = { λ c. record { desk = c.desk.now; users = c.users.now; pass = c.pass } };
 

@@ -7,17 +7,17 @@ use Rattle.desk.specs.declared.desk.Desk.{Desk}
 use Rattle.desk.specs.Points.{list_of, pair_of, caller_of}
 
 -- the list at the opening
-abbrev pub list_at : {E K W : Type 0} → Desk E K W → List Noted
+abbrev pub list_at : {E K W A : Type 0} → Desk E K W A → List Noted
 list_at desk = list_of (opened_with desk.lock)
 
 -- the journal's limit, and the keeper's count of faults at the opening
-abbrev pub pair_at : {E K W : Type 0} → Desk E K W → ℕ × ℕ
+abbrev pub pair_at : {E K W A : Type 0} → Desk E K W A → ℕ × ℕ
 pair_at desk = pair_of (opened_with desk.lock)
 
 -- how many numbers of passes there are
-abbrev pub callers_at : {E K W : Type 0} → Desk E K W → ℕ
+abbrev pub callers_at : {E K W A : Type 0} → Desk E K W A → ℕ
 callers_at desk = callers_of desk.lock
 
 -- the pass is of this desk
-abbrev pub IsPass : {E K W : Type 0} → Desk E K W → Pass Noted → Type 0
+abbrev pub IsPass : {E K W A : Type 0} → Desk E K W A → Pass Noted → Type 0
 IsPass desk pass = IsPassOf list_of pair_of caller_of desk.lock pass

@@ -36,6 +36,7 @@ impl<E: Engine, K: Keeper> Told for State<E, K> {
 /// Each call that takes a pass requires that it is of this desk, and says so of the one that it gives back. A desk is
 /// not dropped: [`Desk::close`] gives the history and the keeper back.
 pub struct Desk<E: Engine, K: Keeper> {
+    alloc: Global,
     lock: Lock<State<E, K>>,
 }
 
@@ -67,7 +68,7 @@ impl<E: Engine, K: Keeper> Desk<E, K> {
     {
         let state = State::open(alloc, keeper, limit)?;
         match Lock::open(alloc, state, callers) {
-            Ok((lock, pass)) => Ok((Desk { lock }, pass)),
+            Ok((lock, pass)) => Ok((Desk { alloc, lock }, pass)),
             Err((state, none)) => Err((none, state.into_keeper())),
         }
     }
@@ -138,7 +139,8 @@ impl<E: Engine, K: Keeper> Desk<E, K> {
     }
 
     /// Makes one call at a point of the history, whatever other passes do meanwhile. The pass has then seen all items
-    /// up to its own. No clause says that the wait for the turn ends.
+    /// up to its own. The ask is read before the wait for the turn, and what was read is let go of behind it. No clause
+    /// says that the wait ends.
     pub fn call<R: Wait>(&self, rt: &R, pass: Pass, ask: &Ask) -> (Pass, Reply)
         requires { IsPass self.now pass }
         ensures pass { IsPass self.now result.0 }
@@ -152,9 +154,10 @@ impl<E: Engine, K: Keeper> Desk<E, K> {
         // The counts of faults are those of a keeper before the call and after it: a steady one is never unavailable.
         ensures faults { (before : K) × (after : K) × AreCountsOf K.failures K.steady result.1.faults before after }
     {
+        let asked = E::read(self.alloc, ask);
         let caller = pass.number();
         let (turn, mut state) = self.lock.take(rt, pass);
-        let reply = state.step(caller, ask);
+        let reply = state.step(caller, ask, &asked);
         (self.lock.leave(turn, state), reply)
     }
 
@@ -189,7 +192,7 @@ impl<E: Engine, K: Keeper> Desk<E, K> {
         ensures { IsClosed (list_at self) (pair_at self).1 (callers_at self) pass result.0 (K.failures result.1)
             (K.kept result.1) }
     {
-        let Desk { lock } = self;
+        let Desk { alloc: _, lock } = self;
         lock.close(rt, pass).into_history()
     }
 }

@@ -24,6 +24,12 @@ pub trait Engine {
     /// What the calls of a history made.
     type World: Drop;
 
+    /// What is read of an ask, whatever the world is.
+    type Asked: Drop;
+
+    /// It is what is read of the ask.
+    ghost reads: { Ask → Self.Asked → Type 0 };
+
     /// What one thread answers an ask behind a history, and whether it accepts it.
     ghost plain: { List Entry → Ask → Outcome → Type 0 };
 
@@ -41,7 +47,15 @@ pub trait Engine {
     fn opening(alloc: Global) -> Result<Self::World, NoMemory>
         ensures { IfOk result (λ world. stands world []) };
 
-    /// Answers an ask on a world, which stays as it is. A world is told exactly where the ask is accepted.
+    /// Reads an ask, before there is a world to answer it on.
+    ///
+    /// # Errors
+    ///
+    /// [`NoMemory`] where memory runs out.
+    fn read(alloc: Global, ask: &Ask) -> Result<Self::Asked, NoMemory>
+        ensures { IfOk result (reads ask.now) };
+
+    /// Answers an ask that was read on a world, which stays as it is. A world is told exactly where the ask is accepted.
     ///
     /// # Errors
     ///
@@ -50,7 +64,9 @@ pub trait Engine {
         alloc: Global,
         world: &Self::World,
         ask: &Ask,
+        asked: &Self::Asked,
     ) -> Result<Answered<Self::World>, NoMemory>
+        requires { reads ask.now asked.now }
         ensures { (entries : List Entry) → stands world.now entries
             → IfOk result (Answers plain stands entries ask.now) };
 

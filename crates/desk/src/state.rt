@@ -74,10 +74,11 @@ impl<E: Engine, K: Keeper> State<E, K> {
         }
     }
 
-    /// Makes one call, at the end of the list. It is answered 503 only where the keeper's count of faults rose in it.
-    /// Its reply is made before the keeper's put, and after the put no memory is taken. After an answer 507 the bytes
-    /// that are kept are as they were.
-    pub fn step(&mut self, caller: u32, ask: &Ask) -> Reply
+    /// Makes one call, at the end of the list, by what was read of its ask; where memory ran out as it was read it is
+    /// answered 507. It is answered 503 only where the keeper's count of faults rose in it. Its reply is made before the
+    /// keeper's put, and after the put no memory is taken. After an answer 507 the bytes that are kept are as they were.
+    pub fn step(&mut self, caller: u32, ask: &Ask, asked: &Result<E::Asked, NoMemory>) -> Reply
+        requires { IfOk asked.now (E.reads ask.now) }
         ensures happens { Happens E.plain self.old.pair caller ask.now self.old.list self.new.list result }
         ensures pair { self.new.pair ≡ self.old.pair }
 
@@ -95,7 +96,7 @@ impl<E: Engine, K: Keeper> State<E, K> {
         ensures unkept { self.new.list ≡ self.old.list → K.kept self.new.keeper ≡ K.kept self.old.keeper }
     {
         E::served_outcomes();
-        match self.answer(caller, ask) {
+        match self.answer(caller, ask, asked) {
             Ok(reply) => reply,
             Err(NoMemory) => self.reply(507, None),
         }
@@ -170,8 +171,14 @@ impl<E: Engine, K: Keeper> State<E, K> {
         }
     }
 
-    // Answers a call at the end of the list, and enters it where it is accepted.
-    fn answer(&mut self, caller: u32, ask: &Ask) -> Result<Reply, NoMemory>
+    // Answers a call at the end of the list, by what was read of its ask, and enters it where it is accepted.
+    fn answer(
+        &mut self,
+        caller: u32,
+        ask: &Ask,
+        asked: &Result<E::Asked, NoMemory>,
+    ) -> Result<Reply, NoMemory>
+        requires { IfOk asked.now (E.reads ask.now) }
         ensures happens { IfOk result (IsAnswered E.plain self.old.pair caller ask.now self.old.list self.new.list) }
         ensures pair { self.new.pair ≡ self.old.pair }
         ensures counted { IsCounted K.failures self.old × IsCounted K.failures self.new }
@@ -185,7 +192,11 @@ impl<E: Engine, K: Keeper> State<E, K> {
         ensures unmade { OnErr result (IsUnmade K.failures K.steady self.old self.new) }
     {
         E::served_outcomes();
-        let Answered { status, body, next } = E::answer(self.alloc, &self.world, ask)?;
+        let alloc = self.alloc;
+        let Ok(asked) = asked else {
+            return Err(NoMemory);
+        };
+        let Answered { status, body, next } = E::answer(alloc, &self.world, ask, asked)?;
         match next {
             None => Ok(self.reply(status, Some(body))),
             Some(world) => self.enter(caller, ask, world, status, body),

@@ -23,12 +23,20 @@ abbrev pub shown : List Entry → Ask → Outcome
 shown entries ask = record { status = 200; body = bodies entries; accepts = has_bytes ask.body }
 
 -- nobody is 401, a coded body is 400
-abbrev pub answered : Option (List ℕ) → List Entry → Ask → Outcome
-answered None entries ask = refused 401
-answered (Some user) entries ask = if ask.coded then refused 400 else shown entries ask
+abbrev pub refusal_of : Option (List ℕ) → Bool → Option ℕ
+refusal_of None coded = Some 401
+refusal_of (Some user) coded = if coded then Some 400 else None
+
+-- what is read of an ask is whether it is refused
+abbrev pub Reads : Ask → Option ℕ → Type 0
+Reads ask asked = asked ≡ refusal_of ask.user ask.coded
+
+abbrev pub answered : Option ℕ → List Entry → Ask → Outcome
+answered (Some status) entries ask = refused status
+answered None entries ask = shown entries ask
 
 abbrev pub Plain : List Entry → Ask → Outcome → Type 0
-Plain entries ask outcome = outcome ≡ answered ask.user entries ask
+Plain entries ask outcome = outcome ≡ answered (refusal_of ask.user ask.coded) entries ask
 
 -- the bytes are those that were appended
 abbrev pub Stands : List ℕ → List Entry → Type 0

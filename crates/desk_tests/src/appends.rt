@@ -8,9 +8,14 @@ use std::alloc::Global;
 pub enum Appends {}
 
 impl Engine for Appends {
-    ghost use Rattle.desk_tests.specs.Appending.{Plain, Stands, Cells};
+    ghost use Rattle.desk_tests.specs.Appending.{Plain, Stands, Cells, Reads};
 
     type World = Bytes;
+
+    // The status of its refusal, where it is refused.
+    type Asked = Option<u16>;
+
+    ghost reads = { Reads };
 
     ghost plain = { Plain };
 
@@ -22,13 +27,22 @@ impl Engine for Appends {
         Ok(Bytes::of(Vec::new(alloc)))
     }
 
-    #[tactic(auto, using(crate::proofs::Appended::bodies_more))]
-    fn answer(alloc: Global, world: &Bytes, ask: &Ask) -> Result<Answered<Bytes>, NoMemory> {
+    fn read(_alloc: Global, ask: &Ask) -> Result<Option<u16>, NoMemory> {
         if ask.user.is_none() {
-            return Ok(refuse(alloc, 401));
+            return Ok(Some(401));
         }
-        if ask.coded {
-            return Ok(refuse(alloc, 400));
+        Ok(if ask.coded { Some(400) } else { None })
+    }
+
+    #[tactic(auto, using(crate::proofs::Appended::bodies_more))]
+    fn answer(
+        alloc: Global,
+        world: &Bytes,
+        ask: &Ask,
+        asked: &Option<u16>,
+    ) -> Result<Answered<Bytes>, NoMemory> {
+        if let Some(status) = asked {
+            return Ok(refuse(alloc, *status));
         }
         let next = match ask.body.as_slice() {
             [] => None,

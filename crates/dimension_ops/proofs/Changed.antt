@@ -3,7 +3,7 @@ use Rattle.std.proofs.Common.{◌≡◌, ◌≢◌, ℕ, zero, suc, ◌+◌, ◌
 use Rattle.std.specs.Prelude.{Option, None, Some, IfSome, IsSomeAnd, map, ◌==◌}
 use Rattle.std.specs.List.{All, AllPairs, AllZip, sum_by}
 use Rattle.std.specs.Option.{option_map}
-use Rattle.std.proofs.lemmas.Bool.{cases_Bool, cond-true, cond-false, eqb-true, eq-eqb, false≢true, false_from_ne_true}
+use Rattle.std.proofs.lemmas.Bool.{and_parts, cases_Bool, cond-true, cond-false, eqb-true, eq-eqb, false≢true, false_from_ne_true}
 use Rattle.std.proofs.lemmas.List.Sums.{sum_by-cons}
 use Rattle.std.proofs.lemmas.Option.{none-some, same_Some}
 use Rattle.grid_range.specs.Area.{AreaWithin, IsWithinOn, band_on}
@@ -13,8 +13,13 @@ use Rattle.grid_range.specs.declared.area.Area.{Area}
 use Rattle.grid_range.specs.declared.axis.Axis.{Axis}
 use Rattle.grid_range.specs.declared.axis.Axis.TheVariants.{Rows, Columns}
 use Rattle.grid_range.specs.declared.change.Change.{Change}
-use Rattle.cell_store.specs.Moved.{IsRoomAfter, size_after}
+use Rattle.cell_store.specs.Moved.{IsRoomAfter, lines_on, size_after}
 use Rattle.cell_store.specs.Table.{Table, item_at}
+use Rattle.dev_metadata.specs.Following.{IsBelow, IsSpotBelow}
+use Rattle.dev_metadata.specs.Spot.{is_same_axis}
+use Rattle.dev_metadata.specs.declared.types.Item.{Item}
+use Rattle.dev_metadata.specs.declared.types.Spot.{Spot}
+use Rattle.dev_metadata.specs.declared.types.Spot.TheVariants as spot
 use Rattle.merge_ranges.specs.Following.{AreWithin}
 use Rattle.named_ranges.specs.Following.{IsRangeWithinOn}
 use Rattle.named_ranges.specs.declared.range.NamedRange.{NamedRange}
@@ -30,7 +35,7 @@ use Rattle.world_model.specs.Counts.{grid_places}
 use Rattle.world_model.specs.Laws.{size_of}
 use Rattle.world_model.specs.PlaceChange.{BookChanged, SheetChanged}
 use Rattle.world_model.specs.Sheet.{PlaceSheet}
-use Rattle.world_model.specs.Sound.{IsSheetSound, IsContentWithin, IsLineCount, IsOnSheet, IsPieceWithin, IsProtectionWithin, place_sheet_with}
+use Rattle.world_model.specs.Sound.{IsSheetSound, IsContentWithin, IsItemWithin, IsLineCount, IsOnSheet, IsPieceWithin, IsProtectionWithin, IsSpotWithin, place_sheet_with}
 use Rattle.dimension_ops.specs.Lines.{HasSizesChanged, SheetFollows, lines_of_sheet, places_changed, size_changed}
 use Rattle.dimension_ops.specs.References.{CanChange, IsContentWithinOn, TearsNone}
 
@@ -132,6 +137,16 @@ merges_within axis sheets sheet sound k d there =
     on_axis axis (get_or sheet.merges k d) sheet (sound.merges.1 k d there).1
 
 -- ---- sizes
+
+-- a line of the axis that has `count` lines
+lines_below : (axis its : Axis) (place count : ℕ) (found : Option PlaceSheet) → is_same_axis its axis ≡ true
+    → IsSomeAnd found (λ sheet. lines_of_sheet axis sheet ≡ count)
+    → IsSomeAnd found (λ sheet. place < lines_on its sheet.table.rows sheet.table.cols) → place < count
+lines_below axis its place count None same long there = absurd there
+lines_below Rows Rows place count (Some sheet) same long there = omega (arith, long, there)
+lines_below Columns Columns place count (Some sheet) same long there = omega (arith, long, there)
+lines_below Rows Columns place count (Some sheet) same long there = absurd (false≢true same)
+lines_below Columns Rows place count (Some sheet) same long there = absurd (false≢true same)
 
 module _ (id : ℕ) (axis : Axis) (count : ℕ) (change : Change) where
   abbrev Goes : PlaceSheet → PlaceSheet → Type 0
@@ -247,6 +262,19 @@ module _ (id : ℕ) (axis : Axis) (count : ℕ) (change : Change) where
       area_within (get_or protections k d).area (within k d there).0,
       λ i e inside. area_within (get_or (get_or protections k d).unprotected i e) ((within k d there).1 i e inside),
     )
+
+    -- and each item of metadata lies on a line among them, if it lies on one
+    spot_below : (one : Spot) → IsSpotWithin sheets one → IsSpotBelow id axis count one
+    spot_below spot.Spreadsheet within = tt
+    spot_below (spot.Sheet sheet) within = tt
+    spot_below (spot.Line sheet its place) within = λ is.
+        let parts = and_parts (sheet == id) (is_same_axis its axis) is in
+        lines_below axis its place count (place_sheet_with id sheets) parts.1 long
+        (subst (λ n. IsSomeAnd (place_sheet_with n sheets)
+        (λ one. place < lines_on its one.table.rows one.table.cols)) (eqb-true sheet id parts.0) within)
+
+    pub items_below : (items : List Item) → All (IsItemWithin sheets) items → All (IsBelow id axis count) items
+    items_below items within k d there = spot_below (get_or items k d).spot (within k d there)
 
     content_within : (item : Content) → IsContentWithin sheets item → IsContentWithinOn id axis count item
     content_within (content.Number number) within = tt

@@ -1,12 +1,11 @@
 -- A spreadsheet whose list of protected ranges is changed, or isn't, is sound, and has the changes that are meant.
-use Rattle.std.proofs.Common.{◌≡◌, ℕ, ◌∷◌, [], sym, ap, subst, ◌∙◌, List, get_or, cond, Bool, true, false, not}
+use Rattle.std.proofs.Common.{◌≡◌, ℕ, ◌∷◌, [], sym, ap, subst, List, get_or, cond, Bool, true, false, not}
 use Rattle.std.specs.Prelude.{Option, None, Some, Result, Ok, Err, IfOk, IfSome, OnErr, nat_lt, unwrap_or, ◌==◌}
 use Rattle.std.specs.List.{All}
 use Rattle.std.specs.Option.{IsSome}
 use Rattle.std.proofs.lemmas.Bool.{false≢true}
 use Rattle.std.proofs.lemmas.List.Elements.{All-append, All-cons, All-filter, All-map, All-nil}
 use Rattle.grid_range.specs.declared.area.Area.{Area}
-use Rattle.named_ranges.specs.declared.range.NamedRange.{NamedRange}
 use Rattle.protection.specs.Listed.{with_changed, with_one_more, without_id}
 use Rattle.protection.specs.Patch.{blank, gives_part, patched}
 use Rattle.protection.specs.declared.range.Protection.{Protection}
@@ -18,7 +17,6 @@ use Rattle.world_model.specs.ProtectionLaws.{ProtectionsAreSet, place_protection
 use Rattle.world_model.specs.Sheet.{PlaceSheet}
 use Rattle.world_model.specs.Sound.{IsOnSheet, IsProtectionWithin, IsSound}
 use Rattle.dimension_ops.specs.ProtectionRequests.{IsPatchWithin, ProtectionsBecome}
-use Rattle.dimension_ops.proofs.Marking.{as_book}
 
 -- ---- the protections are within the sheets
 
@@ -80,30 +78,27 @@ module _ (sheets : List PlaceSheet) (old : List Protection) (within : All (IsPro
 
 -- ---- the spreadsheet is sound, and has them
 
-module _ (id title owner : List ℕ) (ranges : List NamedRange) (sheets : List PlaceSheet) (old now : List Protection)
-    (law : ProtectionsAreSet) where
+module _ (book : PlaceBook) (now : List Protection) (law : ProtectionsAreSet) where
   -- after an answer that tells what was made of them
-  pub protections_sound : {T : Type 0} → IsSound (as_book id title owner ranges old sheets) → (made : T → List Protection)
-      → ((told : T) → All (IsProtectionWithin sheets) (made told)) → (answer : Result T ProtectionFault)
-      → IfOk answer (λ told. now ≡ made told) → OnErr answer (now ≡ old)
-      → IsSound (as_book id title owner ranges now sheets)
+  pub protections_sound : {T : Type 0} → IsSound book → (made : T → List Protection)
+      → ((told : T) → All (IsProtectionWithin book.sheets) (made told)) → (answer : Result T ProtectionFault)
+      → IfOk answer (λ told. now ≡ made told) → OnErr answer (now ≡ book.protections)
+      → IsSound (place_protections_set now book)
   protections_sound sound made within (Ok told) is kept =
-      subst (λ all. IsSound (as_book id title owner ranges all sheets)) (sym is)
-      (law.stays (as_book id title owner ranges old sheets) (made told) sound (within told))
+      subst (λ all. IsSound (place_protections_set all book)) (sym is) (law.stays book (made told) sound (within told))
   protections_sound sound made within (Err fault) is kept =
-      subst (λ all. IsSound (as_book id title owner ranges all sheets)) (sym kept) sound
+      subst (λ all. IsSound (place_protections_set all book)) (sym kept) sound
 
   -- what is made of those that there were
-  pub protections_become : (before : PlaceBook) → as_book id title owner ranges old sheets ≡ before
-      → (make : List Protection → List Protection) → All (IsProtectionWithin sheets) (make old) → now ≡ make old
-      → ProtectionsBecome (make before.protections) before (as_book id title owner ranges now sheets)
+  pub protections_become : (before : PlaceBook) → book ≡ before → (make : List Protection → List Protection)
+      → All (IsProtectionWithin book.sheets) (make book.protections) → now ≡ make book.protections
+      → ProtectionsBecome (make before.protections) before (place_protections_set now book)
   protections_become before seen make within is =
-      let set : as_book id title owner ranges now sheets ≡ place_protections_set (make old) before =
-      ap (λ all. as_book id title owner ranges all sheets) is ∙ ap (place_protections_set (make old)) seen in
-      subst (λ all. ProtectionsBecome (make all) before (as_book id title owner ranges now sheets))
-      (ap (λ (book : PlaceBook). book.protections) seen) (record {
+      let set : place_protections_set now book ≡ place_protections_set (make book.protections) book =
+      ap (λ all. place_protections_set all book) is in
+      subst (λ (one : PlaceBook). ProtectionsBecome (make one.protections) one (place_protections_set now book)) seen
+      (record {
         set = set;
-        names = subst (AreChanges (BookChange.ProtectionsSet (make old) ∷ []) before) (sym set)
-            (law.changes before (make old)
-            (subst (λ (book : PlaceBook). All (IsProtectionWithin book.sheets) (make old)) seen within));
+        names = subst (AreChanges (BookChange.ProtectionsSet (make book.protections) ∷ []) book) (sym set)
+            (law.changes book (make book.protections) within);
       })

@@ -22,6 +22,7 @@ pub mod LostReferences
 pub mod RenamedWords
 pub mod KeptRanges
 pub mod KeptProtections
+pub mod KeptMetadata
 pub mod RangeAnswers
 pub mod Setting
 pub mod MergesGiven

@@ -186,7 +186,15 @@ within_tail sheets one placed within =
 
 module _ (id title owner : List ℕ) where
   abbrev book_of : List PlaceSheet → PlaceBook
-  book_of sheets = record { id = id; title = title; owner = owner; sheets = sheets; ranges = []; protections = [] }
+  book_of sheets = record {
+    id = id;
+    title = title;
+    owner = owner;
+    sheets = sheets;
+    ranges = [];
+    protections = [];
+    metadata = [];
+  }
 
   room_for_one : (asked : SheetProperties) (sheets : List PlaceSheet) (one : Placed) (each : List Broken)
       (placed : List Placed) → IsPlaced asked sheets one → EachGood (sheet_added_broken asked sheets ∷ each)

@@ -8,18 +8,32 @@ use Rattle.std.specs.declared.sync.Arc.{Arc}
 use Rattle.std.proofs.Common.{Global}
 use Rattle.std.proofs.lemmas.Bool.{cases_order, eqb-true, false_from_ne_true, false≢true}
 use Rattle.std.proofs.lemmas.List.{map-set}
+use Rattle.dev_metadata.specs.declared.types.Item.{Item}
 use Rattle.named_ranges.specs.declared.range.NamedRange.{NamedRange}
 use Rattle.protection.specs.declared.range.Protection.{Protection}
 use Rattle.world_model.specs.Book.{PlaceBook}
 use Rattle.world_model.specs.Sheet.{PlaceSheet}
 use Rattle.world_model.specs.Sound.{place_sheet_with}
+use Rattle.dimension_ops.specs.declared.book.Book.TheInside.{Inside}
 use Rattle.dimension_ops.proofs.Finding.{IsFoundAt, found_at, none_from}
 use Rattle.dimension_ops.proofs.Putting.{IdsDiffer, changed_at_place, seen_stands}
 
 -- the spreadsheet of these sheets
-abbrev pub as_book : List ℕ → List ℕ → List ℕ → List NamedRange → List Protection → List PlaceSheet → PlaceBook
-as_book id title owner ranges protections sheets =
-    record { id = id; title = title; owner = owner; sheets = sheets; ranges = ranges; protections = protections }
+abbrev pub as_book : List ℕ → List ℕ → List ℕ → List NamedRange → List Protection → List Item → List PlaceSheet
+    → PlaceBook
+as_book id title owner ranges protections metadata sheets = record {
+  id = id;
+  title = title;
+  owner = owner;
+  sheets = sheets;
+  ranges = ranges;
+  protections = protections;
+  metadata = metadata;
+}
+
+-- what is kept of a spreadsheet, with these sheets
+abbrev pub kept_book : Inside → List PlaceSheet → PlaceBook
+kept_book kept sheets = as_book kept.id kept.title kept.owner kept.names kept.protections kept.metadata sheets
 
 abbrev pub has_id : ℕ → PlaceSheet → Bool
 has_id id sheet = sheet.id == id

@@ -12,7 +12,7 @@ use Rattle.merge_ranges.specs.Merges.{IsMerge}
 use Rattle.ref_rewrite.specs.declared.cell_content.Content.{Content}
 use Rattle.named_ranges.specs.declared.range.NamedRange.{NamedRange}
 use Rattle.world_model.specs.Sheet.{PlaceSheet}
-use Rattle.world_model.specs.Sound.{AreMergesOf, IsSound, IsOnSheet, IsProtectionWithin, IsSheetSound, IsContentWithin}
+use Rattle.world_model.specs.Sound.{AreMergesOf, IsSound, IsItemWithin, IsOnSheet, IsProtectionWithin, IsSheetSound, IsContentWithin}
 use Rattle.dimension_ops.specs.World.{opening_sheet}
 
 nothing_there : (row col : ℕ) → item_at opening_sheet.table row col ≡ None
@@ -55,7 +55,15 @@ sheet_sound sheets = record {
 }
 
 pub opening_sound : (id title owner : List ℕ)
-    → IsSound (record { id = id; title = title; owner = owner; sheets = opening_sheet ∷ []; ranges = []; protections = [] })
+    → IsSound (record {
+      id = id;
+      title = title;
+      owner = owner;
+      sheets = opening_sheet ∷ [];
+      ranges = [];
+      protections = [];
+      metadata = [];
+    })
 opening_sound id title owner = record {
   distinct = λ i j d below there. absurd (let no : ⊥ = omega (arith, below, there) in no);
   titles = λ i j d below there. absurd (let no : ⊥ = omega (arith, below, there) in no);
@@ -65,4 +73,5 @@ opening_sound id title owner = record {
   few_places = omega arith;
   ranges = All-nil (λ (range : NamedRange). IsOnSheet (opening_sheet ∷ []) range.area);
   protections = All-nil (IsProtectionWithin (opening_sheet ∷ []));
+  metadata = All-nil (IsItemWithin (opening_sheet ∷ []));
 }

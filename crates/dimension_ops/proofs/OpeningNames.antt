@@ -43,6 +43,7 @@ module _ (rows cols : ℕ) where
     sheets = sheet ∷ [];
     ranges = [];
     protections = [];
+    metadata = [];
   }
 
   abbrev names : NameBook
@@ -53,6 +54,7 @@ module _ (rows cols : ℕ) where
     sheets = opening_names rows cols ∷ [];
     ranges = [];
     protections = [];
+    metadata = [];
   }
 
   sheet_stands : SheetStandsFor names.sheets sheet (opening_names rows cols)
@@ -79,6 +81,7 @@ module _ (rows cols : ℕ) where
     sheets = (sheet_stands, tt);
     ranges = refl;
     protections = refl;
+    metadata = refl;
   }
 
   names_are_below : (next : ℕ) → rows + cols ≤ next → HasNamesBelow next names

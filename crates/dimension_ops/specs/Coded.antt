@@ -2,6 +2,8 @@
 use Rattle.std.specs.Prelude.{ℕ, Bool, List, refl}
 use Rattle.std.specs.Coded.{Coded, code_by, coded×, coded_list, coded_bool, coded_ℕ}
 use Rattle.cell_store.specs.Table.{Table, table_code}
+use Rattle.dev_metadata.specs.contracts.types.Item as item
+use Rattle.dev_metadata.specs.declared.types.Item.{Item}
 use Rattle.grid_range.specs.contracts.area.Area as area
 use Rattle.grid_range.specs.declared.area.Area.{Area}
 use Rattle.named_ranges.specs.contracts.range.NamedRange as range
@@ -24,17 +26,19 @@ sheet_code =
 
 abbrev pub book_code : Coded PlaceBook
 book_code =
-    code_by (List ℕ × (List ℕ × (List ℕ × (List PlaceSheet × (List NamedRange × List Protection)))))
+    code_by (List ℕ × (List ℕ × (List ℕ × (List PlaceSheet × (List NamedRange × (List Protection × List Item))))))
     (coded× (coded_list coded_ℕ) (coded× (coded_list coded_ℕ) (coded× (coded_list coded_ℕ)
-    (coded× (coded_list sheet_code) (coded× (coded_list range.the_row.coded) (coded_list protection.the_row.coded))))))
-    (λ b. (b.id, (b.title, (b.owner, (b.sheets, (b.ranges, b.protections))))))
+    (coded× (coded_list sheet_code) (coded× (coded_list range.the_row.coded)
+    (coded× (coded_list protection.the_row.coded) (coded_list item.the_row.coded)))))))
+    (λ b. (b.id, (b.title, (b.owner, (b.sheets, (b.ranges, (b.protections, b.metadata)))))))
     (λ p. record {
       id = p.0;
       title = p.1.0;
       owner = p.1.1.0;
       sheets = p.1.1.1.0;
       ranges = p.1.1.1.1.0;
-      protections = p.1.1.1.1.1;
+      protections = p.1.1.1.1.1.0;
+      metadata = p.1.1.1.1.1.1;
     })
     (λ _. refl)
 

@@ -16,3 +16,4 @@ pub mod SetProperties
 pub mod MergeRequests
 pub mod Parts
 pub mod ProtectionRequests
+pub mod MetadataRequests

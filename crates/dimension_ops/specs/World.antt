@@ -34,6 +34,7 @@ opening_book = record {
   sheets = opening_sheet ∷ [];
   ranges = [];
   protections = [];
+  metadata = [];
 }
 
 -- the same by names: the rows are called by the first numbers, the columns by the next ones
@@ -57,6 +58,7 @@ opening_world = record {
     sheets = opening_names 1000 26 ∷ [];
     ranges = [];
     protections = [];
+    metadata = [];
   }) ∷ [];
   next = 1026;
 }

@@ -1,6 +1,12 @@
 ghost use Rattle.std.specs.Prelude.{◌≡◌, ◌≢◌, ◌⊎◌, ◌↔◌, ◌==◌, ◌<◌, ◌≤◌, ◌∷◌, [], map, length, is_some, IfErr, IfOk, IfSome, IsSomeAnd, None, OnOk, OnErr, true, false};
 ghost use Rattle.std.specs.List.{insert, list_all, position_from};
 ghost use Rattle.std.specs.Option.{IsSome, option_copied, option_map};
+ghost use Rattle.dev_metadata.specs.Listed as listed;
+ghost use Rattle.dev_metadata.specs.Listed.{AreIdsInOrder, AreInOrderOfId, HaveOwnIds, found, found_by_some, not_found};
+ghost use Rattle.dev_metadata.specs.Lookup.{is_bad as is_bad_lookup, has_bad};
+ghost use Rattle.dev_metadata.specs.Patch.{with_patched};
+ghost use Rattle.dev_metadata.specs.declared.types.MetaFault.TheVariants as meta_fault;
+ghost use Rattle.dev_metadata.specs.declared.types.MetaFault.TheVariants.{BadLookup};
 ghost use Rattle.cell_value.specs.Ids.{IsLeastUnused, IsNewId, is_taken};
 ghost use Rattle.named_ranges.specs.Given.{given_range};
 ghost use Rattle.named_ranges.specs.Listed.{AreNames, IsBadName, IsFirstUnused, IsTakenName, TakesNoMemory, has_id as has_range, with_changed, with_id, with_name};
@@ -21,8 +27,9 @@ ghost use Rattle.world_model.specs.BookChange.BookChange.{MergesSet};
 ghost use Rattle.world_model.specs.SheetChange.{PlaceSheetDeleted, on_place_sheet, other_sheets, place_marked_hidden, place_merges_set, place_sheet_added, place_titled, with_place_sheets};
 ghost use Rattle.dimension_ops.specs.MergeRequests.{AreOfSheet};
 ghost use Rattle.dimension_ops.specs.Parts.{with_part};
+ghost use Rattle.dimension_ops.specs.MetadataRequests.{IsItemPatchWithin, MetadataBecomes};
 ghost use Rattle.dimension_ops.specs.ProtectionRequests.{IsPatchWithin, ProtectionsBecome};
-ghost use Rattle.world_model.specs.Sound.{IsContentWithin, IsLineCount, IsOnSheet, IsSound, most_places, most_sheets, place_sheet_with};
+ghost use Rattle.world_model.specs.Sound.{IsContentWithin, IsLineCount, IsOnSheet, IsSound, IsSpotWithin, most_places, most_sheets, place_sheet_with};
 ghost use Rattle.world_model.specs.Writing.{book_put, table_written};
 ghost use Rattle.std.specs.Arc.{arc_value};
 ghost use Rattle.dimension_ops.specs.Found.{ArePlacesOf, content_at};
@@ -43,7 +50,7 @@ use crate::renaming::sheets_renamed;
 use crate::sheet::Sheet;
 use crate::sheets::places_of;
 use cell_value::{Duplicate, Items, NoMemory, Text};
-use dev_metadata::Metadata;
+use dev_metadata::{Item, ItemPatch, Lookup, MetaFault, Metadata, Sight, Spot};
 use grid_range::{Area, SheetChange};
 use merge_ranges::Merges;
 use named_ranges::{NameFault, NamedRange, Names};
@@ -54,7 +61,7 @@ use std::marker::Model;
 use std::mem;
 use std::sync::Arc;
 use world_model::{
-    changes_stay_sound, filled_within_places, formulas_counted, merges_are_set,
+    changes_stay_sound, filled_within_places, formulas_counted, merges_are_set, metadata_is_set,
     protections_are_set, ranges_added, ranges_deleted, sheets_deleted, words_are_renamed,
     writes_follow, writes_stay_sound,
 };
@@ -75,7 +82,7 @@ pub struct Book {
 }
 
 impl Model for Book {
-    ghost use Rattle.std.specs.Prelude.{◌≡◌, [], map};
+    ghost use Rattle.std.specs.Prelude.{◌≡◌, map};
     ghost use Rattle.std.specs.Arc.{arc_value};
     ghost use Rattle.world_model.specs.Book.{PlaceBook};
     ghost use Rattle.world_model.specs.Sound.{IsSound};
@@ -92,6 +99,7 @@ impl Model for Book {
       sheets = map arc_value b.sheets.items;
       ranges = b.names;
       protections = b.protections;
+      metadata = b.metadata;
     } };
 
     ghost invariant = { λ b. IsSound (record {
@@ -101,9 +109,9 @@ impl Model for Book {
       sheets = map arc_value b.sheets.items;
       ranges = b.names;
       protections = b.protections;
+      metadata = b.metadata;
     })
-        × (b.ids ≡ map (λ sheet. sheet.id) (map arc_value b.sheets.items))
-        × (b.metadata ≡ []) };
+        × (b.ids ≡ map (λ sheet. sheet.id) (map arc_value b.sheets.items)) };
 }
 
 impl Book {
@@ -133,7 +141,7 @@ impl Book {
         })
     }
 
-    /// The spreadsheet with these sheets, no named ranges and no protected ones.
+    /// The spreadsheet with these sheets, no named ranges, no protected ones and no metadata.
     ///
     /// # Errors
     ///
@@ -296,9 +304,9 @@ impl Book {
         })
     }
 
-    /// Takes the sheet with the id out, with each reference to it, its named ranges and its protected ones. A sheet
-    /// without a reference to it isn't copied. While references are lost a spare spreadsheet stands here, since what
-    /// always holds of one doesn't hold until all are.
+    /// Takes the sheet with the id out, with each reference to it, its named ranges, its protected ones and its
+    /// metadata. A sheet without a reference to it isn't copied. While references are lost a spare spreadsheet stands
+    /// here, since what always holds of one doesn't hold until all are.
     ///
     /// # Errors
     ///
@@ -326,6 +334,8 @@ impl Book {
         names.lose_sheet(sheet);
         let mut protections = self.protections;
         protections.lose_sheet(sheet);
+        let mut metadata = self.metadata;
+        metadata.lose_sheet(sheet);
         Ok(Book {
             alloc: self.alloc,
             id: self.id,
@@ -335,7 +345,7 @@ impl Book {
             ids: Items::of(ids),
             names,
             protections,
-            metadata: self.metadata,
+            metadata,
         })
     }
 
@@ -622,11 +632,87 @@ impl Book {
         self.protections.drop(user, owner, id)
     }
 
-    /// The metadata, lent; no request makes any yet.
+    /// The metadata, lent.
     pub fn metadata(&self) -> &Metadata
-        ensures { result.now ≡ [] }
+        ensures { result.now ≡ self.now.metadata }
     {
         &self.metadata
+    }
+
+    /// No two items of metadata have one id.
+    pub fn items_have_own_ids(&self)
+        ensures { HaveOwnIds self.now.metadata }
+    {
+        let _ = self.metadata.get(0, "");
+    }
+
+    /// Adds an item of metadata, and gives its id: the one that is asked for, or else the least from 1 on that none
+    /// has (Sheets API v4 reference, CreateDeveloperMetadataRequest).
+    ///
+    /// # Errors
+    ///
+    /// Those of [`Metadata::create`]; the spreadsheet is as it was.
+    pub fn create_item(
+        &mut self,
+        id: Option<u32>,
+        key: Text,
+        value: Text,
+        spot: Spot,
+        sight: Sight,
+    ) -> Result<u32, MetaFault>
+        requires within { IsSpotWithin self.old.sheets spot }
+        requires room { length self.old.metadata < 4294967295 }
+        ensures taken { (result ≡ Err meta_fault.IdTaken) ↔ (is_taken (listed.has_id self.old.metadata) id ≡ true) }
+        ensures no_other { (result ≢ Err meta_fault.NoId) × (result ≢ Err BadLookup) }
+        ensures id { IfOk result (IsNewId (IsLeastUnused (listed.has_id self.old.metadata)) id) }
+        ensures added { IfOk result (λ new. MetadataBecomes
+            (listed.with_one_more new key value spot sight self.old.metadata) self.old self.new) }
+        ensures unchanged { OnErr result (self.new ≡ self.old) }
+    {
+        metadata_is_set();
+        self.metadata.create(id, key, value, spot, sight)
+    }
+
+    /// Puts what the patch gives in the place of what the items have that the project sees and that meet one of the
+    /// look-ups, and gives their ids, in order (Sheets API v4 reference, UpdateDeveloperMetadataRequest).
+    ///
+    /// # Errors
+    ///
+    /// Those of [`Metadata::update`]; the spreadsheet is as it was.
+    pub fn update_items(
+        &mut self,
+        lookups: &Items<Lookup>,
+        project: &str,
+        patch: &ItemPatch,
+    ) -> Result<Items<u32>, MetaFault>
+        requires within { IsItemPatchWithin self.old.sheets patch.now }
+        ensures bad { (result ≡ Err BadLookup) ↔ (has_bad lookups.now ≡ true) }
+        ensures no_other { (result ≢ Err meta_fault.NoId) × (result ≢ Err meta_fault.IdTaken) }
+        ensures ids { IfOk result (AreIdsInOrder (found_by_some lookups.now project.now self.old.metadata)) }
+        ensures updated { OnOk result (MetadataBecomes
+            (with_patched lookups.now project.now patch.now self.old.metadata) self.old self.new) }
+        ensures unchanged { OnErr result (self.new ≡ self.old) }
+    {
+        metadata_is_set();
+        self.metadata.update(lookups, project, patch)
+    }
+
+    /// Takes out the items that the project sees and that meet the look-up, and gives copies of them, in order of id
+    /// (Sheets API v4 reference, DeleteDeveloperMetadataRequest).
+    ///
+    /// # Errors
+    ///
+    /// Those of [`Metadata::drop`]; the spreadsheet is as it was.
+    pub fn drop_items(&mut self, lookup: &Lookup, project: &str) -> Result<Items<Item>, MetaFault>
+        ensures bad { (result ≡ Err BadLookup) ↔ (is_bad_lookup lookup.now ≡ true) }
+        ensures no_other { (result ≢ Err meta_fault.NoId) × (result ≢ Err meta_fault.IdTaken) }
+        ensures items { IfOk result (AreInOrderOfId (found lookup.now project.now self.old.metadata)) }
+        ensures dropped { OnOk result
+            (MetadataBecomes (not_found lookup.now project.now self.old.metadata) self.old self.new) }
+        ensures unchanged { OnErr result (self.new ≡ self.old) }
+    {
+        metadata_is_set();
+        self.metadata.drop(lookup, project)
     }
 
     /// What is stored at the place of the sheet with the id, lent; None where nothing is, and where the
@@ -732,6 +818,8 @@ impl Book {
         names.change(by.sheet, by.axis, by.count, by.change);
         let mut protections = self.protections;
         protections.change(by.sheet, by.axis, by.count, by.change);
+        let mut metadata = self.metadata;
+        metadata.change(by.sheet, by.axis, by.count, by.change);
         Ok(Book {
             alloc: self.alloc,
             id: self.id,
@@ -741,7 +829,7 @@ impl Book {
             ids: self.ids,
             names,
             protections,
-            metadata: self.metadata,
+            metadata,
         })
     }
 

@@ -12,6 +12,7 @@ use crate::merges::{
     COVERED, COVERED_APPENDS, MANY_MERGES, MERGE_TYPES, MERGED, MERGES_FOLLOWED, MERGES_LEFT,
     UNMERGED,
 };
+use crate::metadata;
 use crate::names::{
     BROKEN_RANGES, NAMED, NAMES_FOLLOWED, NAMES_OF_FORMULAS, RANGES_LISTED, TOO_MANY,
 };
@@ -531,6 +532,111 @@ fn protecting(alloc: Global, count: usize) -> String {
     }
     add(&mut body, "]}");
     body
+}
+
+#[test]
+fn creates_metadata(rt: HostRuntime) {
+    for row in &metadata::CREATED_METADATA {
+        check(&rt, &row.3, is_answered(&rt, row));
+    }
+}
+
+#[test]
+fn refuses_metadata(rt: HostRuntime) {
+    for row in &metadata::REFUSED_METADATA {
+        check(&rt, &row.3, is_answered(&rt, row));
+    }
+}
+
+#[test]
+fn follows_metadata(rt: HostRuntime) {
+    for row in &metadata::METADATA_FOLLOWED {
+        check(&rt, &row.3, is_answered(&rt, row));
+    }
+}
+
+#[test]
+fn shows_a_project_its_metadata(rt: HostRuntime) {
+    for row in &metadata::METADATA_SEEN {
+        check(&rt, &row.3, is_answered(&rt, row));
+    }
+}
+
+#[test]
+fn changes_metadata(rt: HostRuntime) {
+    for row in &metadata::UPDATED_METADATA {
+        check(&rt, &row.3, is_answered(&rt, row));
+    }
+}
+
+#[test]
+fn deletes_metadata(rt: HostRuntime) {
+    for row in &metadata::DELETED_METADATA {
+        check(&rt, &row.3, is_answered(&rt, row));
+    }
+}
+
+#[test]
+fn looks_up_metadata(rt: HostRuntime) {
+    for row in &metadata::SEARCHED_METADATA {
+        check(&rt, &row.3, is_answered(&rt, row));
+    }
+}
+
+#[test]
+fn refuses_look_ups(rt: HostRuntime) {
+    for row in &metadata::BAD_LOOKUPS {
+        check(&rt, &row.3, is_answered(&rt, row));
+    }
+}
+
+#[test]
+fn reads_by_filters(rt: HostRuntime) {
+    for row in &metadata::FILTERED_READS {
+        check(&rt, &row.3, is_answered(&rt, row));
+    }
+}
+
+#[test]
+fn counts_metadata(rt: HostRuntime) {
+    for row in &metadata::TOO_MUCH_METADATA {
+        check(&rt, row, is_one_item_too_many(&rt, row));
+    }
+}
+
+/// Whether one item of metadata more than there can be is refused so.
+fn is_one_item_too_many<R: AllocGlobal + Threads + Wait + Sync>(
+    rt: &R,
+    row: &(usize, &str, &str),
+) -> bool {
+    let alloc = rt.alloc();
+    let body = creating(alloc, 10_000, row.0);
+    let stream = batch_of(alloc, body.as_str());
+    let response = response_of(alloc, row.1, "", row.2);
+    ends_with(rt, stream.as_str(), response.as_str())
+}
+
+/// The body of a batch that creates so many items of metadata, and one more with that id.
+fn creating(alloc: Global, count: usize, last: usize) -> String {
+    let mut body = String::new(alloc);
+    add(&mut body, "{\"requests\":[");
+    for number in 0..count {
+        add_item(&mut body, number);
+        add(&mut body, ",");
+    }
+    add_item(&mut body, last);
+    add(&mut body, "]}");
+    body
+}
+
+/// Puts a request behind the text that creates an item of metadata with the id.
+fn add_item(body: &mut String, id: usize) {
+    add(
+        body,
+        "{\"createDeveloperMetadata\":{\"developerMetadata\":{\"location\":{\"sheetId\":0},\"metadataKey\":\"k\",\"visibility\":\"DOCUMENT\",\"metadataId\":",
+    );
+    add_number(body, id);
+    add(body, "}}}");
 }
 
 #[test]

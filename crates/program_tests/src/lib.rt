@@ -23,6 +23,8 @@ mod lines;
 #[cfg(test)]
 mod merges;
 #[cfg(test)]
+mod metadata;
+#[cfg(test)]
 mod names;
 #[cfg(test)]
 mod protections;

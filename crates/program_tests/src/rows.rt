@@ -227,7 +227,7 @@ const CLOSE: &str = "Connection: close\r\n";
 pub(crate) static NO_CALLS: [Exchange; 18] = [
     (
         &[(
-            "GET /v4/spreadsheets/book1/developerMetadata/1",
+            "GET /v4/spreadsheets/book1/developerMetadata/1a",
             "Host: localhost\r\n",
             "",
         )],

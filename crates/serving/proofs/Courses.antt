@@ -23,8 +23,8 @@ finished zero after ending (over visit ∷ courses) = over visit ∷ courses
 finished (suc place) after ending (course ∷ courses) = course ∷ finished place after ending courses
 
 -- the thread is that of the connection at this place; without it those of the others are left
-pub record IsFoundAt {E K W : Type 0} (begun : Begun E K W) (number : ℕ) (courses : List Course)
-    (threads : List (Waiting E K W)) (thread : Waiting E K W) (place : ℕ) : Type 0 where
+pub record IsFoundAt {E K W A : Type 0} (begun : Begun E K W A) (number : ℕ) (courses : List Course)
+    (threads : List (Waiting E K W A)) (thread : Waiting E K W A) (place : ℕ) : Type 0 where
   pub number_is : thread.number ≡ number + place
   pub at : slice_get courses place ≡ Some (under_way thread.arrival)
   pub desk_is : thread.desk ≡ begun.desk
@@ -33,10 +33,10 @@ pub record IsFoundAt {E K W : Type 0} (begun : Begun E K W) (number : ℕ) (cour
   pub others : (after : List Noted) (ending : Ending)
       → threads_of begun number (finished place after ending courses) ≡ threads
 
-module _ {E K W : Type 0} (begun : Begun E K W) where
+module _ {E K W A : Type 0} (begun : Begun E K W A) where
   -- each thread is that of a connection
-  pub found : (number : ℕ) (courses : List Course) (xs : List (Waiting E K W)) (w : Waiting E K W)
-      (ys : List (Waiting E K W)) → threads_of begun number courses ≡ xs ++ w ∷ ys
+  pub found : (number : ℕ) (courses : List Course) (xs : List (Waiting E K W A)) (w : Waiting E K W A)
+      (ys : List (Waiting E K W A)) → threads_of begun number courses ≡ xs ++ w ∷ ys
       → (place : ℕ) × IsFoundAt begun number courses (xs ++ ys) w place
   found number [] [] w ys is = absurd (cc)
   found number [] (x ∷ xs) w ys is = absurd (cc)
@@ -57,17 +57,17 @@ module _ {E K W : Type 0} (begun : Begun E K W) where
       let rest : threads_of begun (suc number) courses ≡ ys = cc in (
         zero,
         record {
-          number_is = sym (ap (λ (v : Waiting E K W). v.number) first) ∙ omega arith;
-          at = ap (λ (v : Waiting E K W). Some (under_way v.arrival)) first;
-          desk_is = sym (ap (λ (v : Waiting E K W). v.desk) first);
-          users_is = sym (ap (λ (v : Waiting E K W). v.users) first);
-          count_is = sym (ap (λ (v : Waiting E K W). v.count) first)
-              ∙ ap (λ (v : Waiting E K W). suc v.arrival.caller) first;
+          number_is = sym (ap (λ (v : Waiting E K W A). v.number) first) ∙ omega arith;
+          at = ap (λ (v : Waiting E K W A). Some (under_way v.arrival)) first;
+          desk_is = sym (ap (λ (v : Waiting E K W A). v.desk) first);
+          users_is = sym (ap (λ (v : Waiting E K W A). v.users) first);
+          count_is = sym (ap (λ (v : Waiting E K W A). v.count) first)
+              ∙ ap (λ (v : Waiting E K W A). suc v.arrival.caller) first;
           others = λ after ending. rest;
         },
       )
   found number (under_way arrival ∷ courses) (x ∷ xs) w ys is =
-      let this : Waiting E K W =
+      let this : Waiting E K W A =
       thread_of begun number arrival in
       let first : this ≡ x = cc in
       let rest : threads_of begun (suc number) courses ≡ xs ++ w ∷ ys = cc in
@@ -79,8 +79,8 @@ module _ {E K W : Type 0} (begun : Begun E K W) where
           desk_is = at.desk_is;
           users_is = at.users_is;
           count_is = at.count_is;
-          others = λ after ending. ap (λ (l : List (Waiting E K W)). this ∷ l) (at.others after ending)
-              ∙ ap (λ (v : Waiting E K W). v ∷ (xs ++ ys)) first;
+          others = λ after ending. ap (λ (l : List (Waiting E K W A)). this ∷ l) (at.others after ending)
+              ∙ ap (λ (v : Waiting E K W A). v ∷ (xs ++ ys)) first;
         },
       )
 
@@ -95,7 +95,7 @@ module _ {E K W : Type 0} (begun : Begun E K W) where
       ∙ ap (λ (n : ℕ). threads_of begun (suc number) courses
       ++ thread_of begun n arrival ∷ []) (omega arith)
   one_thread_more number (under_way start ∷ courses) arrival =
-      ap (λ (l : List (Waiting E K W)).
+      ap (λ (l : List (Waiting E K W A)).
       thread_of begun number start ∷ l)
       (one_thread_more (suc number) courses arrival
       ∙ ap (λ (n : ℕ). threads_of begun (suc number) courses
@@ -106,7 +106,7 @@ module _ {E K W : Type 0} (begun : Begun E K W) where
   no_thread_more number [] visit = refl
   no_thread_more number (over t ∷ courses) visit = no_thread_more (suc number) courses visit
   no_thread_more number (under_way start ∷ courses) visit =
-      ap (λ (l : List (Waiting E K W)).
+      ap (λ (l : List (Waiting E K W A)).
       thread_of begun number start ∷ l)
       (no_thread_more (suc number) courses visit)
 
@@ -256,7 +256,7 @@ one_more_holds P (x ∷ xs) y all p =
 
 -- ---- where no thread is left, all are over
 
-module _ {E K W : Type 0} (begun : Begun E K W) where
+module _ {E K W A : Type 0} (begun : Begun E K W A) where
   pub all_over : (number : ℕ) (courses : List Course) → length (threads_of begun number courses) ≡ 0
       → courses ≡ map over (visits_of courses)
   all_over number [] none = refl

@@ -89,7 +89,7 @@ later_recounted pass pass' has = record {
   met = λ m is. subst (λ (l : List (ℕ × ℕ)). Contains l m) (sym has.met) is;
 }
 
-later_met : {E K W : Type 0} (desk : Desk E K W) (pass other met : Pass Noted) → HasMet desk pass other met
+later_met : {E K W A : Type 0} (desk : Desk E K W A) (pass other met : Pass Noted) → HasMet desk pass other met
     → IsLater pass met
 later_met desk pass other met has = record {
   seen = has.mine;
@@ -140,7 +140,7 @@ each_visited number from count visits (item ∷ items) among low own =
       | inr none ↦ inr (All-tail (λ (i : Noted). caller_of i ≢ number) item items none)
     ]))
 
-module _ {E K W : Type 0} (answers : AnswersAt E K W) (begun : Begun E K W) where
+module _ {E K W A : Type 0} (answers : AnswersAt E K W A) (begun : Begun E K W A) where
   given_later : (count count' : ℕ) (arrival : Arrival) → count ≤ count' → IsGiven begun count arrival
       → IsGiven begun count' arrival
   given_later count count' arrival le is = record { another = is.another; below = omega (arith, is.below) }
@@ -190,10 +190,10 @@ module _ {E K W : Type 0} (answers : AnswersAt E K W) (begun : Begun E K W) wher
 
   -- ---- the steps
 
-  module _ (threads : List (Waiting E K W)) (accepted : ℕ) (end : Served) (shown : Option Shown) (pass : Pass Noted)
+  module _ (threads : List (Waiting E K W A)) (accepted : ℕ) (end : Served) (shown : Option Shown) (pass : Pass Noted)
     where
       -- another thread's connection is back
-      pub comes_back : (met other : Pass Noted) (threads' xs ys : List (Waiting E K W)) (w : Waiting E K W)
+      pub comes_back : (met other : Pass Noted) (threads' xs ys : List (Waiting E K W A)) (w : Waiting E K W A)
           (shown' : Option Shown) (ending : Ending) → threads ≡ xs ++ w ∷ ys → threads' ≡ xs ++ ys
           → IsTalked answers w.desk w.users w.arrival w.count ending other → HasMet begun.desk pass other met
           → shown' ≡ option_map (after_back w.number ending) shown
@@ -205,7 +205,7 @@ module _ {E K W : Type 0} (answers : AnswersAt E K W) (begun : Begun E K W) wher
           let number : w.number ≡ place = at.number_is ∙ omega arith in
           let talked' : IsTalked answers begun.desk begun.users w.arrival w.count ending other =
           subst (λ (u : UserTable). IsTalked answers begun.desk u w.arrival w.count ending other) at.users_is
-          (subst (λ (d : Desk E K W). IsTalked answers d w.users w.arrival w.count ending other) at.desk_is talked) in
+          (subst (λ (d : Desk E K W A). IsTalked answers d w.users w.arrival w.count ending other) at.desk_is talked) in
           let before : Fits answers begun pass (under_way w.arrival) =
           at_place (Fits answers begun pass) s.courses place (under_way w.arrival) at.at s.each in
           let known : count_of other ≤ count_of pass = omega (arith, talked'.count_is, at.count_is, before.1.below) in
@@ -253,7 +253,7 @@ module _ {E K W : Type 0} (answers : AnswersAt E K W) (begun : Begun E K W) wher
           }
 
       -- until then it is away
-      pub is_away : (xs ys : List (Waiting E K W)) (w : Waiting E K W) → threads ≡ xs ++ w ∷ ys
+      pub is_away : (xs ys : List (Waiting E K W A)) (w : Waiting E K W A) → threads ≡ xs ++ w ∷ ys
           → AcceptsSo answers begun pass threads accepted end shown
           → IfSome shown (λ s. IsAway w.number s.connections)
       is_away xs ys w are s =
@@ -264,7 +264,7 @@ module _ {E K W : Type 0} (answers : AnswersAt E K W) (begun : Begun E K W) wher
           s.shown_is
 
   -- a pass that has seen the same, and knows of more numbers
-  pub recounts : (threads : List (Waiting E K W)) (accepted : ℕ) (end : Served) (shown : Option Shown)
+  pub recounts : (threads : List (Waiting E K W A)) (accepted : ℕ) (end : Served) (shown : Option Shown)
       (pass pass' : Pass Noted) → IsPass begun.desk pass' → number_of pass' ≡ number_of pass → HasRecounted pass pass'
       → (drawing_of pass ≡ Alone → count_of pass' ≡ count_of pass)
       → AcceptsSo answers begun pass threads accepted end shown → AcceptsSo answers begun pass' threads accepted end shown
@@ -285,7 +285,7 @@ module _ {E K W : Type 0} (answers : AnswersAt E K W) (begun : Begun E K W) wher
   }
 
   -- nothing was accepted yet
-  pub begins : (pass : Pass Noted) (threads : List (Waiting E K W)) (shown : Option Shown) → IsPass begun.desk pass
+  pub begins : (pass : Pass Noted) (threads : List (Waiting E K W A)) (shown : Option Shown) → IsPass begun.desk pass
       → begun.pass ≡ pass → threads ≡ [] → begun.shown ≡ shown → IfSome shown (λ s. s.connections ≡ [])
       → AcceptsSo answers begun pass threads 0 served.All shown
   begins pass threads shown is first none same fresh = record {
@@ -311,7 +311,7 @@ module _ {E K W : Type 0} (answers : AnswersAt E K W) (begun : Begun E K W) wher
 
   -- ---- a further connection
 
-  module _ (threads : List (Waiting E K W)) (accepted : ℕ) (shown before : Option Shown) (pass : Pass Noted)
+  module _ (threads : List (Waiting E K W A)) (accepted : ℕ) (shown before : Option Shown) (pass : Pass Noted)
       (link : LinkSeen) (fresh : IsFresh link) (s : AcceptsSo answers begun pass threads accepted served.All before)
       (shows : shown ≡ option_map (after_accept link) before) where
     -- it is shown behind the others
@@ -334,7 +334,7 @@ module _ {E K W : Type 0} (answers : AnswersAt E K W) (begun : Begun E K W) wher
         shown_newcomer
 
     -- a thread serves it, with a pass of a new number
-    pub starts : (pass' own : Pass Noted) (threads' : List (Waiting E K W)) → IsPass begun.desk pass'
+    pub starts : (pass' own : Pass Noted) (threads' : List (Waiting E K W A)) → IsPass begun.desk pass'
         → number_of pass' ≡ number_of pass → HasRecounted pass pass'
         → seen_by own ≡ seen_by pass → count_of pass ≤ number_of own
         → (drawing_of pass ≡ Alone → number_of own ≡ count_of pass) → count_of pass' ≡ number_of own + 1
@@ -367,7 +367,7 @@ module _ {E K W : Type 0} (answers : AnswersAt E K W) (begun : Begun E K W) wher
           apart = two_more CoursesApart s.courses (under_way arrival)
               (All-weaker (Fits answers begun pass) (λ course. CoursesApart course (under_way arrival))
               (new_apart pass arrival next another'.other) s.courses s.each) s.apart;
-          threads_are = are ∙ ap (λ (l : List (Waiting E K W)). l ++ thread_of begun accepted arrival ∷ [])
+          threads_are = are ∙ ap (λ (l : List (Waiting E K W A)). l ++ thread_of begun accepted arrival ∷ [])
               s.threads_are
               ∙ ap (λ (n : ℕ). threads_of begun 0 s.courses
               ++ thread_of begun n arrival ∷ [])
@@ -440,7 +440,7 @@ module _ {E K W : Type 0} (answers : AnswersAt E K W) (begun : Begun E K W) wher
         }
 
   -- the doors failed
-  pub fails : (threads : List (Waiting E K W)) (accepted : ℕ) (shown shown' : Option Shown) (pass : Pass Noted)
+  pub fails : (threads : List (Waiting E K W A)) (accepted : ℕ) (shown shown' : Option Shown) (pass : Pass Noted)
       → shown' ≡ option_map after_refusal shown → AcceptsSo answers begun pass threads accepted served.All shown
       → AcceptsSo answers begun pass threads accepted served.DoorFault shown'
   fails threads accepted shown shown' pass shows s = record {
@@ -500,7 +500,7 @@ module _ {E K W : Type 0} (answers : AnswersAt E K W) (begun : Begun E K W) wher
         let s = all.stands in
         let visits = visits_of s.courses in
         let over_all : s.courses ≡ map over visits = all_over begun 0 s.courses
-        (sym (ap (λ (l : List (Waiting E K W)). length l) s.threads_are)) in
+        (sym (ap (λ (l : List (Waiting E K W A)). length l) s.threads_are)) in
         let count : length s.courses ≡ length visits =
         ap (λ (l : List Course). length l) over_all ∙ count_over visits in (
           record {
@@ -533,7 +533,7 @@ module _ {E K W : Type 0} (answers : AnswersAt E K W) (begun : Begun E K W) wher
         let number = number_of begun.pass in
         let visits = talked.visits in
         let over_all : s.courses ≡ map over (visits_of s.courses) = all_over begun 0 s.courses
-        (sym (ap (λ (l : List (Waiting E K W)). length l) s.threads_are)) in
+        (sym (ap (λ (l : List (Waiting E K W A)). length l) s.threads_are)) in
         let callers : map caller_in s.courses ≡ map visitor visits =
         ap (λ (l : List Course). map caller_in l) over_all ∙ visitors_over (visits_of s.courses)
         ∙ ap (λ (l : List Visit). map visitor l) (sym visits_are) in
@@ -558,7 +558,7 @@ split_at zero (y ∷ ys) x lt is = ap (λ z. z ∷ ys) (sym is)
 split_at (suc at) (y ∷ ys) x lt is = ap (λ l. y ∷ l) (split_at at ys x (omega arith) is)
 
 -- a pass gave another, of a new number
-pub record HasSplit {E K W : Type 0} (desk : Desk E K W) (pass pass' own : Pass Noted) : Type 0 where
+pub record HasSplit {E K W A : Type 0} (desk : Desk E K W A) (pass pass' own : Pass Noted) : Type 0 where
   pub pass_is : IsPass desk pass'
   pub seen : seen_by pass' ≡ seen_by pass
   pub number : number_of pass' ≡ number_of pass
@@ -572,22 +572,22 @@ pub record HasSplit {E K W : Type 0} (desk : Desk E K W) (pass pass' own : Pass 
   pub other : number_of own ≢ number_of pass
   pub unused : NoneOf caller_of (number_of own) (drop (length (list_at desk)) (seen_by own))
 
-module _ {E K W : Type 0} (answers : AnswersAt E K W) where
-  stands_as : (acceptor : Accepting E K W) (begun : Begun E K W) (pass : Pass Noted)
-      (threads : List (Waiting E K W)) (accepted : ℕ) (end : Served) (shown : Option Shown)
+module _ {E K W A : Type 0} (answers : AnswersAt E K W A) where
+  stands_as : (acceptor : Accepting E K W A) (begun : Begun E K W A) (pass : Pass Noted)
+      (threads : List (Waiting E K W A)) (accepted : ℕ) (end : Served) (shown : Option Shown)
       → acceptor.begun ≡ begun → acceptor.pass ≡ pass → acceptor.threads ≡ threads → acceptor.accepted ≡ accepted
       → acceptor.end ≡ end → AcceptsSo answers begun pass threads accepted end shown → Stands answers acceptor shown
   stands_as acceptor begun pass threads accepted end shown b p t a e s =
-      subst (λ (x : Begun E K W). AcceptsSo answers x acceptor.pass acceptor.threads acceptor.accepted acceptor.end
+      subst (λ (x : Begun E K W A). AcceptsSo answers x acceptor.pass acceptor.threads acceptor.accepted acceptor.end
       shown)
       (sym b)
       (subst (λ (x : Pass Noted). AcceptsSo answers begun x acceptor.threads acceptor.accepted acceptor.end shown)
       (sym p)
-      (subst (λ (x : List (Waiting E K W)). AcceptsSo answers begun pass x acceptor.accepted acceptor.end shown) (sym t)
+      (subst (λ (x : List (Waiting E K W A)). AcceptsSo answers begun pass x acceptor.accepted acceptor.end shown) (sym t)
       (subst (λ (x : ℕ). AcceptsSo answers begun pass threads x acceptor.end shown) (sym a)
       (subst (λ (x : Served). AcceptsSo answers begun pass threads accepted x shown) (sym e) s))))
 
-  module _ (acceptor : Accepting E K W) (shown : Option Shown) (at : ℕ) (w : Waiting E K W)
+  module _ (acceptor : Accepting E K W A) (shown : Option Shown) (at : ℕ) (w : Waiting E K W A)
       (s : Stands answers acceptor shown) (lt : at < length acceptor.threads)
       (is : w ≡ slice_index_or acceptor.threads at w) where
     -- the thread at a place is of the desk
@@ -604,7 +604,7 @@ module _ {E K W : Type 0} (answers : AnswersAt E K W) where
         (take at acceptor.threads) (drop (suc at) acceptor.threads) w (split_at at acceptor.threads w lt is) s)
 
     -- it is joined
-    pub joined : (result : Accepting E K W) (shown' : Option Shown) (n : ℕ) (ending : Ending) (other : Pass Noted)
+    pub joined : (result : Accepting E K W A) (shown' : Option Shown) (n : ℕ) (ending : Ending) (other : Pass Noted)
         → n ≡ w.number → IsTalked answers w.desk w.users w.arrival w.count ending other → result.begun ≡ acceptor.begun
         → result.accepted ≡ acceptor.accepted → result.end ≡ acceptor.end
         → result.threads ≡ take at acceptor.threads ++ drop (at + 1) acceptor.threads
@@ -624,12 +624,12 @@ module _ {E K W : Type 0} (answers : AnswersAt E K W) where
         one_more_place = omega arith
 
   -- it is so of whoever is the same
-  pub asked_as : (acceptor same : Accepting E K W) (link : LinkSeen) (shown : Option Shown) → same ≡ acceptor
+  pub asked_as : (acceptor same : Accepting E K W A) (link : LinkSeen) (shown : Option Shown) → same ≡ acceptor
       → HasAsked answers acceptor link shown → HasAsked answers same link shown
   asked_as acceptor same link shown is has =
-      subst (λ (a : Accepting E K W). HasAsked answers a link shown) (sym is) has
+      subst (λ (a : Accepting E K W A). HasAsked answers a link shown) (sym is) has
 
-  module _ (acceptor : Accepting E K W) (link : LinkSeen) (shown : Option Shown)
+  module _ (acceptor : Accepting E K W A) (link : LinkSeen) (shown : Option Shown)
       (has : HasAsked answers acceptor link shown) where
     stands_before : AcceptsSo answers acceptor.begun acceptor.pass acceptor.threads acceptor.accepted served.All
         has.before
@@ -644,7 +644,7 @@ module _ {E K W : Type 0} (answers : AnswersAt E K W) where
         has.fresh stands_before has.shown_is
 
     -- so it is for a pass that has seen the same
-    pub asked_again : (result : Accepting E K W) → result.begun ≡ acceptor.begun → result.accepted ≡ acceptor.accepted
+    pub asked_again : (result : Accepting E K W A) → result.begun ≡ acceptor.begun → result.accepted ≡ acceptor.accepted
         → result.end ≡ acceptor.end → result.threads ≡ acceptor.threads → IsPass acceptor.begun.desk result.pass
         → number_of result.pass ≡ number_of acceptor.pass → HasRecounted acceptor.pass result.pass
         → (drawing_of acceptor.pass ≡ Alone → count_of result.pass ≡ count_of acceptor.pass)
@@ -678,7 +678,7 @@ module _ {E K W : Type 0} (answers : AnswersAt E K W) where
       last_given = split.own_counted ∙ omega arith
 
       -- a thread serves it
-      pub started : (threads' : List (Waiting E K W)) (w : Waiting E K W) → threads' ≡ acceptor.threads ++ w ∷ []
+      pub started : (threads' : List (Waiting E K W A)) (w : Waiting E K W A) → threads' ≡ acceptor.threads ++ w ∷ []
           → w ≡ record {
             number = acceptor.accepted;
             arrival = arrival_of own link;
@@ -701,7 +701,7 @@ module _ {E K W : Type 0} (answers : AnswersAt E K W) where
           })
           split.own_seen split.next split.exact split.counted
           (record { other = split.other; unused = split.unused })
-          (are ∙ ap (λ (v : Waiting E K W). acceptor.threads ++ v ∷ []) (is ∙ ap (λ (n : ℕ). record {
+          (are ∙ ap (λ (v : Waiting E K W A). acceptor.threads ++ v ∷ []) (is ∙ ap (λ (n : ℕ). record {
             number = acceptor.accepted;
             arrival = arrival_of own link;
             count = n;
@@ -710,13 +710,13 @@ module _ {E K W : Type 0} (answers : AnswersAt E K W) where
           }) last_given)))
 
       -- no thread could be started, and it was served at once
-      pub handed_back : (result : Accepting E K W) (shown' : Option Shown) (ending : Ending) (other : Pass Noted)
+      pub handed_back : (result : Accepting E K W A) (shown' : Option Shown) (ending : Ending) (other : Pass Noted)
           → IsTalked answers acceptor.begun.desk acceptor.begun.users (arrival_of own link) (count_of own) ending other
           → result.begun ≡ acceptor.begun → result.accepted ≡ acceptor.accepted + 1 → result.end ≡ acceptor.end
           → result.threads ≡ acceptor.threads → HasMet acceptor.begun.desk pass' other result.pass
           → shown' ≡ option_map (after_back acceptor.accepted ending) shown → Stands answers result shown'
       handed_back result shown' ending other talked begun accepted end threads met shows =
-          let w : Waiting E K W = thread_of acceptor.begun acceptor.accepted (arrival_of own link) in
+          let w : Waiting E K W A = thread_of acceptor.begun acceptor.accepted (arrival_of own link) in
           stands_as result acceptor.begun result.pass result.threads (acceptor.accepted + 1) acceptor.end shown' begun
           refl refl accepted end
           (comes_back answers acceptor.begun (acceptor.threads ++ w ∷ [])
@@ -735,7 +735,7 @@ module _ {E K W : Type 0} (answers : AnswersAt E K W) where
           }) (sym last_given))))
 
   -- the doors failed
-  pub failed : (acceptor result : Accepting E K W) (shown shown' : Option Shown) → acceptor.end ≡ served.All
+  pub failed : (acceptor result : Accepting E K W A) (shown shown' : Option Shown) → acceptor.end ≡ served.All
       → result.begun ≡ acceptor.begun → result.pass ≡ acceptor.pass → result.threads ≡ acceptor.threads
       → result.accepted ≡ acceptor.accepted → result.end ≡ served.DoorFault
       → shown' ≡ option_map after_refusal shown → Stands answers acceptor shown → Stands answers result shown'
@@ -749,7 +749,7 @@ module _ {E K W : Type 0} (answers : AnswersAt E K W) where
       s))
 
   -- where no thread is left
-  pub ended : (acceptor : Accepting E K W) (begun : Begun E K W) (pass : Pass Noted) (limit : ℕ) (end end' : Served)
+  pub ended : (acceptor : Accepting E K W A) (begun : Begun E K W A) (pass : Pass Noted) (limit : ℕ) (end end' : Served)
       (accepted : ℕ) (shown : Option Shown) → acceptor.begun ≡ begun → pass ≡ acceptor.pass → end ≡ acceptor.end
       → acceptor.end ≡ end' → acceptor.accepted ≡ accepted → length acceptor.threads ≡ 0
       → HasAccepted limit end' accepted → Stands answers acceptor shown
@@ -758,15 +758,15 @@ module _ {E K W : Type 0} (answers : AnswersAt E K W) where
       record {
         accepted = accepted;
         counts = subst (λ (e : Served). HasAccepted limit e accepted) (sym (end_is ∙ end'_is)) counts;
-        stands = subst (λ (b : Begun E K W). AcceptsSo answers b pass [] accepted end shown) same
+        stands = subst (λ (b : Begun E K W A). AcceptsSo answers b pass [] accepted end shown) same
             (subst (λ (p : Pass Noted). AcceptsSo answers acceptor.begun p [] accepted end shown) (sym pass_is)
             (subst (λ (e : Served). AcceptsSo answers acceptor.begun acceptor.pass [] accepted e shown) (sym end_is)
             (subst (λ (n : ℕ). AcceptsSo answers acceptor.begun acceptor.pass [] n acceptor.end shown) accepted_is
-            (subst (λ (l : List (Waiting E K W)). AcceptsSo answers acceptor.begun acceptor.pass l acceptor.accepted
+            (subst (λ (l : List (Waiting E K W A)). AcceptsSo answers acceptor.begun acceptor.pass l acceptor.accepted
             acceptor.end shown) (no_threads acceptor.threads none) s))));
       }
     where
-      no_threads : (l : List (Waiting E K W)) → length l ≡ 0 → l ≡ []
+      no_threads : (l : List (Waiting E K W A)) → length l ≡ 0 → l ≡ []
       no_threads [] is = refl
       no_threads (w ∷ ws) is = absurd (omega arith)
 

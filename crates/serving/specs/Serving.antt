@@ -42,12 +42,12 @@ pub record Visit : Type 0 where
 
 -- which response answers a request at a desk with these users, of a caller with this number, that had seen the items
 -- before and has seen those after
-abbrev pub AnswersAt : Type 0 → Type 0 → Type 0 → Type 1
-AnswersAt E K W = Desk E K W → UserTable → ℕ → List Noted → Wire → List Noted → List ℕ → Type 0
+abbrev pub AnswersAt : Type 0 → Type 0 → Type 0 → Type 0 → Type 1
+AnswersAt E K W A = Desk E K W A → UserTable → ℕ → List Noted → Wire → List Noted → List ℕ → Type 0
 
 -- The requests of a link were answered by calls of the desk, from the list that the caller had seen before to the one
 -- that it had seen after; it ended as their talk does, or was cut off.
-pub record IsVisit {E K W : Type 0} (answers : AnswersAt E K W) (desk : Desk E K W) (users : UserTable)
+pub record IsVisit {E K W A : Type 0} (answers : AnswersAt E K W A) (desk : Desk E K W A) (users : UserTable)
     (arrival : Arrival) (after : List Noted) (ending : Ending) : Type 0 where
   pub served : IsConversation (answers desk users arrival.caller) longest_talk arrival.link.left
       (at_moment arrival.before arrival.link.written arrival.link.shortages)
@@ -66,7 +66,7 @@ pub record IsVisit {E K W : Type 0} (answers : AnswersAt E K W) (desk : Desk E K
   pub references : ending.link.references ≡ arrival.link.references
 
 -- the caller isn't the one with that number, and no item since the opening that it had seen before was its own
-pub record IsAnother {E K W : Type 0} (desk : Desk E K W) (number : ℕ) (arrival : Arrival) : Type 0 where
+pub record IsAnother {E K W A : Type 0} (desk : Desk E K W A) (number : ℕ) (arrival : Arrival) : Type 0 where
   pub other : arrival.caller ≢ number
   pub unused : NoneOf caller_of arrival.caller (drop (length (list_at desk)) arrival.before)
 
@@ -77,14 +77,14 @@ pub record HasArrived (first : List Noted) (arrival : Arrival) : Type 0 where
 
 -- another's only visit: since the opening none of its items is among those that it had seen before the visit, and none
 -- of the list's behind those that it had seen at the end
-pub record IsOnlyVisit {E K W : Type 0} (desk : Desk E K W) (number : ℕ) (told : List Noted) (visit : Visit) : Type 0
+pub record IsOnlyVisit {E K W A : Type 0} (desk : Desk E K W A) (number : ℕ) (told : List Noted) (visit : Visit) : Type 0
   where
     pub another : IsAnother desk number visit.arrival
     pub done : NoneOf caller_of visit.arrival.caller (drop (length visit.after) told)
 
 -- A connection was served at the desk, whose list is told, where the first caller has this number and had seen the
 -- first items: by the first caller, or by another, all of whose items since the opening were added in this visit.
-pub record WasServed {E K W : Type 0} (answers : AnswersAt E K W) (desk : Desk E K W)
+pub record WasServed {E K W A : Type 0} (answers : AnswersAt E K W A) (desk : Desk E K W A)
     (users : UserTable) (number : ℕ) (first told : List Noted) (visit : Visit) : Type 0 where
   pub arrived : HasArrived first visit.arrival
   pub talked : IsVisit answers desk users visit.arrival visit.after visit.ending
@@ -141,7 +141,7 @@ showing calls connections shown = record {
 -- What was served at a desk, whose list is told, by a caller with this number that had seen the first items, and by
 -- others: the connections, in the order of accepting, and what the doors showed before and show. Behind the first items
 -- the caller's own are those that it added in its visits, one visit after another.
-pub record HaveTalked {E K W : Type 0} (answers : AnswersAt E K W) (desk : Desk E K W) (users : UserTable) (number : ℕ)
+pub record HaveTalked {E K W A : Type 0} (answers : AnswersAt E K W A) (desk : Desk E K W A) (users : UserTable) (number : ℕ)
     (first told : List Noted) (limit : ℕ) (end : Served) (shown shown' : Option Shown) : Type 0 where
   pub visits : List Visit
   pub each : All (WasServed answers desk users number first told) visits
@@ -165,7 +165,7 @@ HasVisitor number count visits item =
 -- desk told when it was closed, and its journal is kept; the keeper's count of faults is that of the list's last mark.
 -- Each item since the opening is from one of the desk's callers. Where the pass alone drew numbers, each that it had
 -- not seen is from the caller of a connection, or from one that had a number before.
-pub record AreServed {E K W : Type 0} (answers : AnswersAt E K W) (desk : Desk E K W)
+pub record AreServed {E K W A : Type 0} (answers : AnswersAt E K W A) (desk : Desk E K W A)
     (users : UserTable) (pass : Pass Noted) (limit : ℕ) (end : Served) (shown shown' : Option Shown)
     (entries : List Entry) (failures : ℕ) (kept : Option (List ℕ)) : Type 0 where
   pub told : List Noted
@@ -180,27 +180,27 @@ pub record AreServed {E K W : Type 0} (answers : AnswersAt E K W) (desk : Desk E
 -- ---- while connections are accepted
 
 -- what doesn't change: the desk, the users, the pass that was given, and what the doors showed at the beginning
-pub record Begun (E K W : Type 0) : Type 0 where
-  pub desk : Desk E K W
+pub record Begun (E K W A : Type 0) : Type 0 where
+  pub desk : Desk E K W A
   pub users : UserTable
   pub pass : Pass Noted
   pub shown : Option Shown
 
 -- a connection that a thread serves at this desk: its number, counted from 0, how it was accepted, and the count of
 -- drawn numbers that its pass knows
-pub record Waiting (E K W : Type 0) : Type 0 where
+pub record Waiting (E K W A : Type 0) : Type 0 where
   pub number : ℕ
   pub arrival : Arrival
   pub count : ℕ
-  pub desk : Desk E K W
+  pub desk : Desk E K W A
   pub users : UserTable
 
 -- who accepts connections: what it began with, its pass, the threads that aren't joined, how many connections it
 -- accepted, and whether the doors failed
-pub record Accepting (E K W : Type 0) : Type 0 where
-  pub begun : Begun E K W
+pub record Accepting (E K W A : Type 0) : Type 0 where
+  pub begun : Begun E K W A
   pub pass : Pass Noted
-  pub threads : List (Waiting E K W)
+  pub threads : List (Waiting E K W A)
   pub accepted : ℕ
   pub end : Served
 
@@ -209,7 +209,7 @@ abbrev pub arrival_of : Pass Noted → LinkSeen → Arrival
 arrival_of pass link = record { caller = number_of pass; before = seen_by pass; link = link }
 
 -- what a conversation leaves: its end, and the pass, which is of the desk, and knows of no more numbers than before
-pub record IsTalked {E K W : Type 0} (answers : AnswersAt E K W) (desk : Desk E K W)
+pub record IsTalked {E K W A : Type 0} (answers : AnswersAt E K W A) (desk : Desk E K W A)
     (users : UserTable) (arrival : Arrival) (count : ℕ) (ending : Ending) (pass : Pass Noted) : Type 0 where
   pub pass_is : IsPass desk pass
   pub number_is : number_of pass ≡ arrival.caller
@@ -217,7 +217,7 @@ pub record IsTalked {E K W : Type 0} (answers : AnswersAt E K W) (desk : Desk E 
   pub visit : IsVisit answers desk users arrival (seen_by pass) ending
 
 -- the pass took in another: it has seen what both have seen, and what is new to it isn't its own
-pub record HasMet {E K W : Type 0} (desk : Desk E K W) (pass other met : Pass Noted) : Type 0 where
+pub record HasMet {E K W A : Type 0} (desk : Desk E K W A) (pass other met : Pass Noted) : Type 0 where
   pub pass_is : IsPass desk met
   pub number_is : number_of met ≡ number_of pass
   pub drawing_is : drawing_of met ≡ drawing_of pass
@@ -248,7 +248,7 @@ visits_of (under_way arrival ∷ courses) = visits_of courses
 visits_of (over visit ∷ courses) = visit ∷ visits_of courses
 
 -- the thread of a connection with this number; its pass was the last that was given then
-abbrev pub thread_of : {E K W : Type 0} → Begun E K W → ℕ → Arrival → Waiting E K W
+abbrev pub thread_of : {E K W A : Type 0} → Begun E K W A → ℕ → Arrival → Waiting E K W A
 thread_of begun number arrival = record {
   number = number;
   arrival = arrival;
@@ -258,24 +258,24 @@ thread_of begun number arrival = record {
 }
 
 -- the threads of those that are under way, numbered from this number on
-abbrev pub threads_of : {E K W : Type 0} → Begun E K W → ℕ → List Course → List (Waiting E K W)
+abbrev pub threads_of : {E K W A : Type 0} → Begun E K W A → ℕ → List Course → List (Waiting E K W A)
 threads_of begun number [] = []
 threads_of begun number (under_way arrival ∷ courses) =
     thread_of begun number arrival ∷ threads_of begun (suc number) courses
 threads_of begun number (over visit ∷ courses) = threads_of begun (suc number) courses
 
 -- the caller has a number that was given before the count came to this
-pub record IsGiven {E K W : Type 0} (begun : Begun E K W) (count : ℕ) (arrival : Arrival) : Type 0 where
+pub record IsGiven {E K W A : Type 0} (begun : Begun E K W A) (count : ℕ) (arrival : Arrival) : Type 0 where
   pub another : IsAnother begun.desk (number_of begun.pass) arrival
   pub below : arrival.caller < count
 
 -- another than the first caller served the connection, and the pass took in that one's
-pub record IsTakenIn {E K W : Type 0} (begun : Begun E K W) (pass : Pass Noted) (visit : Visit) : Type 0 where
+pub record IsTakenIn {E K W A : Type 0} (begun : Begun E K W A) (pass : Pass Noted) (visit : Visit) : Type 0 where
   pub given : IsGiven begun (count_of pass) visit.arrival
   pub met : Contains (met_by pass) (visit.arrival.caller, length visit.after)
 
 -- what is known of a connection by the pass of who accepts
-abbrev pub Fits : {E K W : Type 0} → AnswersAt E K W → Begun E K W → Pass Noted → Course → Type 0
+abbrev pub Fits : {E K W A : Type 0} → AnswersAt E K W A → Begun E K W A → Pass Noted → Course → Type 0
 Fits answers begun pass (under_way arrival) =
     HasArrived (seen_by begun.pass) arrival × IsGiven begun (count_of pass) arrival
 Fits answers begun pass (over visit) =
@@ -302,8 +302,8 @@ caller_in course = (start_of course).caller
 
 -- Where accepting stands: the connections so far, in order. Where nobody else draws numbers, each that was drawn since
 -- is a connection's.
-pub record AcceptsSo {E K W : Type 0} (answers : AnswersAt E K W) (begun : Begun E K W)
-    (pass : Pass Noted) (threads : List (Waiting E K W)) (accepted : ℕ) (end : Served) (shown : Option Shown)
+pub record AcceptsSo {E K W A : Type 0} (answers : AnswersAt E K W A) (begun : Begun E K W A)
+    (pass : Pass Noted) (threads : List (Waiting E K W A)) (accepted : ℕ) (end : Served) (shown : Option Shown)
     : Type 0 where
   pub courses : List Course
   pub pass_is : IsPass begun.desk pass
@@ -320,19 +320,19 @@ pub record AcceptsSo {E K W : Type 0} (answers : AnswersAt E K W) (begun : Begun
   pub accepted_is : accepted ≡ length courses
   pub shown_is : shown ≡ option_map (showing (asked end (length courses)) (map shown_course courses)) begun.shown
 
-abbrev pub Stands : {E K W : Type 0} → AnswersAt E K W → Accepting E K W → Option Shown → Type 0
+abbrev pub Stands : {E K W A : Type 0} → AnswersAt E K W A → Accepting E K W A → Option Shown → Type 0
 Stands answers acceptor shown =
     AcceptsSo answers acceptor.begun acceptor.pass acceptor.threads acceptor.accepted acceptor.end shown
 
 -- no thread is left, and so many connections were accepted as were to be
-pub record HaveAllTalked {E K W : Type 0} (answers : AnswersAt E K W) (begun : Begun E K W) (pass : Pass Noted)
+pub record HaveAllTalked {E K W A : Type 0} (answers : AnswersAt E K W A) (begun : Begun E K W A) (pass : Pass Noted)
     (limit : ℕ) (end : Served) (shown : Option Shown) : Type 0 where
   pub accepted : ℕ
   pub counts : HasAccepted limit end accepted
   pub stands : AcceptsSo answers begun pass [] accepted end shown
 
 -- a further connection was accepted, with a link that tells this, and isn't served yet
-pub record HasAsked {E K W : Type 0} (answers : AnswersAt E K W) (acceptor : Accepting E K W)
+pub record HasAsked {E K W A : Type 0} (answers : AnswersAt E K W A) (acceptor : Accepting E K W A)
     (link : LinkSeen) (shown : Option Shown) : Type 0 where
   pub before : Option Shown
   pub stands : Stands answers acceptor before
@@ -341,13 +341,13 @@ pub record HasAsked {E K W : Type 0} (answers : AnswersAt E K W) (acceptor : Acc
   pub shown_is : shown ≡ option_map (after_accept link) before
 
 -- nothing changed but the pass and the threads
-pub record IsSame {E K W : Type 0} (acceptor acceptor' : Accepting E K W) : Type 0 where
+pub record IsSame {E K W A : Type 0} (acceptor acceptor' : Accepting E K W A) : Type 0 where
   pub begun : acceptor'.begun ≡ acceptor.begun
   pub accepted : acceptor'.accepted ≡ acceptor.accepted
   pub end : acceptor'.end ≡ acceptor.end
 
 -- one connection more was accepted
-pub record HasOneMore {E K W : Type 0} (acceptor acceptor' : Accepting E K W) : Type 0 where
+pub record HasOneMore {E K W A : Type 0} (acceptor acceptor' : Accepting E K W A) : Type 0 where
   pub begun : acceptor'.begun ≡ acceptor.begun
   pub accepted : acceptor'.accepted ≡ acceptor.accepted + 1
   pub end : acceptor'.end ≡ acceptor.end

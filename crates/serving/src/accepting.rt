@@ -77,7 +77,7 @@ impl<D: Doors, E: Engine, K: Keeper> Model for Started<D, E, K> {
     ghost use Rattle.history_lock.specs.Passes.{count_of};
     ghost use Rattle.serving.specs.Serving.{Waiting, arrival_of};
 
-    ghost Value = { Waiting E K E.World };
+    ghost Value = { Waiting E K E.World E.Asked };
 
     ghost view = { λ s. record {
       number = s.number;
@@ -169,6 +169,7 @@ fn start<
 ) -> Result<Started<D, E, K>, Talked<D::Rest>>
 where
     E::World: Send,
+    E::Asked: Send,
     requires { IsPass desk.now pass }
     ensures started { IfOk result (λ started. started ≡ record {
       number = number;
@@ -228,7 +229,7 @@ struct Acceptor<'s, D: Doors, E: Engine, K: Keeper> {
 impl<'s, D: Doors, E: Engine, K: Keeper> Model for Acceptor<'s, D, E, K> {
     ghost use Rattle.serving.specs.Serving.{Accepting};
 
-    ghost Value = { Accepting E K E.World };
+    ghost Value = { Accepting E K E.World E.Asked };
 
     ghost view = { λ a. record {
       begun = record { desk = a.desk.now; users = a.users.now; pass = a.first.value; shown = D.shown a.doors.value };
@@ -450,6 +451,7 @@ fn admit<
 ) -> Acceptor<'s, D, E, K>
 where
     E::World: Send,
+    E::Asked: Send,
     requires asked { HasAsked (IsAnswer E.plain K.failures K.steady) acceptor
         (link_seen D.Link.left D.Link.written D.Link.faults D.Link.sink_faults D.Link.sink_shortages D.Link.steady D.Link.sink_steady D.Link.references link)
         (D.shown doors.old) }
@@ -510,6 +512,7 @@ fn accept_all<
 ) -> Acceptor<'s, D, E, K>
 where
     E::World: Send,
+    E::Asked: Send,
     requires stands { Stands (IsAnswer E.plain K.failures K.steady) acceptor (D.shown doors.old) }
     requires none { acceptor.accepted ≡ 0 }
     requires end { acceptor.end ≡ Served.All }
@@ -555,6 +558,7 @@ fn serve_within<
 ) -> (Served, Pass, &'d mut D)
 where
     E::World: Send,
+    E::Asked: Send,
     requires pass { IsPass desk.now pass }
     requires new_doors { IfSome (D.shown doors.old) (λ shown. shown.connections ≡ []) }
     ensures name { result.2.ghost_name ≡ doors.entry.ghost_name }
@@ -596,6 +600,7 @@ fn serve_in_scope<
 ) -> (Served, Pass, &'d mut D)
 where
     E::World: Send,
+    E::Asked: Send,
     requires pass { IsPass desk.now pass }
     requires new_doors { IfSome (D.shown doors.old) (λ shown. shown.connections ≡ []) }
     ensures name { result.2.ghost_name ≡ doors.entry.ghost_name }
@@ -652,6 +657,7 @@ fn serve_by_threads<R: Threads + Wait + Sync, D: Doors + Send, E: Engine + Send,
 ) -> (Served, Pass)
 where
     E::World: Send,
+    E::Asked: Send,
     requires pass { IsPass desk.now pass }
     requires new_doors { IfSome (D.shown doors.old) (λ shown. shown.connections ≡ []) }
     ensures talked { HaveAllTalked (IsAnswer E.plain K.failures K.steady) (record {
@@ -690,6 +696,7 @@ pub fn serve_all<R: Threads + Wait + Sync, D: Doors + Send, E: Engine + Send, K:
 ) -> (Served, History<E>, K)
 where
     E::World: Send,
+    E::Asked: Send,
     requires pass { IsPass desk pass }
     requires new_doors { IfSome (D.shown doors.old) (λ shown. shown.connections ≡ []) }
 

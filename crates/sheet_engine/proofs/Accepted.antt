@@ -1,5 +1,6 @@
 -- A call makes something of the spreadsheets exactly where it writes and is answered.
-use Rattle.std.proofs.Common.{◌≡◌, ℕ, Bool, true, false, ◌&&◌, List, length, Option, Some, None, Result, Ok, Err, refl, sym, ap, ◌∙◌}
+use Rattle.std.proofs.Common.{◌≡◌, ℕ, Bool, true, false, ◌&&◌, List, length, Option, Some, None, Result, Ok, Err, refl}
+use Rattle.std.proofs.Common.{sym, ap, ◌∙◌}
 use Rattle.std.specs.Prelude.{is_ok, is_some, IsSomeAnd}
 use Rattle.world_model.specs.Book.{PlaceBook}
 use Rattle.world_model.specs.BookChange.{BookChange}
@@ -11,7 +12,8 @@ use Rattle.sheets_json.specs.declared.call.Call.TheVariants as call
 use Rattle.sheets_json.specs.declared.call.NewSpreadsheet.{NewSpreadsheet}
 use Rattle.json_shapes.specs.Reading.{Reading}
 use Rattle.sheets_json.specs.declared.place.Place.{Place}
-use Rattle.batch_engine.specs.Calls.{IsAnswered, IsAlone, IsMade, AreMade, Refusal, alone, answered_at, answered_by, effect_of, effect_on, told_of}
+use Rattle.batch_engine.specs.Calls.{IsAnswered, IsAlone, IsMade, AreMade, Refusal, alone, answered_at, answered_by}
+use Rattle.batch_engine.specs.Calls.{effect_of, effect_on, told_of}
 use Rattle.batch_engine.specs.Create.{IsCreateOf, makes_book, unless_broken}
 use Rattle.batch_engine.specs.Effects.{Effect, Becomes, IsNext}
 use Rattle.batch_engine.specs.Effects.Effect.{Nothing, Changes, Makes}
@@ -90,8 +92,8 @@ on_book : {X : Type 0} (found : Option PlaceBook) (Holds : PlaceBook → Type 0)
 on_book None Holds is each = absurd is
 on_book (Some book) Holds is each = each book is
 
-pub call_makes : (caller : Caller) (called : Call) (books : List PlaceBook) (told : Result Answer Refusal) (effect : Effect)
-    → IsAnswered caller called books told effect → makes effect ≡ (is_ok told && is_writing called)
+pub call_makes : (caller : Caller) (called : Call) (books : List PlaceBook) (told : Result Answer Refusal)
+    (effect : Effect) → IsAnswered caller called books told effect → makes effect ≡ (is_ok told && is_writing called)
 call_makes caller (call.Create spreadsheet) books told effect is = created caller.user spreadsheet books told effect is
 call_makes caller (call.Get id grids) books told effect is =
     on_book (book_with id books) _ is (λ book look. reads told effect look.1)
@@ -111,9 +113,12 @@ call_makes caller (call.WriteMany id mode blocks) books told effect is =
     on_book (book_with id books) _ is (λ book made. all_made _ _ _ _ book told effect made)
 call_makes caller (call.ClearMany id ranges) books told effect is =
     on_book (book_with id books) _ is (λ book made. all_made _ _ _ _ book told effect made)
-call_makes caller (call.ReadFiltered id filters dimension render) books told effect is = reads told effect is.1
-call_makes caller (call.Item id item) books told effect is = reads told effect is.1
-call_makes caller (call.Search id filters) books told effect is = reads told effect is.1
+call_makes caller (call.ReadFiltered id filters dimension render) books told effect is =
+    on_book (book_with id books) _ is (λ book seen. reads told effect seen.nothing)
+call_makes caller (call.Item id item) books told effect is =
+    on_book (book_with id books) _ is (λ book look. reads told effect look.1)
+call_makes caller (call.Search id filters) books told effect is =
+    on_book (book_with id books) _ is (λ book seen. reads told effect seen.nothing)
 
 -- ---- what comes next
 

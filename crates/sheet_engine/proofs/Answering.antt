@@ -1,5 +1,6 @@
 -- What is answered on spreadsheets that stand for what a history made is what one thread answers behind it.
-use Rattle.std.proofs.Common.{◌≡◌, ℕ, Bool, true, false, List, [], ◌∷◌, ◌++◌, Option, Some, None, MatchOption, Result, refl, sym, ap, subst, ◌∙◌}
+use Rattle.std.proofs.Common.{◌≡◌, ℕ, Bool, true, false, List, [], ◌∷◌, ◌++◌, Option, Some, None, MatchOption, Result}
+use Rattle.std.proofs.Common.{refl, sym, ap, subst, ◌∙◌}
 use Rattle.std.specs.Prelude.{is_some, IfOk}
 use Rattle.world_model.specs.Book.{PlaceBook}
 use Rattle.world_model.specs.World.{NameWorld, WorldStandsFor}

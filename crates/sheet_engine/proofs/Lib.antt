@@ -1,4 +1,5 @@
 pub mod OnItsBook
+pub mod AsRead
 pub mod Accepted
 pub mod Serving
 pub mod Answering

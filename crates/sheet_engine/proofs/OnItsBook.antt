@@ -1,6 +1,6 @@
 -- The spreadsheet that a call is on is the one of its route.
-use Rattle.std.proofs.Common.{◌≡◌, ◌⊎◌, inl, inr, List, [], ◌∷◌, subst, sym, refl, ◌∙◌, Bool, true, false, ◌&&◌}
-use Rattle.std.specs.Prelude.{Option, Some, None, is_none, Result, Ok, Err, IfOk}
+use Rattle.std.proofs.Common.{◌≡◌, List, [], ◌∷◌, sym, refl, ◌∙◌, Bool, true, false, ◌&&◌}
+use Rattle.std.specs.Prelude.{Option, Some, None, is_none, Result, Ok, Err, IfOk, if◌then◌else◌}
 use Rattle.std.specs.Option.{IsSome}
 use Rattle.std.proofs.lemmas.Bool.{false≢true}
 use Rattle.world_model.specs.Book.{PlaceBook}
@@ -13,7 +13,9 @@ use Rattle.sheets_json.specs.declared.call.Call.{Call}
 use Rattle.sheets_json.specs.declared.call.CallFault.{CallFault}
 use Rattle.sheets_json.specs.declared.call.CallFault.TheVariants as uncalled
 use Rattle.batch_engine.specs.Calls.{HasItsBook}
-use Rattle.sheet_engine.specs.Asks.{names_a_book, lacks_its_book}
+use Rattle.desk.specs.declared.entry.Ask.{Ask}
+use Rattle.sheet_engine.specs.Asks.{names_a_book, lacks_its_book, said_by, said_on}
+use Rattle.sheet_engine.specs.declared.fault.Fault.TheVariants as fault
 
 -- a spreadsheet that isn't lacking is there
 pub is_found : {A : Type 0} (names lacks : Bool) (looked : Option A) → lacks ≡ (names && is_none looked) → lacks ≡ false
@@ -69,10 +71,20 @@ module _ (books : List PlaceBook) (route : Route) where
   by_verb_on verb.Search body there =
       said (calls.many_searched route) _ (λ filters. each filters (calls.search_call route filters) (there refl))
 
-  -- a call that was read is on the spreadsheet of its route
-  pub is_on : (body : List _) (told : Result Call CallFault) → (lacks : Bool) → lacks ≡ lacks_its_book books route
-      → lacks ≡ false → (told ≡ calls.call_of route body) ⊎ (told ≡ Err uncalled.NoMemory) → IsOn told
-  is_on body told lacks is there (inl same) =
-      subst IsOn (sym same) (by_verb_on route.verb body
-      (λ named. is_found (names_a_book route.verb) lacks (book_with route.book books) is there named))
-  is_on body told lacks is there (inr same) = subst IsOn (sym same) tt
+  said_there : (told : Result Call CallFault) → IsOn told → IfOk (said_by told) (λ call. HasItsBook call books)
+  said_there (Ok call) on = on
+  said_there (Err uncalled.BadBody) on = tt
+  said_there (Err uncalled.EmptyBatch) on = tt
+  said_there (Err uncalled.NoMemory) on = tt
+
+  -- a call that an ask with the route says is on the spreadsheet of the route
+  pub is_there : (ask : Ask) (lacks : Bool) → lacks ≡ lacks_its_book books route → lacks ≡ false
+      → IfOk (said_on ask route) (λ call. HasItsBook call books)
+  is_there ask lacks is there = go ask.coded
+    where
+      go : (coded : Bool) → IfOk (if coded then Err fault.BadBody else said_by (calls.call_of route ask.body))
+          (λ call. HasItsBook call books)
+      go true = tt
+      go false = said_there (calls.call_of route ask.body)
+          (by_verb_on route.verb ask.body
+          (λ named. is_found (names_a_book route.verb) lacks (book_with route.book books) is there named))

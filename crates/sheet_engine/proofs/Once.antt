@@ -36,7 +36,8 @@ use Rattle.sheet_engine.specs.declared.fault.Fault.TheVariants as fault
 -- the range and the id behind five segments
 last_once : (verb : Verb) (last range id range' id' : List ℕ) → GivesLast verb last range id
     → GivesLast verb last range' id' → (range ≡ range') × (id ≡ id')
-last_once verb last range id range' id' (item is none same) (item is' none' same') = (none ∙ sym none', same ∙ sym same')
+last_once verb last range id range' id' (item is none same) (item is' none' same') =
+    (none ∙ sym none', same ∙ sym same')
 last_once verb last range id range' id' (item is none same) (other not same' none') = absurd (not is)
 last_once verb last range id range' id' (other not same none) (item is none' same') = absurd (not is)
 last_once verb last range id range' id' (other not same none) (other not' same' none') =
@@ -54,7 +55,8 @@ route_same verb verb' book book' range range' id id' query query' v b r i q =
     ∙ ap (λ one. route_as verb' book' range' id' one) q
 
 module _ (one_call : HasOneCall) (method target : List ℕ) where
-  route_once : (one another : Route) → IsRoute method target (Ok one) → IsRoute method target (Ok another) → one ≡ another
+  route_once : (one another : Route) → IsRoute method target (Ok one) → IsRoute method target (Ok another)
+      → one ≡ another
   route_once one another is is' =
       let call = one_call one.verb another.verb is.before is'.before method (path_of target) is.is_call is'.is_call in
       let last : (one.range ≡ another.range) × (one.id ≡ another.id) =
@@ -62,7 +64,8 @@ module _ (one_call : HasOneCall) (method target : List ℕ) where
       (subst (λ verb. GivesLast verb (part 5 (raw_segments is'.before)) one.range one.id) call.0
       (subst (λ before. GivesLast one.verb (part 5 (raw_segments before)) one.range one.id) call.1 is.last_is))
       is'.last_is in
-      route_same one.verb another.verb one.book another.book one.range another.range one.id another.id one.query another.query
+      route_same one.verb another.verb one.book another.book one.range another.range one.id another.id one.query
+      another.query
       call.0 (is.book_is ∙ ap (λ before. part 3 (raw_segments before)) call.1 ∙ sym is'.book_is) last.0 last.1
       (is.query_is ∙ sym is'.query_is)
 
@@ -114,8 +117,8 @@ module _ (one_call : HasOneCall) (calls : CallsAnsweredOnce) (books : List Place
       → one ≡ another
   asks_once ask one another is is' =
       is.asked_is ∙ ap (asked_for books ask)
-      (routed_once one_call (method_of ask.target) (target_of ask.target) is.routed is'.routed is.told is'.told is.is_route
-      is'.is_route) ∙ sym is'.asked_is
+      (routed_once one_call (method_of ask.target) (target_of ask.target) is.routed is'.routed is.told is'.told
+      is.is_route is'.is_route) ∙ sym is'.asked_is
 
   asked_once : (ask : Ask) (one another : Result (Caller × Call) Fault) → IsAsked books ask one
       → IsAsked books ask another → one ≡ another
@@ -140,7 +143,8 @@ module _ (one_call : HasOneCall) (calls : CallsAnsweredOnce) (books : List Place
       → (outcome_of asked told ≡ outcome_of asked' told') × (effect ≡ effect')
   step_once ask asked asked' told told' effect effect' is is' =
       let same = asked_once ask asked asked' is.is_asked is'.is_asked in
-      let ends = ends_once asked' told told' effect effect' (subst (λ a. Ends books a told effect) same is.ends) is'.ends in
+      let ends = ends_once asked' told told' effect effect' (subst (λ a. Ends books a told effect) same is.ends)
+      is'.ends in
       (ap (λ a. outcome_of a told) same ∙ ap (outcome_of asked') ends.0, ends.1)
 
 -- ---- histories
@@ -151,9 +155,9 @@ module _ (one_call : HasOneCall) (calls : CallsAnsweredOnce) (apart : StandsForA
       → (outcome ≡ another) × (effect ≡ effect')
   answered_once world ask outcome another effect effect' is is' =
       let same_books = books_once apart is.books is'.books world.books is.seen.each is'.seen.each in
-      let same = step_once one_call calls is'.books (books_sound is'.books world.books is'.seen.each) ask is.asked is'.asked
-      is.told is'.told effect effect' (subst (λ books. IsStep books ask is.asked is.told effect) same_books is.is_step)
-      is'.is_step in
+      let same = step_once one_call calls is'.books (books_sound is'.books world.books is'.seen.each) ask is.asked
+      is'.asked is.told is'.told effect effect'
+      (subst (λ books. IsStep books ask is.asked is.told effect) same_books is.is_step) is'.is_step in
       (is.outcome_is ∙ same.0 ∙ sym is'.outcome_is, same.1)
 
   replays_once : (start : NameWorld) (entries : List Entry) (world world' : NameWorld) → ReplaysFrom start entries world
@@ -174,7 +178,9 @@ module _ (one_call : HasOneCall) (calls : CallsAnsweredOnce) (apart : StandsForA
 
   pub one_count : HasOneCount Cells
   one_count entries count another is is' =
-      let same = replays_once opening_world entries is.stands.world is'.stands.world is.stands.replays is'.stands.replays in
+      let same = replays_once opening_world entries is.stands.world is'.stands.world is.stands.replays
+      is'.stands.replays in
       let same_books = books_once apart is.books is'.books is'.stands.world.books
-      (subst (λ (w : NameWorld). AllZip BookStandsFor is.books w.books) same is.stands.seen.each) is'.stands.seen.each in
+      (subst (λ (w : NameWorld). AllZip BookStandsFor is.books w.books) same is.stands.seen.each)
+      is'.stands.seen.each in
       is.count_is ∙ ap filled_in same_books ∙ sym is'.count_is

@@ -1,6 +1,7 @@
 -- What is answered is served, and what is accepted has a user and no content coding.
-use Rattle.std.proofs.Common.{◌≡◌, ℕ, Bool, true, false, List, Option, Some, None, MatchOption, Result, Ok, Err, refl, rules, sym, subst}
-use Rattle.std.specs.Prelude.{if◌then◌else◌, not, IsSome, IsTrue, ◌==◌, ⊤}
+use Rattle.std.proofs.Common.{◌≡◌, ℕ, Bool, true, false, List, Option, Some, None, MatchOption, Result, Ok, Err, refl}
+use Rattle.std.proofs.Common.{rules, sym, subst}
+use Rattle.std.specs.Prelude.{if◌then◌else◌, IsSome, IsTrue, ◌==◌, ⊤}
 use Rattle.std.specs.List.{list_any}
 use Rattle.std.proofs.lemmas.Bool.{false≢true}
 use Rattle.world_model.specs.Book.{PlaceBook}
@@ -13,7 +14,8 @@ use Rattle.sheets_json.specs.declared.call.Call.{Call}
 use Rattle.batch_engine.specs.declared.calls.Caller.{Caller}
 use Rattle.desk.specs.Steps.{IsServed, served}
 use Rattle.desk.specs.declared.entry.Ask.{Ask}
-use Rattle.sheet_engine.specs.Asks.{IsAsked, IsAskedBy, asked_on, asked_for, caller_of, is_served, lacks_its_book, made_by, said_by}
+use Rattle.sheet_engine.specs.Asks.{IsAsked, IsAskedBy, asked_on, asked_for, caller_of, lacks_its_book, made_by}
+use Rattle.sheet_engine.specs.Asks.{said_by}
 use Rattle.sheets_json.specs.Calls.{call_of}
 use Rattle.sheet_engine.specs.Answers.{is_accepted, outcome_of, status_of, status_of_fault, status_of_rule}
 use Rattle.sheet_engine.specs.declared.fault.Fault.{Fault}
@@ -26,16 +28,16 @@ IsCall (Err found) = ⊥
 
 -- ---- what is a call has no content coding
 
-coding_free : (books : List PlaceBook) (ask : Ask) (route : Route) → IsCall (asked_on books ask route) → ask.coded ≡ false
+coding_free : (books : List PlaceBook) (ask : Ask) (route : Route) → IsCall (asked_on books ask route)
+    → ask.coded ≡ false
 coding_free books ask route is =
-    go (not (is_served route.verb)) (lacks_its_book books route) ask.coded (said_by (call_of route ask.body)) is
+    go (lacks_its_book books route) ask.coded (said_by (call_of route ask.body)) is
   where
-    go : (unserved lacks coded : Bool) (said : Result Call Fault) → IsCall (if unserved then Err fault.NoRoute
-        else if lacks then Err fault.NoBook else if coded then Err fault.BadBody else said) → coded ≡ false
-    go true lacks coded said is = absurd is
-    go false true coded said is = absurd is
-    go false false true said is = absurd is
-    go false false false said is = refl
+    go : (lacks coded : Bool) (said : Result Call Fault)
+        → IsCall (if lacks then Err fault.NoBook else if coded then Err fault.BadBody else said) → coded ≡ false
+    go true coded said is = absurd is
+    go false true said is = absurd is
+    go false false said is = refl
 
 uncoded : (books : List PlaceBook) (ask : Ask) (routed : Result Route RouteFault) → IsCall (asked_for books ask routed)
     → ask.coded ≡ false

@@ -31,8 +31,8 @@ as_fault (Ok answer) = Ok answer
 as_fault (Err (at, broken)) = Err (fault.Broken at broken)
 
 -- the caller's call is answered on the spreadsheets
-pub record IsCalled (caller : Caller) (books : List PlaceBook) (call : Call) (told : Result Answer Fault) (effect : Effect)
-    : Type 0 where
+pub record IsCalled (caller : Caller) (books : List PlaceBook) (call : Call) (told : Result Answer Fault)
+    (effect : Effect) : Type 0 where
   pub answer : Result Answer Refusal
   pub answered : IsAnswered caller call books answer effect
   pub told_is : told ≡ as_fault answer
@@ -43,8 +43,8 @@ Ends books (Ok (caller, call)) told effect = IsCalled caller books call told eff
 Ends books (Err found) told effect = (told ≡ Err found) × (effect ≡ Effect.Nothing)
 
 -- the ask is answered so, or has that fault, and makes that of the spreadsheets
-pub record IsStep (books : List PlaceBook) (ask : Ask) (asked : Result (Caller × Call) Fault) (told : Result Answer Fault)
-    (effect : Effect) : Type 0 where
+pub record IsStep (books : List PlaceBook) (ask : Ask) (asked : Result (Caller × Call) Fault)
+    (told : Result Answer Fault) (effect : Effect) : Type 0 where
   pub is_asked : IsAsked books ask asked
   pub ends : Ends books asked told effect
 
@@ -106,12 +106,12 @@ outcome_of asked told = record { status = status_of told; body = body_of told; a
 -- ---- what the private functions hand to one another
 
 -- the spreadsheets after it are told where it makes something of them
-pub record Makes (books : List PlaceBook) (ask : Ask) (told : Result Answer Fault) (next : Option (List PlaceBook)) : Type 0
-  where
-    pub asked : Result (Caller × Call) Fault
-    pub effect : Effect
-    pub is_step : IsStep books ask asked told effect
-    pub is_next : IsNext books effect next
+pub record Makes (books : List PlaceBook) (ask : Ask) (told : Result Answer Fault)
+    (next : Option (List PlaceBook)) : Type 0 where
+  pub asked : Result (Caller × Call) Fault
+  pub effect : Effect
+  pub is_step : IsStep books ask asked told effect
+  pub is_next : IsNext books effect next
 
 -- what is told of a call, as of its ask
 abbrev pub told_by : batch.Outcome → Result Answer Fault

@@ -1,5 +1,5 @@
 -- Which call an ask is, and who makes it, or its first fault (Google Sheets API v4 reference; RFC 6750 for who asks).
-use Rattle.std.specs.Prelude.{◌≡◌, ◌≢◌, ℕ, ◌==◌, Bool, true, false, ◌&&◌, not, List, Result, Ok, Err}
+use Rattle.std.specs.Prelude.{◌≡◌, ◌≢◌, ℕ, ◌==◌, Bool, true, false, ◌&&◌, List, Result, Ok, Err}
 use Rattle.std.specs.Prelude.{if◌then◌else◌, MatchOption}
 use Rattle.std.specs.List.{before_first, after_first}
 use Rattle.std.specs.Option.{is_none}
@@ -19,23 +19,8 @@ use Rattle.batch_engine.specs.declared.calls.Caller.{Caller}
 use Rattle.desk.specs.declared.entry.Ask.{Ask}
 use Rattle.sheet_engine.specs.declared.fault.Fault.{Fault}
 use Rattle.sheet_engine.specs.declared.fault.Fault.TheVariants as fault
-
--- ---- what is served
-
--- new spreadsheets, looks at one, batches of requests, appends, and reads, writes and clears of one range and of a list of
--- them are served
-abbrev pub is_served : Verb → Bool
-is_served verb.Create = true
-is_served verb.Get = true
-is_served verb.Batch = true
-is_served verb.Read = true
-is_served verb.ReadMany = true
-is_served verb.Write = true
-is_served verb.Append = true
-is_served verb.WriteMany = true
-is_served verb.Clear = true
-is_served verb.ClearMany = true
-is_served _ = false
+use Rattle.sheet_engine.specs.declared.asking.Reading.{Reading}
+use Rattle.sheet_engine.specs.declared.asking.Reading.TheVariants as reading
 
 -- each call but the one that makes a spreadsheet is on one that is there
 abbrev pub names_a_book : Verb → Bool
@@ -68,12 +53,12 @@ said_by (Err uncalled.NoMemory) = Err fault.BadBody
 abbrev pub lacks_its_book : List PlaceBook → Route → Bool
 lacks_its_book books route = names_a_book route.verb && is_none (book_with route.book books)
 
+-- what an ask with this route says, where the spreadsheet is there
+abbrev pub said_on : Ask → Route → Result Call Fault
+said_on ask route = if ask.coded then Err fault.BadBody else said_by (call_of route ask.body)
+
 abbrev pub asked_on : List PlaceBook → Ask → Route → Result Call Fault
-asked_on books ask route =
-    if not (is_served route.verb) then Err fault.NoRoute
-    else if lacks_its_book books route then Err fault.NoBook
-    else if ask.coded then Err fault.BadBody
-    else said_by (call_of route ask.body)
+asked_on books ask route = if lacks_its_book books route then Err fault.NoBook else said_on ask route
 
 -- the call of an ask with this route, or its fault; here, too, the line on memory decides nothing
 abbrev pub asked_for : List PlaceBook → Ask → Result Route RouteFault → Result Call Fault
@@ -101,13 +86,36 @@ made_by caller (Ok call) = Ok (caller, call)
 made_by caller (Err found) = Err found
 
 -- that user's ask is that call, or has that fault
-pub record IsAskedBy (user : List ℕ) (books : List PlaceBook) (ask : Ask) (asked : Result (Caller × Call) Fault) : Type 0
-  where
-    pub call : Result Call Fault
-    pub asks : AsksFor books ask call
-    pub asked_is : asked ≡ made_by (caller_of user ask) call
+pub record IsAskedBy (user : List ℕ) (books : List PlaceBook) (ask : Ask)
+    (asked : Result (Caller × Call) Fault) : Type 0 where
+  pub call : Result Call Fault
+  pub asks : AsksFor books ask call
+  pub asked_is : asked ≡ made_by (caller_of user ask) call
 
 -- the ask is that call of that caller, or has that fault; that nobody is known is before all others
 abbrev pub IsAsked : List PlaceBook → Ask → Result (Caller × Call) Fault → Type 0
 IsAsked books ask asked =
     MatchOption ask.user (asked ≡ Err fault.NoUser) (λ user. IsAskedBy user books ask asked)
+
+-- ---- what is read of an ask, whichever spreadsheets there are
+
+abbrev pub read_on : List ℕ → Ask → Route → Reading
+read_on user ask route = reading.Routed (caller_of user ask) route (said_on ask route)
+
+-- with this route, or its fault; here, too, the line on memory decides nothing
+abbrev pub read_for : List ℕ → Ask → Result Route RouteFault → Reading
+read_for user ask (Ok route) = read_on user ask route
+read_for user ask (Err unrouted.NoRoute) = reading.Faulty fault.NoRoute
+read_for user ask (Err unrouted.BadQuery) = reading.Faulty fault.BadQuery
+read_for user ask (Err unrouted.NoMemory) = reading.Faulty fault.NoRoute
+
+-- that is read of that user's ask
+pub record IsReadBy (user : List ℕ) (ask : Ask) (read : Reading) : Type 0 where
+  pub routed : Result Route RouteFault
+  pub told : routed ≢ Err unrouted.NoMemory
+  pub is_route : IsRoute (method_of ask.target) (target_of ask.target) routed
+  pub read_is : read ≡ read_for user ask routed
+
+-- that is read of the ask
+abbrev pub IsRead : Ask → Reading → Type 0
+IsRead ask read = MatchOption ask.user (read ≡ reading.Faulty fault.NoUser) (λ user. IsReadBy user ask read)

@@ -1,5 +1,5 @@
--- What the calls of a history make of the spreadsheets that there are in the beginning, by the names of their lines, and
--- what one thread answers an ask behind them.
+-- What the calls of a history make of the spreadsheets that there are in the beginning, by the names of their lines,
+-- and what one thread answers an ask behind them.
 use Rattle.std.specs.Prelude.{◌≡◌, ℕ, false, List, [], ◌∷◌, Result, Some}
 use Rattle.world_model.specs.Book.{PlaceBook}
 use Rattle.world_model.specs.Counts.{filled_in}

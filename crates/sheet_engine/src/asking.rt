@@ -1,7 +1,6 @@
 ghost use Rattle.std.specs.Prelude.{◌≡◌, IfOk};
-ghost use Rattle.batch_engine.specs.Calls.{HasItsBook};
-ghost use Rattle.sheet_engine.specs.Asks.{is_served, names_a_book, lacks_its_book, method_of, target_of, asked_on};
-ghost use Rattle.sheet_engine.specs.Asks.{AsksFor, IsAskedBy, IsAsked, caller_of};
+ghost use Rattle.sheet_engine.specs.Asks.{names_a_book, lacks_its_book, method_of, target_of, said_on};
+ghost use Rattle.sheet_engine.specs.Asks.{read_on, IsReadBy, IsRead, caller_of};
 
 use crate::Fault;
 use batch_engine::Caller;
@@ -12,51 +11,46 @@ use sheets_http::{Route, RouteFault, Verb, route};
 use sheets_json::{Call, CallFault, read_call};
 use std::alloc::Global;
 
-/// The call that an ask is, and who makes it, or its first fault.
+/// What is read of an ask, whichever spreadsheets there are.
+#[derive(Drop)]
+pub enum Reading {
+    /// It has this fault.
+    Faulty(Fault),
+    /// It is on the spreadsheet of a route, if its call names one. Where that is there, the ask is a call, or has a
+    /// fault.
+    Routed {
+        /// Who makes the call.
+        caller: Caller,
+        /// The route.
+        route: Route,
+        /// The call, or its first fault.
+        said: Result<Call, Fault>,
+    },
+}
+
+/// What is read of an ask.
 ///
 /// # Errors
 ///
 /// [`NoMemory`] where memory runs out.
-pub(crate) fn asked(
-    alloc: Global,
-    world: &World,
-    ask: &Ask,
-) -> Result<Result<(Caller, Call), Fault>, NoMemory>
-    ensures asked { IfOk result (IsAsked world.now ask.now) }
-    ensures there { IfOk result (λ asked. IfOk asked (λ made. HasItsBook made.1 world.now)) }
+pub(crate) fn read(alloc: Global, ask: &Ask) -> Result<Reading, NoMemory>
+    ensures { IfOk result (IsRead ask.now) }
 {
     match &ask.user {
-        Some(user) => asked_by(alloc, world, user, ask),
-        None => Ok(Err(Fault::NoUser)),
+        Some(user) => read_by(alloc, user, ask),
+        None => Ok(Reading::Faulty(Fault::NoUser)),
     }
 }
 
-/// The call that an ask of that user is, and who makes it, or its first fault.
-fn asked_by(
-    alloc: Global,
-    world: &World,
-    user: &Text,
-    ask: &Ask,
-) -> Result<Result<(Caller, Call), Fault>, NoMemory>
-    ensures asked { IfOk result (IsAskedBy user.now world.now ask.now) }
-    ensures there { IfOk result (λ asked. IfOk asked (λ made. HasItsBook made.1 world.now)) }
-{
-    match asked_for(alloc, world, ask)? {
-        Ok(call) => Ok(Ok((caller_of(user, ask)?, call))),
-        Err(fault) => Ok(Err(fault)),
-    }
-}
-
-/// The call that an ask is, whoever makes it, or its first fault.
-fn asked_for(alloc: Global, world: &World, ask: &Ask) -> Result<Result<Call, Fault>, NoMemory>
-    ensures asked { IfOk result (AsksFor world.now ask.now) }
-    ensures there { IfOk result (λ asked. IfOk asked (λ call. HasItsBook call world.now)) }
+/// What is read of an ask of that user.
+fn read_by(alloc: Global, user: &Text, ask: &Ask) -> Result<Reading, NoMemory>
+    ensures { IfOk result (IsReadBy user.now ask.now) }
 {
     let (method, target) = split_line(ask.target.as_str());
     match route(alloc, method, target) {
-        Ok(route) => asked_on(alloc, world, ask, &route),
-        Err(RouteFault::NoRoute) => Ok(Err(Fault::NoRoute)),
-        Err(RouteFault::BadQuery) => Ok(Err(Fault::BadQuery)),
+        Ok(route) => read_on(alloc, user, ask, route),
+        Err(RouteFault::NoRoute) => Ok(Reading::Faulty(Fault::NoRoute)),
+        Err(RouteFault::BadQuery) => Ok(Reading::Faulty(Fault::BadQuery)),
         Err(RouteFault::NoMemory) => Err(NoMemory),
     }
 }
@@ -72,22 +66,22 @@ fn split_line(line: &str) -> (&str, &str)
     }
 }
 
-/// The call that an ask with that route is, or its first fault.
-fn asked_on(
-    alloc: Global,
-    world: &World,
-    ask: &Ask,
-    route: &Route,
-) -> Result<Result<Call, Fault>, NoMemory>
-    ensures asked { IfOk result (λ asked. asked ≡ asked_on world.now ask.now route.now) }
-    ensures there { IfOk result (λ asked. IfOk asked (λ call. HasItsBook call world.now)) }
+/// What is read of an ask of that user with that route.
+fn read_on(alloc: Global, user: &Text, ask: &Ask, route: Route) -> Result<Reading, NoMemory>
+    ensures { IfOk result (λ reading. reading ≡ read_on user.now ask.now route) }
 {
-    if !is_served(route.verb) {
-        return Ok(Err(Fault::NoRoute));
-    }
-    if lacks_its_book(world, route) {
-        return Ok(Err(Fault::NoBook));
-    }
+    let said = said_on(alloc, ask, &route)?;
+    Ok(Reading::Routed {
+        caller: caller_of(user, ask)?,
+        route,
+        said,
+    })
+}
+
+/// The call that an ask with that route is, where its spreadsheet is there, or its first fault.
+fn said_on(alloc: Global, ask: &Ask, route: &Route) -> Result<Result<Call, Fault>, NoMemory>
+    ensures { IfOk result (λ said. said ≡ said_on ask.now route.now) }
+{
     if ask.coded {
         return Ok(Err(Fault::BadBody));
     }
@@ -100,7 +94,7 @@ fn asked_on(
 }
 
 /// Whether the spreadsheet that the call is on isn't there.
-fn lacks_its_book(world: &World, route: &Route) -> bool
+pub(crate) fn lacks_its_book(world: &World, route: &Route) -> bool
     ensures { result ≡ lacks_its_book world.now route.now }
 {
     names_a_book(route.verb) && world.find(route.book.as_str()).is_none()
@@ -114,25 +108,6 @@ fn caller_of(user: &Text, ask: &Ask) -> Result<Caller, NoMemory>
         user: user.duplicate()?,
         project: ask.project.duplicate()?,
     })
-}
-
-/// Whether the call is served.
-fn is_served(verb: Verb) -> bool
-    ensures { result ≡ is_served verb }
-{
-    matches!(
-        verb,
-        Verb::Create
-            | Verb::Get
-            | Verb::Batch
-            | Verb::Read
-            | Verb::ReadMany
-            | Verb::Write
-            | Verb::Append
-            | Verb::WriteMany
-            | Verb::Clear
-            | Verb::ClearMany
-    )
 }
 
 /// Whether the call is on a spreadsheet, as each is but the one that makes one.

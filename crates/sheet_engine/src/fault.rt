@@ -12,7 +12,7 @@ use std::fmt;
 pub enum Fault {
     /// Nobody is known who asks.
     NoUser,
-    /// No call that is served has the method and the path.
+    /// No call has the method and the path.
     NoRoute,
     /// The call doesn't take the query.
     BadQuery,

@@ -7,5 +7,6 @@ mod fault;
 mod sheets;
 mod step;
 
+pub use asking::Reading;
 pub use fault::Fault;
 pub use sheets::Sheets;

@@ -1,5 +1,7 @@
 ghost use Rattle.std.specs.Prelude.{◌≡◌, IfOk};
 
+use crate::Reading;
+use crate::asking::read;
 use crate::step::{Stepped, body_of, status_of, step};
 use batch_engine::calls_answered_once;
 use cell_value::NoMemory;
@@ -10,14 +12,19 @@ use std::alloc::Global;
 use world_model::stands_for_apart;
 
 /// The spreadsheets of a server as an engine. An ask is a call of the API by its request line and its body; it has the
-/// first of the faults of a request ([`crate::Fault`]), or is answered, and a writing call that is answered is accepted.
-/// The spreadsheets after a call share with those before it all that it doesn't change.
+/// first of the faults of a request ([`crate::Fault`]), or is answered, and a writing call that is answered is
+/// accepted. The spreadsheets after a call share with those before it all that it doesn't change.
 pub enum Sheets {}
 
 impl Engine for Sheets {
     ghost use Rattle.sheet_engine.specs.Replay.{Plain, Stands, Cells};
+    ghost use Rattle.sheet_engine.specs.Asks.{IsRead};
 
     type World = World;
+
+    type Asked = Reading;
+
+    ghost reads = { IsRead };
 
     ghost plain = { Plain };
 
@@ -30,8 +37,17 @@ impl Engine for Sheets {
         World::opening(alloc)
     }
 
-    fn answer(alloc: Global, world: &World, ask: &Ask) -> Result<Answered<World>, NoMemory> {
-        let Stepped { told, next } = step(alloc, world, ask)?;
+    fn read(alloc: Global, ask: &Ask) -> Result<Reading, NoMemory> {
+        read(alloc, ask)
+    }
+
+    fn answer(
+        alloc: Global,
+        world: &World,
+        ask: &Ask,
+        asked: &Reading,
+    ) -> Result<Answered<World>, NoMemory> {
+        let Stepped { told, next } = step(alloc, world, ask, asked)?;
         Ok(Answered {
             status: status_of(&told),
             body: body_of(alloc, &told)?,

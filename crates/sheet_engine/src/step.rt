@@ -1,9 +1,10 @@
-ghost use Rattle.std.specs.Prelude.{◌≡◌, IfOk};
+ghost use Rattle.std.specs.Prelude.{◌≡◌, IfOk, Err, None};
 ghost use Rattle.batch_engine.specs.Calls.{HasItsBook};
+ghost use Rattle.sheet_engine.specs.Asks.{IsRead};
 ghost use Rattle.sheet_engine.specs.Answers.{Makes, Performs, told_by, status_of, body_of};
 
-use crate::Fault;
-use crate::asking::asked;
+use crate::asking::lacks_its_book;
+use crate::{Fault, Reading};
 use batch_engine::{Applied, Caller, Outcome, apply};
 use cell_value::{Bytes, NoMemory};
 use desk::Ask;
@@ -18,20 +19,45 @@ pub(crate) struct Stepped {
     pub(crate) next: Option<World>,
 }
 
-/// Answers an ask on the spreadsheets, which stay as they are.
+/// Answers an ask that was read on the spreadsheets, which stay as they are.
 ///
 /// # Errors
 ///
 /// [`NoMemory`] where memory runs out.
-pub(crate) fn step(alloc: Global, world: &World, ask: &Ask) -> Result<Stepped, NoMemory>
+pub(crate) fn step(
+    alloc: Global,
+    world: &World,
+    ask: &Ask,
+    reading: &Reading,
+) -> Result<Stepped, NoMemory>
+    requires { IsRead ask.now reading.now }
     ensures { IfOk result (λ step. Makes world.now ask.now step.told step.next) }
 {
-    match asked(alloc, world, ask)? {
-        Ok((caller, call)) => called(alloc, world, &caller, &call),
-        Err(fault) => Ok(Stepped {
-            told: Err(fault),
-            next: None,
-        }),
+    match reading {
+        Reading::Faulty(fault) => Ok(refused(*fault)),
+        Reading::Routed {
+            caller,
+            route,
+            said,
+        } => {
+            if lacks_its_book(world, route) {
+                return Ok(refused(Fault::NoBook));
+            }
+            match said {
+                Ok(call) => called(alloc, world, caller, call),
+                Err(fault) => Ok(refused(*fault)),
+            }
+        }
+    }
+}
+
+/// An ask has that fault, and nothing is made of the spreadsheets.
+fn refused(fault: Fault) -> Stepped
+    ensures { (result.told ≡ Err fault) × (result.next ≡ None) }
+{
+    Stepped {
+        told: Err(fault),
+        next: None,
     }
 }
 

@@ -45,8 +45,8 @@ stays_low : (before after : ℕ) → before ≡ 0 → after ≡ 0 → Rose befor
 stays_low before after low low' (inl more) = omega (arith, low, low', more)
 stays_low before after low low' (inr last) = omega (arith, low', last)
 
-pub always_available : {E W : Type 0} (plain : List Entry → Ask → Outcome → Type 0) → AreServed plain
-    → (desk : MemoryDesk E W) → IsAvailable plain desk
+pub always_available : {E W A : Type 0} (plain : List Entry → Ask → Outcome → Type 0) → AreServed plain
+    → (desk : MemoryDesk E W A) → IsAvailable plain desk
 always_available plain law desk users caller before wire after response answer is =
     let ask = ask_of users wire in
     elim answer.call.happens.one_of [
@@ -78,8 +78,8 @@ told_of cells entries calls count bytes written written' shortages shortages' en
     }
 
 -- the first pass had number 0, no other number was drawn, and nothing was told
-all_visited : {E W : Type 0} (desk : MemoryDesk E W) (pass : Pass Noted) → IsOpened desk pass → (visits : List Visit)
-    (told : List Noted)
+all_visited : {E W A : Type 0} (desk : MemoryDesk E W A) (pass : Pass Noted) → IsOpened desk pass
+    → (visits : List Visit) (told : List Noted)
     → All (HasVisitor (number_of pass) (count_of pass) visits) (drop (length (seen_by pass)) told)
     → All (IsVisited visits) told
 all_visited desk pass opened visits told all =
@@ -92,14 +92,14 @@ all_visited desk pass opened visits told all =
     (drop (length (seen_by pass)) told) all)
 
 -- connections were served at a desk, and what is told is told
-pub serves_at : {E W : Type 0} (plain : List Entry → Ask → Outcome → Type 0) (cells : List Entry → ℕ → Type 0)
-    (desk : MemoryDesk E W) (pass : Pass Noted) (users : UserTable) (limit : ℕ) (end end' : Served)
+pub serves_at : {E W A : Type 0} (plain : List Entry → Ask → Outcome → Type 0) (cells : List Entry → ℕ → Type 0)
+    (desk : MemoryDesk E W A) (pass : Pass Noted) (users : UserTable) (limit : ℕ) (end end' : Served)
     (before after : Moment (Option Shown)) (entries : List Entry) (kept : List ℕ) (by : Ended) → AreServed plain
     → IsOpened desk pass
     → users ≡ anyone → end ≡ end'
     → AreServedAt (IsAnsweredAt plain) desk users pass limit end before.state after.state entries 0 (Some kept)
     → TellsBehind cells end' entries before.written after.written before.shortages after.shortages by
-    → ServesAll E W plain cells limit before after by
+    → ServesAll E W A plain cells limit before after by
 serves_at plain cells desk pass users limit end end' before after entries kept by law opened users_are end_is served
     told =
     let these = subst (λ (u : UserTable). AreServedAt (IsAnsweredAt plain) desk u pass limit end' before.state

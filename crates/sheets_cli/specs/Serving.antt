@@ -30,23 +30,23 @@ use Rattle.sheets_cli.specs.declared.serve.TheConstants.{CALLERS}
 use Rattle.sheets_cli.specs.Program.{anyone, count_line}
 
 -- a desk whose journal is kept in memory
-abbrev pub MemoryDesk : Type 0 → Type 0 → Type 0
-MemoryDesk E W = Desk E (List ℕ) W
+abbrev pub MemoryDesk : Type 0 → Type 0 → Type 0 → Type 0
+MemoryDesk E W A = Desk E (List ℕ) W A
 
 -- which response answers a request at such a desk, whose keeper never fails
-abbrev pub IsAnsweredAt : {E W : Type 0} → (List Entry → Ask → Outcome → Type 0) → MemoryDesk E W → UserTable → ℕ
+abbrev pub IsAnsweredAt : {E W A : Type 0} → (List Entry → Ask → Outcome → Type 0) → MemoryDesk E W A → UserTable → ℕ
     → List Noted → Wire → List Noted → List ℕ → Type 0
 IsAnsweredAt plain = IsAnswer plain (λ (kept : List ℕ). 0) (λ kept. true)
 
 -- so none of its calls is answered 503
-abbrev pub IsAvailable : {E W : Type 0} → (List Entry → Ask → Outcome → Type 0) → MemoryDesk E W → Type 0
+abbrev pub IsAvailable : {E W A : Type 0} → (List Entry → Ask → Outcome → Type 0) → MemoryDesk E W A → Type 0
 IsAvailable plain desk =
     (users : UserTable) (caller : ℕ) (before : List Noted) (wire : Wire) (after : List Noted) (response : List ℕ)
     (answer : IsAnsweredAt plain desk users caller before wire after response) → answer.reply.status ≢ 503
 
 -- the desk was opened with an empty list, for so many callers, with the limit of a journal, and over a keeper that
 -- hadn't failed; the pass is its first one, of number 0, and nobody else draws numbers
-pub record IsOpened {E W : Type 0} (desk : MemoryDesk E W) (pass : Pass Noted) : Type 0 where
+pub record IsOpened {E W A : Type 0} (desk : MemoryDesk E W A) (pass : Pass Noted) : Type 0 where
   pub list_is : list_at desk ≡ []
   pub pair_is : pair_at desk ≡ (LONGEST_JOURNAL, 0)
   pub callers_are : callers_at desk ≡ CALLERS
@@ -98,9 +98,9 @@ IsVisited visits item = Contains (map visitor visits) (caller_of item)
 -- came in by open doors and were served at a new desk over it, whose list has items of their callers alone; what is
 -- told is the history with which that desk was closed, and its journal is kept. Of a moment the state is what the doors
 -- show.
-pub record ServesAll (E W : Type 0) (plain : List Entry → Ask → Outcome → Type 0) (cells : List Entry → ℕ → Type 0)
+pub record ServesAll (E W A : Type 0) (plain : List Entry → Ask → Outcome → Type 0) (cells : List Entry → ℕ → Type 0)
     (limit : ℕ) (before after : Moment (Option Shown)) (end : Ended) : Type 0 where
-  pub desk : MemoryDesk E W
+  pub desk : MemoryDesk E W A
   pub pass : Pass Noted
   pub opened : IsOpened desk pass
   pub available : IsAvailable plain desk
@@ -117,12 +117,12 @@ abbrev pub opened_on : ℕ → Moment (Option Shown) → Moment (Option Shown)
 opened_on port before = at_moment (option_map (after_open port) before.state) before.written before.shortages
 
 -- The command `serve` with this port and this number of connections: there was no memory for a desk, and nothing was
--- done; or the doors were opened once, on the port, which failed, and nothing else was done; or they were opened so, and
--- connections were served.
-pub data Serves (E W : Type 0) (plain : List Entry → Ask → Outcome → Type 0) (cells : List Entry → ℕ → Type 0)
+-- done; or the doors were opened once, on the port, which failed, and nothing else was done; or they were opened so,
+-- and connections were served.
+pub data Serves (E W A : Type 0) (plain : List Entry → Ask → Outcome → Type 0) (cells : List Entry → ℕ → Type 0)
     (port limit : ℕ) (before after : Moment (Option Shown)) (end : Ended) : Type 0 where
-  no_desk : end ≡ NoMemory → IsIdle before after → Serves E W plain cells port limit before after end
+  no_desk : end ≡ NoMemory → IsIdle before after → Serves E W A plain cells port limit before after end
   no_doors : end ≡ ReadFault → IsIdle (opened_on port before) after
-      → Serves E W plain cells port limit before after end
-  served_all : ServesAll E W plain cells limit (opened_on port before) after end
-      → Serves E W plain cells port limit before after end
+      → Serves E W A plain cells port limit before after end
+  served_all : ServesAll E W A plain cells limit (opened_on port before) after end
+      → Serves E W A plain cells port limit before after end

@@ -8,6 +8,7 @@ ghost use Rattle.connections.specs.Alone.{IsReply, IsResponse};
 ghost use Rattle.world_model.specs.Book.{PlaceBook};
 ghost use Rattle.sheet_engine.specs.Replay.{Plain, Cells};
 ghost use Rattle.sheets_cli.specs.Program.{anyone, status_of, status_at, line_of, Runs, Says};
+ghost use Rattle.sheet_engine.specs.declared.asking.Reading.{Reading};
 ghost use Rattle.sheets_cli.specs.Serving.{Serves};
 ghost use Rattle.sheets_cli.specs.Words.{ReadsAs, ReadsAsServe, ReadsAsNone};
 
@@ -76,7 +77,7 @@ pub fn sheets_main<R: AllocGlobal + Threads + Wait + Sync, I: Source, O: Sink, D
     // written, and the line on the faults.
     ensures serve { (port : ℕ) → (limit : ℕ) → ReadsAs (Command.Serve port limit) (map string_bytes words.now)
         → (end : Ended) × (result ≡ status_of end)
-        × Serves Sheets (List PlaceBook) Plain Cells port limit
+        × Serves Sheets (List PlaceBook) Reading Plain Cells port limit
         (at_moment (D.shown doors.old) (O.written output.old) (O.sink_shortages output.old))
         (at_moment (D.shown doors.new) (O.written output.new) (O.sink_shortages output.new)) end
         × Says (O.written faults.old) (O.written faults.new) (O.sink_faults faults.old) (O.sink_faults faults.new)

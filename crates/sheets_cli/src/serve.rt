@@ -27,9 +27,10 @@ pub(crate) fn serve_connections<
 >(rt: &R, port: u16, limit: u32, output: &mut O, faults: &mut O, doors: &mut D) -> u8
 where
     E::World: Send,
+    E::Asked: Send,
     requires { IfSome (D.shown doors.old) (λ shown. shown.connections ≡ []) }
     ensures serve { (end : Ended) × (result ≡ status_of end)
-        × Serves E E.World E.plain E.cells port limit
+        × Serves E E.World E.Asked E.plain E.cells port limit
         (at_moment (D.shown doors.old) (O.written output.old) (O.sink_shortages output.old))
         (at_moment (D.shown doors.new) (O.written output.new) (O.sink_shortages output.new)) end
         × Says (O.written faults.old) (O.written faults.new) (O.sink_faults faults.old) (O.sink_faults faults.new)
@@ -59,8 +60,9 @@ fn serve_anew<R: AllocGlobal + Threads + Wait + Sync, E: Engine + Send, O: Sink,
 ) -> Ended
 where
     E::World: Send,
+    E::Asked: Send,
     requires { IfSome (D.shown doors.old) (λ shown. shown.connections ≡ []) }
-    ensures serves { Serves E E.World E.plain E.cells port limit
+    ensures serves { Serves E E.World E.Asked E.plain E.cells port limit
         (at_moment (D.shown doors.old) (O.written output.old) (O.sink_shortages output.old))
         (at_moment (D.shown doors.new) (O.written output.new) (O.sink_shortages output.new)) result }
     ensures refused { result ≡ Ended.ReadFault → Rose (D.failures doors.old) (D.failures doors.new) }
@@ -91,9 +93,10 @@ fn serve_at<R: AllocGlobal + Threads + Wait + Sync, E: Engine + Send, O: Sink, D
 ) -> Ended
 where
     E::World: Send,
+    E::Asked: Send,
     requires new_doors { IfSome (D.shown doors.old) (λ shown. shown.connections ≡ []) }
     requires desk { IsOpened desk pass }
-    ensures serves { Serves E E.World E.plain E.cells port limit
+    ensures serves { Serves E E.World E.Asked E.plain E.cells port limit
         (at_moment (D.shown doors.old) (O.written output.old) (O.sink_shortages output.old))
         (at_moment (D.shown doors.new) (O.written output.new) (O.sink_shortages output.new)) result }
     ensures refused { result ≡ Ended.ReadFault → Rose (D.failures doors.old) (D.failures doors.new) }
@@ -129,9 +132,10 @@ fn serve_through<
 ) -> Ended
 where
     E::World: Send,
+    E::Asked: Send,
     requires new_doors { IfSome (D.shown doors.old) (λ shown. shown.connections ≡ []) }
     requires desk { IsOpened desk pass }
-    ensures serves { ServesAll E E.World E.plain E.cells limit
+    ensures serves { ServesAll E E.World E.Asked E.plain E.cells limit
         (at_moment (D.shown doors.old) (O.written output.old) (O.sink_shortages output.old))
         (at_moment (D.shown doors.new) (O.written output.new) (O.sink_shortages output.new)) result }
     ensures refused { result ≡ Ended.ReadFault → Rose (D.failures doors.old) (D.failures doors.new) }

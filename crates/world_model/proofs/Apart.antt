@@ -13,6 +13,7 @@ use Rattle.world_model.specs.Sound.{IsOnSheet, IsSheetSound}
 use Rattle.world_model.specs.StandsFor.{SheetStandsFor, BookStandsFor}
 use Rattle.world_model.proofs.ContentsApart.{same_held}
 use Rattle.world_model.proofs.Found.{merges_on}
+use Rattle.world_model.proofs.MetadataNamed.{items_apart}
 use Rattle.world_model.proofs.MergesApart.{merges_apart}
 use Rattle.world_model.proofs.ProtectionsNamed.{protections_apart}
 use Rattle.world_model.proofs.RangesNamed.{ranges_apart}
@@ -88,16 +89,23 @@ pub stands_for_apart : TablesByItems Content → ListsAreSame → (one other : P
 stands_for_apart tables lists one other names stands stands' =
     ap (λ text. record one { id = text }) (stands.id ∙ sym stands'.id)
     ∙ ap (λ text. record one { id = other.id; title = text }) (stands.title ∙ sym stands'.title)
-    ∙ ap (λ text. record other { owner = text; sheets = one.sheets; ranges = one.ranges; protections = one.protections })
-    (stands.owner ∙ sym stands'.owner)
-    ∙ ap (λ sheets. record other { sheets = sheets; ranges = one.ranges; protections = one.protections })
+    ∙ ap (λ text. record one { id = other.id; title = other.title; owner = text }) (stands.owner ∙ sym stands'.owner)
+    ∙ ap (λ sheets. record other {
+      sheets = sheets;
+      ranges = one.ranges;
+      protections = one.protections;
+      metadata = one.metadata;
+    })
     (same_sheets tables lists names.sheets one.sheets other.sheets stands.sheets stands'.sheets one.sheets other.sheets
     names.sheets stands.sheets stands'.sheets stands.sound.sheets stands'.sound.sheets
     (merges_on one.sheets one.sheets stands.sound.distinct stands.sound.sheets)
     (merges_on other.sheets other.sheets stands'.sound.distinct stands'.sound.sheets))
-    ∙ ap (λ ranges. record other { ranges = ranges; protections = one.protections })
+    ∙ ap (λ ranges. record other { ranges = ranges; protections = one.protections; metadata = one.metadata })
     (ranges_apart names.sheets one.sheets other.sheets stands.sheets stands'.sheets one.ranges other.ranges
     stands.sound.ranges stands'.sound.ranges (sym stands.ranges ∙ stands'.ranges))
-    ∙ ap (λ protections. record other { protections = protections })
+    ∙ ap (λ protections. record other { protections = protections; metadata = one.metadata })
     (protections_apart names.sheets one.sheets other.sheets stands.sheets stands'.sheets one.protections other.protections
     stands.sound.protections stands'.sound.protections (sym stands.protections ∙ stands'.protections))
+    ∙ ap (λ items. record other { metadata = items })
+    (items_apart names.sheets one.sheets other.sheets stands.sheets stands'.sheets one.metadata other.metadata
+    stands.sound.metadata stands'.sound.metadata (sym stands.metadata ∙ stands'.metadata))

@@ -19,6 +19,7 @@ use Rattle.world_model.specs.Sheet.{NameSheet, PlaceSheet}
 use Rattle.world_model.specs.Sound.{IsContentWithin, IsLineCount, IsOnSheet, IsSheetSound, IsSound}
 use Rattle.world_model.specs.StandsFor.{SheetStandsFor}
 use Rattle.world_model.proofs.Kept.{KeepsTitle, distinct_stay, merges_kept, size_within, still_found, titles_stay, visible_stays}
+use Rattle.world_model.proofs.MetadataNamed.{AreWithin as AreItemsWithin, items_stay}
 use Rattle.world_model.proofs.ProtectionsNamed.{AreWithin, protections_stay}
 use Rattle.world_model.proofs.StillStands.{merges_stand}
 use Rattle.world_model.proofs.WrittenSound.{held_within}
@@ -138,11 +139,11 @@ module _ (becomes : Content → Content) where
 
   -- what always holds of a spreadsheet holds once that is so of some sheets, if what is within stays within
   pub some_sound : (before after : PlaceBook) → AllZip MayBecome before.sheets after.sheets
-      → after.ranges ≡ before.ranges → after.protections ≡ before.protections
+      → after.ranges ≡ before.ranges → after.protections ≡ before.protections → after.metadata ≡ before.metadata
       → ((areas : (area : Area) → IsOnSheet before.sheets area → IsOnSheet after.sheets area) (one : Content)
       → IsContentWithin before.sheets one → IsContentWithin after.sheets (becomes one))
       → IsSound before → IsSound after
-  some_sound before after all same same' contents sound =
+  some_sound before after all same same' same'' contents sound =
       let long = length_all_zip MayBecome before.sheets after.sheets all in
       let places = same_places MayBecome may_size before.sheets after.sheets all in
       let areas = areas_stay before.sheets after.sheets all in
@@ -160,6 +161,8 @@ module _ (becomes : Content → Content) where
             (λ k d there. areas (get_or before.ranges k d).area (sound.ranges k d there));
         protections = subst (AreWithin after.sheets) (sym same')
             (protections_stay before.sheets after.sheets areas before.protections sound.protections);
+        metadata = subst (AreItemsWithin after.sheets) (sym same'')
+            (items_stay before.sheets after.sheets areas before.metadata sound.metadata);
       }
 
 -- ---- and stand for those by names

@@ -15,6 +15,7 @@ use Rattle.ref_rewrite.specs.declared.cell_content.Content.{Content}
 use Rattle.world_model.specs.Area.{Orders, area_named}
 use Rattle.world_model.specs.Book.{NameBook, PlaceBook, orders_of, sheet_with}
 use Rattle.world_model.specs.Content.{NameContent, content_named}
+use Rattle.world_model.specs.Metadata.{item_named}
 use Rattle.world_model.specs.Protections.{protection_named}
 use Rattle.world_model.specs.Ranges.{range_named}
 use Rattle.world_model.specs.Sheet.{NameSheet, PlaceSheet, lines_of}
@@ -134,6 +135,7 @@ stands_for_some book sound =
       sheets = map (called orders) book.sheets;
       ranges = map (range_named orders) book.ranges;
       protections = map (protection_named orders) book.protections;
+      metadata = map (item_named orders) book.metadata;
     } in (
       names,
       record {
@@ -144,5 +146,6 @@ stands_for_some book sound =
         sheets = sheets_stand orders names.sheets book.sheets book.sheets (same_orders orders book.sheets) sound.sheets;
         ranges = ap (λ orders. map (range_named orders) book.ranges) (sym (same_orders orders book.sheets));
         protections = ap (λ orders. map (protection_named orders) book.protections) (sym (same_orders orders book.sheets));
+        metadata = ap (λ orders. map (item_named orders) book.metadata) (sym (same_orders orders book.sheets));
       },
     )

@@ -1,18 +1,18 @@
 -- A change of lines by places stands for the change by names.
 use Rattle.std.proofs.Common.{◌≡◌, ℕ, ◌<◌, ◌≤◌, refl, sym, ap, subst, ◌∙◌, List, [], ◌∷◌, cond, Bool, true, false, length, get_or, ◌&&◌, arith, suc}
-use Rattle.std.specs.Prelude.{◌≢◌, ◌↔◌, Option, None, Some, IfSome, map, slice_get, ◌==◌, Contains}
+use Rattle.std.specs.Prelude.{◌≢◌, ◌↔◌, MatchOption, Option, None, Some, IfSome, map, slice_get, ◌==◌, Contains}
 use Rattle.std.specs.List.{All, AllZip, filter_map}
 use Rattle.std.specs.Option.{option_map}
 use Rattle.std.proofs.lemmas.Bool.{eqb-true, eq-eqb, false≢true, and_parts}
 use Rattle.std.proofs.lemmas.List.Elements.{All-contains}
-use Rattle.std.proofs.lemmas.Option.{same_Some, slice_get_within}
+use Rattle.std.proofs.lemmas.Option.{get_or_from_slice_get, same_Some, slice_get-get_or, slice_get_within}
 use Rattle.grid_range.specs.Area.{AreaWithin, band_on, with_band}
 use Rattle.grid_range.specs.Band.{Within}
 use Rattle.grid_range.specs.Change.{Changes, Fits, count_after, order_change}
 use Rattle.grid_range.specs.Following.{follow}
 use Rattle.grid_range.specs.FollowingLaws.{OrdersStay}
 use Rattle.grid_range.specs.Order.{IsOrder, is_among}
-use Rattle.grid_range.specs.Tracking.{area_followed, track_of}
+use Rattle.grid_range.specs.Tracking.{area_followed, place_of, track_of}
 use Rattle.grid_range.specs.TrackingLaws.{TracksAll, PlacesAll, TracksStayWithin, PlacesStayBelow}
 use Rattle.grid_range.specs.declared.area.Area.{Area}
 use Rattle.grid_range.specs.declared.axis.Axis.{Axis}
@@ -24,6 +24,10 @@ use Rattle.merge_ranges.specs.Following.{FollowedStayMerges}
 use Rattle.merge_ranges.specs.Merges.{IsMerge}
 use Rattle.named_ranges.specs.Following.{range_followed}
 use Rattle.named_ranges.specs.declared.range.NamedRange.{NamedRange}
+use Rattle.dev_metadata.specs.Following.{is_changed as is_line_changed, item_followed}
+use Rattle.dev_metadata.specs.Spot.{is_same_axis}
+use Rattle.dev_metadata.specs.declared.types.Item.{Item}
+use Rattle.dev_metadata.specs.declared.types.Spot.TheVariants as spot
 use Rattle.protection.specs.Following.{protection_followed}
 use Rattle.protection.specs.declared.range.Protection.{Protection}
 use Rattle.ref_rewrite.specs.declared.cell_content.Content.{Content}
@@ -31,18 +35,20 @@ use Rattle.world_model.specs.Area.{NameArea, Orders, area_named, band_named}
 use Rattle.world_model.specs.Book.{NameBook, PlaceBook, orders_of, sheet_with}
 use Rattle.world_model.specs.Counts.{grid_places}
 use Rattle.world_model.specs.Content.{content_named}
-use Rattle.world_model.specs.LineChange.{LineChange, book_changed, line_change, name_content_followed, name_protection_followed, name_range_followed, sheet_followed}
+use Rattle.world_model.specs.LineChange.{LineChange, book_changed, line_change, name_content_followed, name_item_followed, name_protection_followed, name_range_followed, sheet_followed}
 use Rattle.world_model.specs.PlaceChange.{SheetChanged, BookChanged}
+use Rattle.world_model.specs.Metadata.{item_named}
 use Rattle.world_model.specs.Protections.{protection_named}
 use Rattle.world_model.specs.Ranges.{range_named}
 use Rattle.world_model.specs.Sheet.{NameSheet, PlaceSheet, lines_of}
-use Rattle.world_model.specs.Sound.{AreMergesOf, IsSheetSound, IsLineCount, IsContentWithin, IsOnSheet, most_places, place_sheet_with}
+use Rattle.world_model.specs.Sound.{AreMergesOf, IsSheetSound, IsLineCount, IsContentWithin, IsOnSheet, IsSpotWithin, most_places, place_sheet_with}
 use Rattle.world_model.specs.StandsFor.{SheetStandsFor, BookStandsFor}
 use Rattle.world_model.proofs.Areas.{FollowsOn, area_follows, other_axis}
 use Rattle.world_model.proofs.Bands.{band_follows}
 use Rattle.world_model.proofs.Contents.{AreasFollow, held_follows}
 use Rattle.world_model.proofs.Counts.{count_after_change}
 use Rattle.world_model.proofs.MergesFollowed.{IsFollowed, IsInLines, merges_follow}
+use Rattle.world_model.proofs.MetadataNamed.{AreWithin as AreItemsWithin, items_follow}
 use Rattle.world_model.proofs.ProtectionsNamed.{AreWithin as AreProtectionsWithin, protections_follow}
 use Rattle.world_model.proofs.RangesNamed.{AreOnSheets, ranges_follow}
 use Rattle.world_model.proofs.SoundAfter.{changes_stay_sound}
@@ -66,6 +72,19 @@ both_listed rows cols r c row col =
 empty_unless : {N : Type 0} (b : Bool) (held : Option N) → ¬ (b ≡ true) → cond b held None ≡ None
 empty_unless true held never = absurd (never refl)
 empty_unless false held never = refl
+
+-- two axes are one, or each is the other one
+same_axis : (one other : Axis) → is_same_axis one other ≡ true → one ≡ other
+same_axis Rows Rows is = refl
+same_axis Rows Columns is = absurd (false≢true is)
+same_axis Columns Rows is = absurd (false≢true is)
+same_axis Columns Columns is = refl
+
+not_same_axis : (one other : Axis) → is_same_axis one other ≡ false → one ≡ other_axis other
+not_same_axis Rows Rows is = absurd (false≢true (sym is))
+not_same_axis Rows Columns is = refl
+not_same_axis Columns Rows is = refl
+not_same_axis Columns Columns is = absurd (false≢true (sym is))
 
 module _ (tracks : TracksAll) (places : PlacesAll) (orders_stay : OrdersStay) (placed : List PlaceSheet)
     (sheets : List NameSheet) (all : AllZip (SheetStandsFor sheets) placed sheets) (id : ℕ) (axis : Axis) (count : ℕ)
@@ -131,6 +150,67 @@ module _ (tracks : TracksAll) (places : PlacesAll) (orders_stay : OrdersStay) (p
         → filter_map (name_protection_followed to) (map (protection_named before) protections)
         ≡ map (protection_named after) (filter_map (protection_followed id axis count change) protections)
     protected_follow = protections_follow to count change before after placed areas.follow
+
+    -- the line at a place of the sheet's axis
+    line_goes : (place : ℕ) → place < length (before id axis) → after id axis ≡ to.order
+        → MatchOption (place_of change place) (¬ (Contains to.order (get_or (before id axis) place 0)))
+        (λ found. Contains to.order (get_or (before id axis) place 0)
+        × (get_or (after id axis) found 0 ≡ get_or (before id axis) place 0))
+    line_goes place there own =
+        goes (get_or (before id axis) place 0) (place_of change place)
+        (lines_go.places place (get_or (before id axis) place 0) (slice_get-get_or (before id axis) place 0 there))
+      where
+        goes : (name : ℕ) (found : Option ℕ)
+            → MatchOption found (¬ (Contains to.order name)) (λ there. slice_get to.order there ≡ Some name)
+            → MatchOption found (¬ (Contains to.order name))
+            (λ there. Contains to.order name × (get_or (after id axis) there 0 ≡ name))
+        goes name None gone = gone
+        goes name (Some there) at = (
+          listed to.order there name at,
+          ap (λ order. get_or order there 0) own ∙ get_or_from_slice_get to.order there name 0 at,
+        )
+
+    item_goes : (sheet : ℕ) (its : Axis) (place : ℕ) → IsSpotWithin placed (spot.Line sheet its place)
+        → is_line_changed id axis sheet its ≡ true
+        → MatchOption (place_of change place) (¬ (Contains to.order (get_or (before sheet its) place 0)))
+        (λ found. Contains to.order (get_or (before sheet its) place 0)
+        × (get_or (after sheet its) found 0 ≡ get_or (before sheet its) place 0))
+    item_goes sheet its place within is =
+        let found = found_by_name sheets (λ one. place < lines_on its one.table.rows one.table.cols) sheet placed sheets
+        all within in
+        let parts = and_parts (sheet == id) (is_same_axis its axis) is in
+        let one : sheet ≡ id = eqb-true sheet id parts.0 in
+        let on : its ≡ axis = same_axis its axis parts.1 in
+        let there : place < length (before sheet its) =
+        subst (λ n. place < n) (as_long sheets found.sheet found.names its found.stands
+        ∙ ap length (sym (lines_there sheets sheet its found.names found.is))) found.holds in
+        let own : after id axis ≡ to.order =
+        order_here to sheets id found.names (subst (λ n. sheet_with n sheets ≡ Some found.names) one found.is)
+        (eq-eqb id id refl) in
+        subst (λ n. MatchOption (place_of change place) (¬ (Contains to.order (get_or (before n its) place 0)))
+        (λ found. Contains to.order (get_or (before n its) place 0)
+        × (get_or (after n its) found 0 ≡ get_or (before n its) place 0))) (sym one)
+        (subst (λ a. MatchOption (place_of change place) (¬ (Contains to.order (get_or (before id a) place 0)))
+        (λ found. Contains to.order (get_or (before id a) place 0)
+        × (get_or (after id a) found 0 ≡ get_or (before id a) place 0))) (sym on)
+        (line_goes place (subst (λ a. place < length (before id a)) on
+        (subst (λ n. place < length (before n its)) one there)) own))
+
+    -- and the lines of other sheets and of the other axis
+    others_stay : (sheet : ℕ) (its : Axis) (b : Bool) → (sheet == id) ≡ b → (b && is_same_axis its axis) ≡ false
+        → after sheet its ≡ before sheet its
+    others_stay sheet its true same apart =
+        subst (λ a. after sheet a ≡ before sheet a) (sym (not_same_axis its axis apart)) (orders_across to sheets sheet)
+    others_stay sheet its false elsewhere apart = orders_elsewhere to sheets sheet elsewhere its
+
+    -- the metadata
+    pub metadata_follows : (items : List Item) → AreItemsWithin placed items
+        → filter_map (name_item_followed to) (map (item_named before) items)
+        ≡ map (item_named after) (filter_map (item_followed id axis change) items)
+    metadata_follows = items_follow to change before after placed (record {
+      here = item_goes;
+      elsewhere = λ sheet its. others_stay sheet its (sheet == id) refl;
+    })
 
     -- a sheet
     module _ (sheet sheet' : PlaceSheet) (names : NameSheet) (stands : SheetStandsFor sheets sheet names)
@@ -383,4 +463,8 @@ module _ (tracks : TracksAll) (places : PlacesAll) (orders_stay : OrdersStay) (w
             ∙ protected_follow tracks places orders_stay before.sheets names.sheets stands.sheets id axis count change fresh
             fits made before.protections stands.sound.protections
             ∙ ap (map (protection_named (orders_of (map (sheet_followed to) names.sheets)))) (sym changed.protections);
+        metadata = ap (filter_map (name_item_followed to)) stands.metadata
+            ∙ metadata_follows tracks places orders_stay before.sheets names.sheets stands.sheets id axis count change
+            fresh fits made before.metadata stands.sound.metadata
+            ∙ ap (map (item_named (orders_of (map (sheet_followed to) names.sheets)))) (sym changed.metadata);
       }

@@ -9,7 +9,7 @@ use Rattle.world_model.specs.Area.{NameArea, Orders, area_named}
 use Rattle.world_model.specs.Book.{orders_of, sheet_with}
 use Rattle.world_model.specs.BookChange.{BookChange, Named, changed_by, changed_by_all, name_content_renamed, name_content_without, marked_hidden, merged, new_sheet, sheet_renamed, titled, without_references}
 use Rattle.world_model.specs.BookChange.BookChange.{CellsUpdated, LinesChanged, SheetAdded, SheetDeleted, SheetTitled, SheetHidden}
-use Rattle.world_model.specs.BookChange.BookChange.{RangeAdded, RangeChanged, RangeDeleted, WordsRenamed, MergesSet, ProtectionsSet}
+use Rattle.world_model.specs.BookChange.BookChange.{RangeAdded, RangeChanged, RangeDeleted, WordsRenamed, MergesSet, ProtectionsSet, MetadataSet}
 use Rattle.world_model.specs.Content.{NameContent}
 use Rattle.world_model.specs.LineChange.{LineChange, line_change, name_content_followed, sheet_followed}
 use Rattle.world_model.specs.Sheet.{NameSheet}
@@ -240,6 +240,7 @@ one_stays named (RangeAdded range) id row col leaves there = kept_as_is (cell_of
 one_stays named (RangeChanged range) id row col leaves there = kept_as_is (cell_of id row col named.book)
 one_stays named (RangeDeleted range) id row col leaves there = kept_as_is (cell_of id row col named.book)
 one_stays named (ProtectionsSet protections) id row col leaves there = kept_as_is (cell_of id row col named.book)
+one_stays named (MetadataSet items) id row col leaves there = kept_as_is (cell_of id row col named.book)
 one_stays named (WordsRenamed old new) id row col leaves there =
     cell_kept (name_content_renamed old new) row col (sheet_with id named.book.sheets) _ (sheet_renamed old new)
     (find_kept (sheet_renamed old new) (λ one. refl) id named.book.sheets)

@@ -22,6 +22,7 @@ pub mod ContentsApart
 pub mod StillStands
 pub mod RangesNamed
 pub mod ProtectionsNamed
+pub mod MetadataNamed
 pub mod MergesApart
 pub mod Apart
 pub mod Filled
@@ -40,5 +41,7 @@ pub mod RangesChanged
 pub mod SheetMarked
 pub mod MergesSet
 pub mod ProtectionsSet
+pub mod MetadataSet
+pub mod LineAlone
 pub mod Protected
 pub mod Inserts

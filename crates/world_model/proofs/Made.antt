@@ -21,6 +21,7 @@ bare_sound id title owner = record {
   few_places = omega arith;
   ranges = λ k d there. absurd (let no : ⊥ = omega (arith, there) in no);
   protections = λ k d there. absurd (let no : ⊥ = omega (arith, there) in no);
+  metadata = λ k d there. absurd (let no : ⊥ = omega (arith, there) in no);
 }
 
 bare_stands : (id title owner : List ℕ) → NearlyStands (bare_book id title owner) (bare_names id title owner)
@@ -32,6 +33,7 @@ bare_stands id title owner = record {
   sheets = tt;
   ranges = refl;
   protections = refl;
+  metadata = refl;
 }
 
 bare_called : (id title owner : List ℕ) (next : ℕ) → HasNamesBelow next (bare_names id title owner)

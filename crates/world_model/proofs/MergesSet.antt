@@ -49,7 +49,7 @@ module _ (id : ℕ) (merges : List Area) where
       → IsSound (place_merges_set id merges book)
   merged_sound book sound can =
       changed_sound with_merges (chosen_keeps id (place_merged merges) (merged_keeps merges)) book
-      (place_merges_set id merges book) refl refl refl sound
+      (place_merges_set id merges book) refl refl refl refl sound
       (λ k d there. subst (λ title. 0 < length title)
       (sym (same_marks ((get_or book.sheets k d).id == id) (get_or book.sheets k d)).0) (sound.sheets k d there).titled)
       (λ i j d below there.

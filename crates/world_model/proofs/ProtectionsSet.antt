@@ -18,6 +18,7 @@ set_sound book protections sound within = record {
   few_places = sound.few_places;
   ranges = sound.ranges;
   protections = within;
+  metadata = sound.metadata;
 }
 
 pub set_changes : (book : PlaceBook) (protections : List Protection) → All (IsProtectionWithin book.sheets) protections
@@ -33,6 +34,7 @@ set_changes book protections within = record {
       sheets = is.stands.sheets;
       ranges = is.stands.ranges;
       protections = refl;
+      metadata = is.stands.metadata;
     };
     called = is.called;
   };

@@ -27,6 +27,7 @@ with_ranges_sound book ranges sound on = record {
   few_places = sound.few_places;
   ranges = on;
   protections = sound.protections;
+  metadata = sound.metadata;
 }
 
 with_ranges_stands : (book : PlaceBook) (ranges : List NamedRange) (named : Named) (names : List NameRange)
@@ -42,6 +43,7 @@ with_ranges_stands book ranges named names is on same = record {
     sheets = is.stands.sheets;
     ranges = same;
     protections = is.stands.protections;
+    metadata = is.stands.metadata;
   };
   called = is.called;
 }

@@ -17,6 +17,7 @@ use Rattle.world_model.specs.Book.{PlaceBook, orders_of}
 use Rattle.world_model.specs.BookChange.{AreChanges, BookChange, Named, NamedStandsFor, name_content_renamed, name_piece_renamed, sheet_renamed, words_renamed}
 use Rattle.world_model.specs.Content.{NameContent, NamePiece, content_named, piece_named}
 use Rattle.world_model.specs.RangeChange.{PlaceWordsRenamed, SomeWordsRenamed, WordsRenamedIn, content_renamed}
+use Rattle.world_model.specs.Metadata.{item_named}
 use Rattle.world_model.specs.Protections.{protection_named}
 use Rattle.world_model.specs.Ranges.{range_named}
 use Rattle.world_model.specs.Sheet.{NameSheet, PlaceSheet, lines_of}
@@ -72,7 +73,7 @@ module _ (old new : List ℕ) where
       → IsSound after
   some_renamed_sound before after sound renamed =
       some_sound (content_renamed old new) before after (each_may before.sheets after.sheets renamed.sheets) renamed.ranges
-      renamed.protections
+      renamed.protections renamed.metadata
       (renamed_within before.sheets after.sheets) sound
 
   all_are_some : (ones others : List PlaceSheet) → AllZip (WordsRenamedIn old new) ones others
@@ -91,6 +92,7 @@ module _ (old new : List ℕ) where
         sheets = all_are_some before.sheets after.sheets renamed.sheets;
         ranges = renamed.ranges;
         protections = renamed.protections;
+        metadata = renamed.metadata;
       })
 
   -- ---- and stands for the one by names
@@ -171,6 +173,8 @@ module _ (old new : List ℕ) where
       protections = is.stands.protections
           ∙ ap (map (protection_named (orders_of named.book.sheets))) (sym renamed.protections)
           ∙ ap (λ orders. map (protection_named orders) after.protections) (sym (same_orders named.book.sheets));
+      metadata = is.stands.metadata ∙ ap (map (item_named (orders_of named.book.sheets))) (sym renamed.metadata)
+          ∙ ap (λ orders. map (item_named orders) after.metadata) (sym (same_orders named.book.sheets));
     };
     called = All-map
         (λ (one : NameSheet). All (λ name. name < named.next) one.rows × All (λ name. name < named.next) one.cols)

@@ -21,6 +21,7 @@ use Rattle.world_model.specs.Book.{NameBook, PlaceBook, orders_of}
 use Rattle.world_model.specs.BookChange.{AreChanges, BookChange, Named, NewSheet, new_sheet, sheet_added}
 use Rattle.world_model.specs.Content.{content_named}
 use Rattle.world_model.specs.Counts.{grid_places}
+use Rattle.world_model.specs.Metadata.{item_named}
 use Rattle.world_model.specs.Protections.{protection_named}
 use Rattle.world_model.specs.Ranges.{range_named}
 use Rattle.world_model.specs.Sheet.{NameSheet, PlaceSheet, lines_of}
@@ -30,6 +31,7 @@ use Rattle.world_model.specs.Sound.{IsContentWithin, IsOnSheet, IsSheetSound, Is
 use Rattle.world_model.specs.StandsFor.{BookStandsFor, SheetStandsFor}
 use Rattle.world_model.specs.World.{HasNamesBelow}
 use Rattle.world_model.proofs.Inserted.{All-inserted, AllPairs-inserted, AllZip-inserted, find-inserted, length-inserted, still_not_all}
+use Rattle.world_model.proofs.MetadataNamed.{AreWithin as AreItemsWithin, items_same, items_stay}
 use Rattle.world_model.proofs.ProtectionsNamed.{AreWithin, protections_same, protections_stay}
 use Rattle.world_model.proofs.RangesNamed.{AreOnSheets, ranges_same}
 use Rattle.world_model.proofs.StillStands.{held_same, merges_same, still_stands}
@@ -104,6 +106,7 @@ pub record IsNearlySound (book : PlaceBook) : Type 0 where
   pub few_places : grid_places book.sheets ≤ most_places
   pub ranges : AreOnSheets book.sheets book.ranges
   pub protections : AreWithin book.sheets book.protections
+  pub metadata : AreItemsWithin book.sheets book.metadata
 
 pub record NearlyStands (book : PlaceBook) (names : NameBook) : Type 0 where
   pub sound : IsNearlySound book
@@ -113,6 +116,7 @@ pub record NearlyStands (book : PlaceBook) (names : NameBook) : Type 0 where
   pub sheets : AllZip (SheetStandsFor names.sheets) book.sheets names.sheets
   pub ranges : names.ranges ≡ map (range_named (orders_of names.sheets)) book.ranges
   pub protections : names.protections ≡ map (protection_named (orders_of names.sheets)) book.protections
+  pub metadata : names.metadata ≡ map (item_named (orders_of names.sheets)) book.metadata
 
 nearly_sound : (book : PlaceBook) → IsSound book → IsNearlySound book
 nearly_sound book sound = record {
@@ -123,6 +127,7 @@ nearly_sound book sound = record {
   few_places = sound.few_places;
   ranges = sound.ranges;
   protections = sound.protections;
+  metadata = sound.metadata;
 }
 
 pub sound_visible : (book : PlaceBook) → IsNearlySound book → list_all (λ sheet. sheet.hidden) book.sheets ≡ false
@@ -136,6 +141,7 @@ sound_visible book sound visible = record {
   few_places = sound.few_places;
   ranges = sound.ranges;
   protections = sound.protections;
+  metadata = sound.metadata;
 }
 
 nearly_stands : (book : PlaceBook) (names : NameBook) → BookStandsFor book names → NearlyStands book names
@@ -147,6 +153,7 @@ nearly_stands book names stands = record {
   sheets = stands.sheets;
   ranges = stands.ranges;
   protections = stands.protections;
+  metadata = stands.metadata;
 }
 
 pub stands_visible : (book : PlaceBook) (names : NameBook) → NearlyStands book names
@@ -159,6 +166,7 @@ stands_visible book names stands visible = record {
   sheets = stands.sheets;
   ranges = stands.ranges;
   protections = stands.protections;
+  metadata = stands.metadata;
 }
 
 module _ (empty : (rows cols row col : ℕ) → item_at (empty_table {T = Content} rows cols) row col ≡ None)
@@ -234,6 +242,7 @@ module _ (empty : (rows cols row col : ℕ) → item_at (empty_table {T = Conten
         omega (arith, places, few);
     ranges = λ k d there. area_stays (get_or book.ranges k d).area (sound.ranges k d there);
     protections = protections_stay book.sheets after area_stays book.protections sound.protections;
+    metadata = items_stay book.sheets after area_stays book.metadata sound.metadata;
   }
 
   still_visible : IsSound book → list_all (λ (one : PlaceSheet). one.hidden) after ≡ false
@@ -313,6 +322,9 @@ module _ (empty : (rows cols row col : ℕ) → item_at (empty_table {T = Conten
       protections = stands.protections
           ∙ protections_same book.sheets (orders_of named.book.sheets) (orders_of names) same_area book.protections
           stands.sound.protections;
+      metadata = stands.metadata
+          ∙ items_same book.sheets (orders_of named.book.sheets) (orders_of names) same_area book.metadata
+          stands.sound.metadata;
     }
 
     abbrev next : ℕ

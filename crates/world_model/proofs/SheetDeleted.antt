@@ -26,6 +26,7 @@ use Rattle.world_model.specs.Book.{PlaceBook, orders_of}
 use Rattle.world_model.specs.BookChange.{AreChanges, BookChange, name_content_without, name_piece_without, without_references}
 use Rattle.world_model.specs.Content.{NameContent, NamePiece, content_named, piece_named}
 use Rattle.world_model.specs.Counts.{grid_places}
+use Rattle.world_model.specs.Metadata.{item_named, name_items_elsewhere}
 use Rattle.world_model.specs.Protections.{name_protection_without, protection_named}
 use Rattle.world_model.specs.Ranges.{name_ranges_elsewhere, range_named}
 use Rattle.world_model.specs.Sheet.{NameSheet, PlaceSheet, lines_of}
@@ -35,6 +36,7 @@ use Rattle.world_model.specs.StandsFor.{SheetStandsFor}
 use Rattle.world_model.proofs.Becoming.{EachBecomes, all_sound, becomes_keeps, becomes_stands, same_places, sheet_becomes, some_sound}
 use Rattle.world_model.proofs.Kept.{KeepsTitle, distinct_stay, size_within, still_found, titles_stay}
 use Rattle.world_model.proofs.Lines.{KeepsLines, orders_stay_same}
+use Rattle.world_model.proofs.MetadataNamed.{AreWithin as AreItemsWithin, all_left_within as all_items_left_within, items_left}
 use Rattle.world_model.proofs.ProtectionsNamed.{AreWithin, all_left_within, protections_left}
 use Rattle.world_model.proofs.RangesNamed.{All-left, AreOnSheets, filter-named, range_same}
 use Rattle.world_model.proofs.StillStands.{lines_same, merges_same}
@@ -166,6 +168,8 @@ deleted_sound before after sheet sound visible gone =
           sound.ranges);
       protections = subst (AreWithin after.sheets) (sym gone.protections)
           (all_left_within sheet before.sheets after.sheets areas before.protections sound.protections);
+      metadata = subst (AreItemsWithin after.sheets) (sym gone.metadata)
+          (all_items_left_within sheet before.sheets after.sheets areas before.metadata sound.metadata);
     }
 
 -- some are without their references already
@@ -173,7 +177,7 @@ pub lost_sound : (before after : PlaceBook) (sheet : ℕ) → IsSound before →
     → IsSound after
 lost_sound before after sheet sound lost =
     some_sound (content_without sheet) before after (each_may before.sheets after.sheets lost.sheets) lost.ranges
-    lost.protections
+    lost.protections lost.metadata
     (λ areas. content_left sheet before.sheets after.sheets (λ area apart. areas area)) sound
   where
     may : (one other : PlaceSheet) → (other ≡ one) ⊎ LosesReferences sheet one other
@@ -325,6 +329,10 @@ deleted_changes before after sheet sound gone = record {
           (area_same sheet (orders_of named.book.sheets) (orders_of (left sheet named.book.sheets))
           (same_lines sheet named.book.sheets)) before.protections
           ∙ ap (map (protection_named (orders_of (left sheet named.book.sheets)))) (sym gone.protections);
+      metadata = ap (name_items_elsewhere sheet) is.stands.metadata
+          ∙ items_left sheet (orders_of named.book.sheets) (orders_of (left sheet named.book.sheets))
+          (same_lines sheet named.book.sheets) before.metadata
+          ∙ ap (map (item_named (orders_of (left sheet named.book.sheets)))) (sym gone.metadata);
     };
     called = All-map
         (λ (one : NameSheet). All (λ name. name < named.next) one.rows × All (λ name. name < named.next) one.cols)

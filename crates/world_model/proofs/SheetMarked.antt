@@ -20,6 +20,7 @@ use Rattle.world_model.specs.Book.{PlaceBook}
 use Rattle.world_model.specs.BookChange.{AreChanges, BookChange, Named, NamedStandsFor, marked_hidden, on_sheet, titled}
 use Rattle.world_model.specs.Content.{content_named}
 use Rattle.world_model.specs.Counts.{grid_places}
+use Rattle.world_model.specs.Metadata.{item_named}
 use Rattle.world_model.specs.Protections.{protection_named}
 use Rattle.world_model.specs.Ranges.{range_named}
 use Rattle.world_model.specs.Sheet.{NameSheet, PlaceSheet, lines_of}
@@ -28,6 +29,7 @@ use Rattle.world_model.specs.Sound.{AreMergesOf, IsContentWithin, IsLineCount, I
 use Rattle.world_model.specs.StandsFor.{SheetStandsFor}
 use Rattle.world_model.proofs.Kept.{merges_fit}
 use Rattle.world_model.proofs.Lines.{KeepsLines, orders_stay_same}
+use Rattle.world_model.proofs.MetadataNamed.{AreWithin as AreItemsWithin, items_stay}
 use Rattle.world_model.proofs.ProtectionsNamed.{AreWithin, protections_stay}
 use Rattle.world_model.proofs.SheetAdded.{titles_apart}
 use Rattle.world_model.proofs.StillStands.{still_stands}
@@ -101,12 +103,12 @@ module _ (change : PlaceSheet → PlaceSheet) (keeps : KeepsTable change) where
 
   -- the sheets are sound if no two titles are one, each has one and can have its merges, and one is shown
   pub changed_sound : (book after : PlaceBook) → after.sheets ≡ map change book.sheets → after.ranges ≡ book.ranges
-      → after.protections ≡ book.protections → IsSound book
+      → after.protections ≡ book.protections → after.metadata ≡ book.metadata → IsSound book
       → All (λ sheet. 0 < length (change sheet).title) book.sheets
       → AllPairs (λ one other. str_eq_ignore_ascii_case (change one).title (change other).title ≡ false) book.sheets
       → list_all (λ sheet. sheet.hidden) (map change book.sheets) ≡ false
       → All (λ sheet. AreMergesOf sheet (change sheet).merges) book.sheets → IsSound after
-  changed_sound book after made same same' sound titled apart visible merges = record {
+  changed_sound book after made same same' same'' sound titled apart visible merges = record {
     distinct = subst (λ sheets. AllPairs (λ (one other : PlaceSheet). one.id ≢ other.id) sheets) (sym made)
         (λ i j d below there.
         let inside : j < length book.sheets = subst (λ n. j < n) (length-map book.sheets change) there in
@@ -142,6 +144,9 @@ module _ (change : PlaceSheet → PlaceSheet) (keeps : KeepsTable change) where
         (subst (AreWithin (map change book.sheets)) (sym same')
         (protections_stay book.sheets (map change book.sheets) (area_stays book.sheets) book.protections
         sound.protections));
+    metadata = subst (λ sheets. AreItemsWithin sheets after.metadata) (sym made)
+        (subst (AreItemsWithin (map change book.sheets)) (sym same'')
+        (items_stay book.sheets (map change book.sheets) (area_stays book.sheets) book.metadata sound.metadata));
   }
 
 -- a sheet that may be changed keeps its merges
@@ -203,7 +208,7 @@ module _ (id : ℕ) (title : List ℕ) where
       → IsSound (on_place_sheet id (place_titled title) book)
   titled_sound book sound some free =
       changed_sound with_title (chosen_keeps id (place_titled title) (titled_keeps title)) book
-      (on_place_sheet id (place_titled title) book) refl refl refl sound
+      (on_place_sheet id (place_titled title) book) refl refl refl refl sound
       (λ k d there. has_title ((get_or book.sheets k d).id == id) (get_or book.sheets k d) some
       (sound.sheets k d there).titled)
       (λ i j d below there.
@@ -232,7 +237,7 @@ module _ (id : ℕ) (hidden : Bool) where
       → IsSound (on_place_sheet id (place_marked_hidden hidden) book)
   hidden_sound book sound visible =
       changed_sound with_mark (chosen_keeps id (place_marked_hidden hidden) (hidden_keeps hidden)) book
-      (on_place_sheet id (place_marked_hidden hidden) book) refl refl refl sound
+      (on_place_sheet id (place_marked_hidden hidden) book) refl refl refl refl sound
       (λ k d there. subst (λ title. 0 < length title)
       (sym (title_kept ((get_or book.sheets k d).id == id) (get_or book.sheets k d)))
       (sound.sheets k d there).titled)
@@ -316,6 +321,8 @@ module _ (id : ℕ) (by_names : NameSheet → NameSheet) (by_places : PlaceSheet
       protections = is.stands.protections
           ∙ ap (λ orders. map (protection_named orders) book.protections)
           (sym (orders_stay_same on_names on_keeps named.book.sheets));
+      metadata = is.stands.metadata
+          ∙ ap (λ orders. map (item_named orders) book.metadata) (sym (orders_stay_same on_names on_keeps named.book.sheets));
     };
     called = All-map
         (λ (one : NameSheet). All (λ name. name < named.next) one.rows × All (λ name. name < named.next) one.cols)

@@ -22,6 +22,8 @@ use Rattle.merge_ranges.specs.Following.{AreWithin, CameFrom, FollowedStayMerges
 use Rattle.named_ranges.specs.Following.{range_followed}
 use Rattle.named_ranges.specs.declared.range.NamedRange.{NamedRange}
 use Rattle.protection.specs.Following.{protection_followed}
+use Rattle.dev_metadata.specs.Following.{item_followed}
+use Rattle.dev_metadata.specs.declared.types.Item.{Item}
 use Rattle.protection.specs.declared.range.Protection.{Protection}
 use Rattle.ref_rewrite.specs.Following.{piece_followed}
 use Rattle.ref_rewrite.specs.declared.cell_content.Content.{Content}
@@ -39,6 +41,7 @@ use Rattle.world_model.proofs.Forms.{notation_kept}
 use Rattle.world_model.proofs.Kept.{KeepsTitle, merges_kept, only_one, found_both, found_too, still_found, visible_stays, distinct_stay, titles_stay, there_before, same_length}
 use Rattle.world_model.proofs.MovedTables.{row_came, col_came, same_size, size_moved, holds_where_moved}
 use Rattle.world_model.proofs.Orders.{on_both}
+use Rattle.world_model.proofs.MetadataNamed.{AreWithin as AreItemsWithin, all_followed_within as all_items_followed_within}
 use Rattle.world_model.proofs.ProtectionsNamed.{AreWithin as AreProtectionsWithin, all_followed_within}
 use Rattle.world_model.proofs.RangesNamed.{All-filter_map, AreOnSheets}
 
@@ -261,6 +264,11 @@ module _ (within : TracksStayWithin) (below : PlacesStayBelow) (stay : FollowedS
       → AreProtectionsWithin afters (filter_map (protection_followed id axis count change) protections)
   protections_stay = all_followed_within id axis count change befores afters area_stays_on
 
+  -- the metadata
+  items_stay : (items : List Item) → AreItemsWithin befores items
+      → AreItemsWithin afters (filter_map (item_followed id axis change) items)
+  items_stay = all_items_followed_within id axis count change befores afters area_stays_on
+
   -- a reference that follows is within, and one that is lost is no reference
   reference_stays : (reference : Reference) (area : Option Area) → IfSome area (IsAreaWithin afters)
       → IsPieceWithin afters (option_map_or (λ found. piece.Ref (record reference { area = found })) area piece.Lost)
@@ -425,4 +433,7 @@ changes_stay_sound within below stay before after id axis count change sound fit
   protections = subst (AreProtectionsWithin after.sheets) (sym changed.protections)
       (protections_stay within below stay before.sheets after.sheets id axis count change fits changed.sheets
       sound.distinct long room before.protections sound.protections);
+  metadata = subst (AreItemsWithin after.sheets) (sym changed.metadata)
+      (items_stay within below stay before.sheets after.sheets id axis count change fits changed.sheets sound.distinct long
+      room before.metadata sound.metadata);
 }

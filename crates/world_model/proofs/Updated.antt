@@ -9,6 +9,7 @@ use Rattle.grid_range.specs.Order.{IsOrder}
 use Rattle.cell_store.specs.Table.{item_at}
 use Rattle.ref_rewrite.specs.declared.cell_content.Content.{Content}
 use Rattle.world_model.specs.Content.{NameContent, content_named}
+use Rattle.world_model.specs.Metadata.{item_named}
 use Rattle.world_model.specs.Protections.{protection_named}
 use Rattle.world_model.specs.Ranges.{range_named}
 use Rattle.world_model.specs.Sheet.{NameSheet, PlaceSheet}
@@ -55,6 +56,7 @@ none_updated book id = record {
   sheets = none_in id book.sheets;
   ranges = refl;
   protections = refl;
+  metadata = refl;
 }
 
 -- one update more is one write more
@@ -105,6 +107,7 @@ one_updated before between id row col content updates so_far = record {
   sheets = all_in id row col content updates before.sheets between.sheets so_far.sheets;
   ranges = so_far.ranges;
   protections = so_far.protections;
+  metadata = so_far.metadata;
 }
 
 -- ---- sizes
@@ -196,6 +199,7 @@ same_updated before after id updates updates' sound is same = record {
       (each_found (λ (one : PlaceSheet). one.id) before.sheets sound.distinct k d there) same) is.sheets;
   ranges = is.ranges;
   protections = is.protections;
+  metadata = is.metadata;
 }
 
 -- ---- by names
@@ -386,4 +390,6 @@ updates_follow before after names id updates stands sound updated = record {
       ∙ ap (λ orders. map (range_named orders) after.ranges) (sym (same_orders names.sheets id updates));
   protections = stands.protections ∙ ap (map (protection_named (orders_of names.sheets))) (sym updated.protections)
       ∙ ap (λ orders. map (protection_named orders) after.protections) (sym (same_orders names.sheets id updates));
+  metadata = stands.metadata ∙ ap (map (item_named (orders_of names.sheets))) (sym updated.metadata)
+      ∙ ap (λ orders. map (item_named orders) after.metadata) (sym (same_orders names.sheets id updates));
 }

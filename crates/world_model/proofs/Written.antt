@@ -13,6 +13,7 @@ use Rattle.grid_range.specs.Area.{by_rows}
 use Rattle.cell_store.specs.Table.{HasPlace, item_at}
 use Rattle.ref_rewrite.specs.declared.cell_content.Content.{Content}
 use Rattle.world_model.specs.Content.{NameContent, content_named}
+use Rattle.world_model.specs.Metadata.{item_named}
 use Rattle.world_model.specs.Protections.{protection_named}
 use Rattle.world_model.specs.Ranges.{range_named}
 use Rattle.world_model.specs.Sheet.{NameSheet, PlaceSheet, lines_of}
@@ -249,4 +250,6 @@ writes_follow book names id row col r c content stands within at_row at_col = re
   protections = stands.protections
       ∙ ap (λ orders. map (protection_named orders) book.protections)
       (sym (same_orders names.sheets id row col r c content));
+  metadata = stands.metadata
+      ∙ ap (λ orders. map (item_named orders) book.metadata) (sym (same_orders names.sheets id row col r c content));
 }

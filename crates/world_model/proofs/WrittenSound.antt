@@ -20,6 +20,7 @@ use Rattle.world_model.specs.Sheet.{PlaceSheet}
 use Rattle.world_model.specs.Sound.{IsSheetSound, IsSound, IsLineCount, IsContentWithin, IsOnSheet, IsPieceWithin, most_places, most_sheets, place_sheet_with}
 use Rattle.world_model.specs.Writing.{table_written, sheet_put, book_put}
 use Rattle.world_model.proofs.Kept.{KeepsTitle, merges_kept, still_found, only_one, visible_stays, distinct_stay, titles_stay, there_before, same_length}
+use Rattle.world_model.proofs.MetadataNamed.{items_stay}
 use Rattle.world_model.proofs.ProtectionsNamed.{protections_stay}
 use Rattle.world_model.proofs.Puts.{SameSheet, put_is_same, item_written, item_chosen, same_place}
 
@@ -166,4 +167,5 @@ module _ (id row col : ℕ) (item : Option Content) where
       few_places = subst (λ n. n ≤ most_places) (sym (places_stay book.sheets)) sound.few_places;
       ranges = λ k d below. area_stays book.sheets (get_or book.ranges k d).area (sound.ranges k d below);
       protections = protections_stay book.sheets after (area_stays book.sheets) book.protections sound.protections;
+      metadata = items_stay book.sheets after (area_stays book.sheets) book.metadata sound.metadata;
     }

@@ -1,13 +1,14 @@
 -- What requests make of a spreadsheet, by the names of its lines (Google Sheets API v4 reference, Request): cells are
 -- updated, lines of a sheet are inserted, deleted or moved, a sheet is added, deleted, or gets another title, another
 -- mark or other merges, a named range is added, changed or deleted, words of formulas become another one, and the
--- spreadsheet gets other protected ranges. A line that is inserted, or that a new sheet has, gets the next name, which no
--- line ever had. A change is told where it can be made: its sheet is there, its places are, a change of lines fits and
--- tears no merge, and merges are such as the sheet can have.
+-- spreadsheet gets other protected ranges or other metadata. A line that is inserted, or that a new sheet has, gets the
+-- next name, which no line ever had. A change is told where it can be made: its sheet is there, its places are, a change
+-- of lines fits and tears no merge, and merges are such as the sheet can have.
 use Rattle.std.specs.Prelude.{◌≡◌, ℕ, Bool, ◌+◌, ◌++◌, ◌==◌, List, [], ◌∷◌, map, filter, take, drop, not, None, if◌then◌else◌}
 use Rattle.std.specs.List.{filter_map, fold, range_with_len}
 use Rattle.std.specs.Option.{option_map}
 use Rattle.std.specs.Str.{bytes_eq, str_eq_ignore_ascii_case}
+use Rattle.dev_metadata.specs.declared.types.Item.{Item}
 use Rattle.grid_range.specs.Change.{inserted_lines, order_change}
 use Rattle.grid_range.specs.declared.area.Area.{Area}
 use Rattle.grid_range.specs.declared.axis.Axis.{Axis}
@@ -18,6 +19,7 @@ use Rattle.world_model.specs.Area.{NameArea, area_named}
 use Rattle.world_model.specs.Book.{NameBook, PlaceBook, orders_of}
 use Rattle.world_model.specs.Content.{NameContent, NamePiece}
 use Rattle.world_model.specs.LineChange.{book_changed}
+use Rattle.world_model.specs.Metadata.{NameItem, item_named, name_items_elsewhere}
 use Rattle.world_model.specs.Protections.{NameProtection, name_protection_without, protection_named}
 use Rattle.world_model.specs.Ranges.{NameRange, name_ranges_elsewhere, range_named}
 use Rattle.world_model.specs.Sheet.{NameSheet}
@@ -34,7 +36,7 @@ pub record NewSheet : Type 0 where
   pub cols : ℕ
 
 -- one change of a spreadsheet; sheets and named ranges are known by their ids, and a sheet is added before the one at a
--- place, or last; ranges, merges and protections are told by the places of their lines
+-- place, or last; ranges, merges, protections and metadata are told by the places of their lines
 pub data BookChange : Type 0 where
   CellsUpdated : (sheet : ℕ) (updates : Updates) → BookChange
   LinesChanged : (sheet : ℕ) (axis : Axis) (change : Change) → BookChange
@@ -48,6 +50,7 @@ pub data BookChange : Type 0 where
   WordsRenamed : (old new : List ℕ) → BookChange
   MergesSet : (sheet : ℕ) (merges : List Area) → BookChange
   ProtectionsSet : (protections : List Protection) → BookChange
+  MetadataSet : (items : List Item) → BookChange
 
 -- a spreadsheet by the names of its lines, and the name that the next new line gets
 pub record Named : Type 0 where
@@ -95,12 +98,13 @@ abbrev pub without_references : ℕ → NameSheet → NameSheet
 without_references sheet other =
     record other { cells = λ row col. option_map (name_content_without sheet) (other.cells row col) }
 
--- and its named ranges and its protections go with it
+-- and its named ranges, its protections and its metadata go with it
 abbrev pub sheet_deleted : ℕ → NameBook → NameBook
 sheet_deleted id book = record book {
   sheets = map (without_references id) (filter (λ sheet. not (sheet.id == id)) book.sheets);
   ranges = name_ranges_elsewhere id book.ranges;
   protections = filter_map (name_protection_without id) book.protections;
+  metadata = name_items_elsewhere id book.metadata;
 }
 
 -- ---- a sheet gets another title or mark
@@ -145,6 +149,12 @@ range_deleted id book = with_ranges (filter (λ range. not (bytes_eq id range.id
 -- these and no others
 abbrev pub protections_set : List NameProtection → NameBook → NameBook
 protections_set protections book = record book { protections = protections }
+
+-- ---- the spreadsheet gets other metadata
+
+-- these items and no others
+abbrev pub metadata_set : List NameItem → NameBook → NameBook
+metadata_set items book = record book { metadata = items }
 
 -- ---- words of formulas become another one
 
@@ -200,6 +210,8 @@ changed_by named (BookChange.MergesSet sheet merges) =
 changed_by named (BookChange.ProtectionsSet protections) = record named {
   book = protections_set (map (protection_named (orders_of named.book.sheets)) protections) named.book;
 }
+changed_by named (BookChange.MetadataSet items) =
+    record named { book = metadata_set (map (item_named (orders_of named.book.sheets)) items) named.book }
 
 -- one change after another
 abbrev pub changed_by_all : Named → List BookChange → Named

@@ -2,6 +2,7 @@ pub mod Area
 pub mod Content
 pub mod Ranges
 pub mod Protections
+pub mod Metadata
 pub mod Sheet
 pub mod Counts
 pub mod Book
@@ -24,3 +25,4 @@ pub mod ChangingLaws
 pub mod Leaving
 pub mod Protected
 pub mod ProtectionLaws
+pub mod MetadataLaws

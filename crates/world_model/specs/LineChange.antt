@@ -1,10 +1,11 @@
 -- What a spreadsheet becomes when lines of a sheet are inserted, deleted or moved, by the names of lines:
 -- insertDimension, deleteDimension and moveDimension of the Google Sheets API v4. Cells keep their names, and the
--- cells of lines that went are gone; each reference to the sheet, each named range and each protected range of it, and
--- each of its merges follows its lines.
-use Rattle.std.specs.Prelude.{ℕ, Bool, false, List, length, map, Option, None, Some, option_and_then, nat_lt, ◌==◌, ◌&&◌, ◌||◌, if◌then◌else◌}
+-- cells of lines that went are gone; each reference to the sheet, each named range, each protected range and each item
+-- of metadata of it, and each of its merges follows its lines.
+use Rattle.std.specs.Prelude.{ℕ, Bool, false, List, length, map, not, Option, None, Some, option_and_then, nat_lt, ◌==◌, ◌&&◌, ◌||◌, if◌then◌else◌}
 use Rattle.std.specs.List.{filter_map}
 use Rattle.std.specs.Option.{option_map, option_map_or}
+use Rattle.dev_metadata.specs.Following.{is_changed}
 use Rattle.grid_range.specs.Following.{follow}
 use Rattle.grid_range.specs.NameBand.{NameBand}
 use Rattle.grid_range.specs.Order.{is_among}
@@ -14,6 +15,7 @@ use Rattle.grid_range.specs.declared.axis.Axis.TheVariants.{Rows, Columns}
 use Rattle.world_model.specs.Area.{NameArea, name_band_on, with_name_band}
 use Rattle.world_model.specs.Book.{NameBook, orders_of}
 use Rattle.world_model.specs.Content.{NameRef, NamePiece, NameContent}
+use Rattle.world_model.specs.Metadata.{NameItem, NameSpot}
 use Rattle.world_model.specs.Protections.{NameProtection}
 use Rattle.world_model.specs.Ranges.{NameRange}
 use Rattle.world_model.specs.Sheet.{NameSheet}
@@ -65,6 +67,18 @@ name_protection_followed to protection =
     })
     (name_area_followed to protection.area)
 
+-- a location on a line stays there while the sheet has the line, and is lost with it
+abbrev pub name_spot_followed : LineChange → NameSpot → Option NameSpot
+name_spot_followed to NameSpot.Spreadsheet = Some NameSpot.Spreadsheet
+name_spot_followed to (NameSpot.Sheet sheet) = Some (NameSpot.Sheet sheet)
+name_spot_followed to (NameSpot.Line sheet axis line) =
+    if is_changed to.sheet to.axis sheet axis && not (is_among to.order line) then None
+    else Some (NameSpot.Line sheet axis line)
+
+-- an item follows with its location, and goes with it
+abbrev pub name_item_followed : LineChange → NameItem → Option NameItem
+name_item_followed to item = option_map (λ spot. record item { spot = spot }) (name_spot_followed to item.spot)
+
 -- the band is one of more than one line side by side
 abbrev pub has_many_names : NameBand → Bool
 has_many_names (NameBand.Closed names) = nat_lt 1 (length names)
@@ -105,7 +119,7 @@ line_change sheets id axis change =
     let order = orders_of sheets id axis in
     record { sheet = id; axis = axis; order = order_after change order; changed = changed_names change order }
 
--- the spreadsheet after the change: its sheets follow, and so do its ranges and its protections
+-- the spreadsheet after the change: its sheets follow, and so do its ranges, its protections and its metadata
 abbrev pub book_changed : ℕ → Axis → OrderChange → NameBook → NameBook
 book_changed id axis change book =
     let to = line_change book.sheets id axis change in
@@ -113,4 +127,5 @@ book_changed id axis change book =
       sheets = map (sheet_followed to) book.sheets;
       ranges = filter_map (name_range_followed to) book.ranges;
       protections = filter_map (name_protection_followed to) book.protections;
+      metadata = filter_map (name_item_followed to) book.metadata;
     }

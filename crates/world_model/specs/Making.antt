@@ -14,12 +14,28 @@ use Rattle.world_model.specs.World.{NameWorld, WorldStandsFor}
 abbrev pub Placed : Type 0
 Placed = ℕ × NewSheet
 
--- a spreadsheet that has no sheets yet, no named ranges and no protected ones
+-- a spreadsheet that has no sheets yet, no named ranges, no protected ones and no metadata
 abbrev pub bare_book : List ℕ → List ℕ → List ℕ → PlaceBook
-bare_book id title owner = record { id = id; title = title; owner = owner; sheets = []; ranges = []; protections = [] }
+bare_book id title owner = record {
+  id = id;
+  title = title;
+  owner = owner;
+  sheets = [];
+  ranges = [];
+  protections = [];
+  metadata = [];
+}
 
 abbrev pub bare_names : List ℕ → List ℕ → List ℕ → NameBook
-bare_names id title owner = record { id = id; title = title; owner = owner; sheets = []; ranges = []; protections = [] }
+bare_names id title owner = record {
+  id = id;
+  title = title;
+  owner = owner;
+  sheets = [];
+  ranges = [];
+  protections = [];
+  metadata = [];
+}
 
 -- with one sheet more
 abbrev pub with_placed : PlaceBook → Placed → PlaceBook

@@ -1,5 +1,5 @@
 -- A change of the lines of a sheet by places, which is what a program does: items go with their lines, and the
--- references of formulas, the named ranges, the protected ranges and the merges follow by their numbers.
+-- references of formulas, the named ranges, the protected ranges, the metadata and the merges follow by their numbers.
 use Rattle.std.specs.Prelude.{◌≡◌, ◌≢◌, ℕ, map}
 use Rattle.std.specs.List.{AllZip, filter_map}
 use Rattle.std.specs.Option.{option_map}
@@ -7,6 +7,7 @@ use Rattle.grid_range.specs.declared.axis.Axis.{Axis}
 use Rattle.grid_range.specs.declared.change.Change.{Change}
 use Rattle.cell_store.specs.Moved.{GoesWithLines}
 use Rattle.cell_store.specs.Table.{Table, item_at}
+use Rattle.dev_metadata.specs.Following.{item_followed}
 use Rattle.merge_ranges.specs.Calls.{ListsJust}
 use Rattle.merge_ranges.specs.Following.{CameFrom, KeepsAll}
 use Rattle.named_ranges.specs.Following.{range_followed}
@@ -47,8 +48,8 @@ pub record SheetChanged (changed : ℕ) (axis : Axis) (count : ℕ) (change : Ch
   pub merges_follow : before.id ≡ changed → ListsJust (CameFrom axis count change before.merges) after.merges
   pub merges_stay : before.id ≢ changed → after.merges ≡ before.merges
 
--- the sheet with the id, which has `count` lines on the axis, is changed, and each sheet, each range and each protection
--- follows
+-- the sheet with the id, which has `count` lines on the axis, is changed, and each sheet, each range, each protection
+-- and each item of metadata follows
 pub record BookChanged (changed : ℕ) (axis : Axis) (count : ℕ) (change : Change) (before after : PlaceBook) : Type 0 where
   pub id : after.id ≡ before.id
   pub title : after.title ≡ before.title
@@ -56,3 +57,4 @@ pub record BookChanged (changed : ℕ) (axis : Axis) (count : ℕ) (change : Cha
   pub sheets : AllZip (SheetChanged changed axis count change) before.sheets after.sheets
   pub ranges : after.ranges ≡ filter_map (range_followed changed axis count change) before.ranges
   pub protections : after.protections ≡ filter_map (protection_followed changed axis count change) before.protections
+  pub metadata : after.metadata ≡ filter_map (item_followed changed axis change) before.metadata

@@ -57,6 +57,7 @@ pub record PlaceWordsRenamed (old new : List ℕ) (before after : PlaceBook) : T
   pub sheets : AllZip (WordsRenamedIn old new) before.sheets after.sheets
   pub ranges : after.ranges ≡ before.ranges
   pub protections : after.protections ≡ before.protections
+  pub metadata : after.metadata ≡ before.metadata
 
 -- the words of some sheets are renamed, and those of others aren't yet
 pub record SomeWordsRenamed (old new : List ℕ) (before after : PlaceBook) : Type 0 where
@@ -66,3 +67,4 @@ pub record SomeWordsRenamed (old new : List ℕ) (before after : PlaceBook) : Ty
   pub sheets : AllZip (λ one other. (other ≡ one) ⊎ WordsRenamedIn old new one other) before.sheets after.sheets
   pub ranges : after.ranges ≡ before.ranges
   pub protections : after.protections ≡ before.protections
+  pub metadata : after.metadata ≡ before.metadata

@@ -5,6 +5,7 @@ use Rattle.std.specs.Prelude.{◌≡◌, ◌⊎◌, ℕ, Bool, ◌++◌, ◌==�
 use Rattle.std.specs.List.{AllZip, filter_map}
 use Rattle.std.specs.Option.{option_map}
 use Rattle.cell_store.specs.Table.{empty_table, item_at}
+use Rattle.dev_metadata.specs.Following.{items_elsewhere}
 use Rattle.grid_range.specs.declared.area.Area.{Area}
 use Rattle.named_ranges.specs.Following.{ranges_elsewhere}
 use Rattle.protection.specs.Following.{protection_without_sheet}
@@ -56,7 +57,7 @@ pub record LosesReferences (sheet : ℕ) (before after : PlaceSheet) : Type 0 wh
 abbrev pub other_sheets : ℕ → List PlaceSheet → List PlaceSheet
 other_sheets id sheets = filter (λ sheet. not (sheet.id == id)) sheets
 
--- the other sheets are left, in their order, and so are their named ranges and their protections
+-- the other sheets are left, in their order, and so are their named ranges, their protections and their metadata
 pub record PlaceSheetDeleted (sheet : ℕ) (before after : PlaceBook) : Type 0 where
   pub id : after.id ≡ before.id
   pub title : after.title ≡ before.title
@@ -64,6 +65,7 @@ pub record PlaceSheetDeleted (sheet : ℕ) (before after : PlaceBook) : Type 0 w
   pub sheets : AllZip (LosesReferences sheet) (other_sheets sheet before.sheets) after.sheets
   pub ranges : after.ranges ≡ ranges_elsewhere sheet before.ranges
   pub protections : after.protections ≡ filter_map (protection_without_sheet sheet) before.protections
+  pub metadata : after.metadata ≡ items_elsewhere sheet before.metadata
 
 -- some sheets are without their references to the sheet, which is still there
 pub record SomeLoseReferences (sheet : ℕ) (before after : PlaceBook) : Type 0 where
@@ -73,6 +75,7 @@ pub record SomeLoseReferences (sheet : ℕ) (before after : PlaceBook) : Type 0 
   pub sheets : AllZip (λ one other. (other ≡ one) ⊎ LosesReferences sheet one other) before.sheets after.sheets
   pub ranges : after.ranges ≡ before.ranges
   pub protections : after.protections ≡ before.protections
+  pub metadata : after.metadata ≡ before.metadata
 
 -- ---- a sheet gets another title or mark
 

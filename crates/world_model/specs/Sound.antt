@@ -1,11 +1,17 @@
 -- What always holds of a spreadsheet: it has a visible sheet, no two sheets have one id or one title, a sheet has a
 -- row and a column, its items stand in it, and each reference of a formula is to a sheet that is there, to lines
 -- that this has, and of a form that A1 notation has. Each named range is on a sheet that is there, too, and of lines
--- that this has; so is the area of each protected range, and each range that it leaves unprotected. The merges of a
--- sheet lie in it, and none overlaps another. The sheets and their places are within the limits.
+-- that this has; so is the area of each protected range, and each range that it leaves unprotected. Each item of
+-- metadata that lies on a sheet or a line lies on one that is there. The merges of a sheet lie in it, and none overlaps
+-- another. The sheets and their places are within the limits.
 use Rattle.std.specs.Prelude.{◌≡◌, ◌≢◌, ◌<◌, ◌≤◌, ℕ, false, List, length, Option, ◌==◌, IsSomeAnd, IfSome, ⊤}
 use Rattle.std.specs.List.{All, AllPairs, find, list_all}
+use Rattle.std.specs.Option.{IsSome}
 use Rattle.std.specs.Str.{str_eq_ignore_ascii_case}
+use Rattle.cell_store.specs.Moved.{lines_on}
+use Rattle.dev_metadata.specs.declared.types.Item.{Item}
+use Rattle.dev_metadata.specs.declared.types.Spot.{Spot}
+use Rattle.dev_metadata.specs.declared.types.Spot.TheVariants as spot
 use Rattle.grid_range.specs.Area.{AreaWithin}
 use Rattle.grid_range.specs.declared.area.Area.{Area}
 use Rattle.grid_range.specs.declared.axis.Axis.{Axis}
@@ -60,6 +66,17 @@ abbrev pub IsProtectionWithin : List PlaceSheet → Protection → Type 0
 IsProtectionWithin sheets protection =
     IsOnSheet sheets protection.area × All (IsOnSheet sheets) protection.unprotected
 
+-- the sheet is there, and so is the line
+abbrev pub IsSpotWithin : List PlaceSheet → Spot → Type 0
+IsSpotWithin sheets spot.Spreadsheet = ⊤
+IsSpotWithin sheets (spot.Sheet id) = IsSome (place_sheet_with id sheets)
+IsSpotWithin sheets (spot.Line id axis place) = IsSomeAnd (place_sheet_with id sheets)
+    (λ sheet. place < lines_on axis sheet.table.rows sheet.table.cols)
+
+-- the item lies on the spreadsheet, or on a sheet or a line that is there
+abbrev pub IsItemWithin : List PlaceSheet → Item → Type 0
+IsItemWithin sheets item = IsSpotWithin sheets item.spot
+
 -- the sheet can have these merges: rectangles of more than one cell, none of which overlaps another, by first row, then
 -- by first column; and each is of the sheet, and of lines that this has
 abbrev pub AreMergesOf : PlaceSheet → List Area → Type 0
@@ -103,3 +120,4 @@ pub record IsSound (book : PlaceBook) : Type 0 where
   pub few_places : grid_places book.sheets ≤ most_places
   pub ranges : All (λ range. IsOnSheet book.sheets range.area) book.ranges
   pub protections : All (IsProtectionWithin book.sheets) book.protections
+  pub metadata : All (IsItemWithin book.sheets) book.metadata

@@ -7,6 +7,7 @@ use Rattle.cell_store.specs.Table.{item_at}
 use Rattle.world_model.specs.Area.{NameArea, area_named}
 use Rattle.world_model.specs.Book.{NameBook, PlaceBook, orders_of}
 use Rattle.world_model.specs.Content.{content_named}
+use Rattle.world_model.specs.Metadata.{item_named}
 use Rattle.world_model.specs.Protections.{protection_named}
 use Rattle.world_model.specs.Ranges.{range_named}
 use Rattle.world_model.specs.Sheet.{NameSheet, PlaceSheet}
@@ -29,8 +30,8 @@ pub record SheetStandsFor (sheets : List NameSheet) (sheet : PlaceSheet) (names 
   pub merges : (area : NameArea)
       → Contains names.merges area ↔ Contains (map (area_named (orders_of sheets)) sheet.merges) area
 
--- what is kept by places is sound, and both are one spreadsheet, sheet by sheet, range by range and protection by
--- protection
+-- what is kept by places is sound, and both are one spreadsheet, sheet by sheet, range by range, protection by
+-- protection and item of metadata by item of metadata
 pub record BookStandsFor (book : PlaceBook) (names : NameBook) : Type 0 where
   pub sound : IsSound book
   pub id : book.id ≡ names.id
@@ -39,3 +40,4 @@ pub record BookStandsFor (book : PlaceBook) (names : NameBook) : Type 0 where
   pub sheets : AllZip (SheetStandsFor names.sheets) book.sheets names.sheets
   pub ranges : names.ranges ≡ map (range_named (orders_of names.sheets)) book.ranges
   pub protections : names.protections ≡ map (protection_named (orders_of names.sheets)) book.protections
+  pub metadata : names.metadata ≡ map (item_named (orders_of names.sheets)) book.metadata

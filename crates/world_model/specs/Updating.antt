@@ -67,3 +67,4 @@ pub record BookUpdated (sheet : ℕ) (updates : Updates) (before after : PlaceBo
   pub sheets : AllZip (SheetUpdated sheet updates) before.sheets after.sheets
   pub ranges : after.ranges ≡ before.ranges
   pub protections : after.protections ≡ before.protections
+  pub metadata : after.metadata ≡ before.metadata

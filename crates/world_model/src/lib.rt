@@ -5,6 +5,7 @@
 mod changing;
 mod laws;
 mod merges;
+mod metadata;
 mod protections;
 mod ranges;
 mod sheets;
@@ -17,6 +18,7 @@ pub use laws::{
     writes_follow, writes_stay_sound,
 };
 pub use merges::merges_are_set;
+pub use metadata::{metadata_is_set, metadata_lines_follow};
 pub use protections::{denials_by_name, inserts_keep_protected, protections_are_set};
 pub use ranges::{ranges_added, ranges_changed, ranges_deleted, words_are_renamed};
 pub use sheets::{books_made, sheets_added, sheets_deleted, sheets_hidden, sheets_titled};

@@ -192,7 +192,7 @@ fn appended(book: &Book, sheet: u32, axis: Axis, length: u32) -> Result<u32, Rul
 }
 
 /// How many lines the sheet has on the axis.
-fn lines_of(sheet: &Sheet, axis: Axis) -> u32
+pub(crate) fn lines_of(sheet: &Sheet, axis: Axis) -> u32
     ensures { result ≡ lines_of_sheet axis sheet.now }
 {
     match axis {
@@ -244,7 +244,7 @@ pub(crate) fn moved_denial(book: &Book, user: &str, range: DimensionRange, to: u
 }
 
 /// The lines of a range.
-fn lines_area(book: &Book, range: DimensionRange) -> Area
+pub(crate) fn lines_area(book: &Book, range: DimensionRange) -> Area
     ensures { result ≡ lines_area range book.now.sheets }
 {
     let lines = Band::Span(range.start_index, end_of(book, range));
@@ -261,7 +261,7 @@ fn lines_area(book: &Book, range: DimensionRange) -> Area
 }
 
 /// The line behind the last one of a range; without it the range goes to the sheet's end.
-fn end_of(book: &Book, range: DimensionRange) -> u32
+pub(crate) fn end_of(book: &Book, range: DimensionRange) -> u32
     ensures { result ≡ end_of range book.now.sheets }
 {
     match range.end_index {

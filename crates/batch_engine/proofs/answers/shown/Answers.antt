@@ -13,8 +13,6 @@ returns-in_err-area-clause-shown c =
 
 pub returns-clause-shown : goal.returns-clause-shown
 returns-clause-shown c =
-    rw (c.unless_empty.ensures, c.axis_or_rows-axis.ensures)
-    (read_done c.args.range.now c.args.dimension c.args.render c.args.book.now
-    (c.in_ok-area.area, c.in_ok-area.field-0-1) c.in_ok-range_text.field-0 c.in_ok-shown.shown.values
-    c.in_ok-area.ensures.resolved c.in_ok-range_text.ensures
-    (rw (c.is_columns.ensures, c.axis_or_rows-axis.ensures, c.render_or_formatted-render.ensures) at c.in_ok-shown.ensures.values))
+    read_done c.args.dimension c.args.render c.args.book.now c.args.range.now
+    (c.in_ok-area.area, c.in_ok-area.field-0-1) c.in_ok-shown_area.field-0 c.in_ok-area.ensures.resolved
+    c.in_ok-shown_area.ensures.shown

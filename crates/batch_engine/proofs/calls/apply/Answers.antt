@@ -4,7 +4,7 @@ use Rattle.std.specs.Option.{IsSome}
 use Rattle.dimension_ops.specs.World.{book_with}
 use Rattle.batch_engine.specs.Calls.{AreNext, IsAnswered, IsAppendOf, IsApplied, IsBatchOf, IsClearManyOf, IsInstalled, IsWriteManyOf, told_as}
 use Rattle.batch_engine.specs.Looks.{looked}
-use Rattle.batch_engine.proofs.Installed.{if_ok, made_applied, making_judged, not_done_applied, read_applied, read_judged}
+use Rattle.batch_engine.proofs.Installed.{if_ok, made_applied, making_judged, item_applied, item_judged, read_applied, read_filtered_applied, read_judged, search_applied}
 use Rattle.batch_engine.proofs.Installed.{applied_change, change_there, look_applied, write_there, write_applied, clear_there, clear_applied, lone_applied, lone_there}
 use Rattle.batch_engine.proofs.calls.apply.Goals as goal
 
@@ -108,20 +108,20 @@ returns-in_ok-write_many-in-WriteMany c =
 
 pub changed-requires-in-Batch : goal.changed-requires-in-Batch
 changed-requires-in-Batch c =
-    change_there c.args.caller.now c.args.call.now _ c.args.world.now (IsBatchOf c.args.caller.now.user c.in-Batch.requests)
+    change_there c.args.caller.now c.args.call.now _ c.args.world.now (IsBatchOf c.args.caller.now.user c.args.caller.now.project c.in-Batch.requests)
     (λ answered effect holds. subst (λ one. IsAnswered c.args.caller.now one c.args.world.now answered effect) (sym c.in-Batch.is) holds)
     c.book_of-book-in-Batch.result.now (rw c.as_str-in-Batch.ensures at c.book_of-book-in-Batch.ensures)
-    c.in_ok-batch-in-Batch.field-0 (rw (c.as_slice-in-Batch.ensures, c.as_str-user-in-Batch.ensures) at c.in_ok-batch-in-Batch.ensures)
+    c.in_ok-batch-in-Batch.field-0 (rw (c.as_slice-in-Batch.ensures, c.as_str-user-in-Batch.ensures, c.as_str-project.ensures) at c.in_ok-batch-in-Batch.ensures)
 
 pub returns-in_ok-batch-in-Batch : goal.returns-in_ok-batch-in-Batch
 returns-in_ok-batch-in-Batch c =
     if_ok (λ applied. IsInstalled c.args.world.now c.in_ok-batch-in-Batch.field-0 applied.outcome applied.next)
     (λ applied. IsApplied c.args.caller.now c.args.call.now c.args.world.now applied.outcome applied.next) c.changed-in-Batch.result
-    (λ applied installed. applied_change c.args.caller.now c.args.call.now _ c.args.world.now (IsBatchOf c.args.caller.now.user c.in-Batch.requests)
+    (λ applied installed. applied_change c.args.caller.now c.args.call.now _ c.args.world.now (IsBatchOf c.args.caller.now.user c.args.caller.now.project c.in-Batch.requests)
     (λ answered effect holds. subst (λ one. IsAnswered c.args.caller.now one c.args.world.now answered effect) (sym c.in-Batch.is) holds)
     c.book_of-book-in-Batch.result.now (rw c.as_str-in-Batch.ensures at c.book_of-book-in-Batch.ensures)
     c.in_ok-batch-in-Batch.field-0 applied.outcome applied.next
-    (rw (c.as_slice-in-Batch.ensures, c.as_str-user-in-Batch.ensures) at c.in_ok-batch-in-Batch.ensures) installed) c.changed-in-Batch.ensures
+    (rw (c.as_slice-in-Batch.ensures, c.as_str-user-in-Batch.ensures, c.as_str-project.ensures) at c.in_ok-batch-in-Batch.ensures) installed) c.changed-in-Batch.ensures
 
 pub returns-in_ok-told-in-Get : goal.returns-in_ok-told-in-Get
 returns-in_ok-told-in-Get c =
@@ -141,8 +141,28 @@ returns-in_ok-told-in-Create c =
     c.made.result.outcome c.made.result.next
     (subst (λ told. AreNext told c.made.result.outcome c.made.result.next) c.alone-in-Create.ensures c.made.ensures)
 
-pub returns-in-ReadFiltered : goal.returns-in-ReadFiltered
-returns-in-ReadFiltered c =
-    not_done_applied c.args.caller.now c.args.call.now c.args.world.now c.unchanged-in-ReadFiltered.result.outcome
-    c.unchanged-in-ReadFiltered.result.next c.in-ReadFiltered.is c.unchanged-in-ReadFiltered.ensures.outcome
-    c.unchanged-in-ReadFiltered.ensures.next
+pub returns-in_ok-told-in-ReadFiltered : goal.returns-in_ok-told-in-ReadFiltered
+returns-in_ok-told-in-ReadFiltered c =
+    read_filtered_applied c.args.world.now c.book_of-book-in-ReadFiltered.result.now c.args.caller.now c.args.call.now
+    c.unchanged-in-ReadFiltered.result.outcome c.unchanged-in-ReadFiltered.result.next
+    c.unchanged-in-ReadFiltered.ensures.next _ _ _ _ c.in-ReadFiltered.is
+    (rw c.as_str-in-ReadFiltered.ensures at c.book_of-book-in-ReadFiltered.ensures) c.in_ok-told-in-ReadFiltered.told
+    (rw (c.as_slice-filters.ensures, c.as_str-project-in-ReadFiltered.ensures)
+    at c.in_ok-told-in-ReadFiltered.ensures) c.unchanged-in-ReadFiltered.ensures.outcome
+
+pub returns-in_ok-told-in-Item : goal.returns-in_ok-told-in-Item
+returns-in_ok-told-in-Item c =
+    item_applied c.args.world.now c.book_of-book-in-Item.result.now c.args.caller.now c.args.call.now
+    c.unchanged-in-Item.result.outcome c.unchanged-in-Item.result.next c.unchanged-in-Item.ensures.next _ _ c.in-Item.is
+    (rw c.as_str-in-Item.ensures at c.book_of-book-in-Item.ensures) c.in_ok-told-in-Item.told
+    (item_judged c.args.caller.now.project c.in-Item.metadata_id c.book_of-book-in-Item.result.now c.item.result
+    c.in_ok-told-in-Item.told (rw c.as_str-project-in-Item.ensures at c.item.ensures) c.in_ok-told-in-Item.ensures)
+    (c.unchanged-in-Item.ensures.outcome ∙ ap told_as c.alone-in-Item.ensures)
+
+pub returns-in_ok-search-in-Search : goal.returns-in_ok-search-in-Search
+returns-in_ok-search-in-Search c =
+    search_applied c.args.world.now c.book_of-book-in-Search.result.now c.args.caller.now c.args.call.now
+    c.unchanged-in-Search.result.outcome c.unchanged-in-Search.result.next c.unchanged-in-Search.ensures.next _ _
+    c.in-Search.is (rw c.as_str-in-Search.ensures at c.book_of-book-in-Search.ensures) c.in_ok-search-in-Search.field-0
+    (rw (c.as_slice-in-Search.ensures, c.as_str-project-in-Search.ensures) at c.in_ok-search-in-Search.ensures)
+    c.unchanged-in-Search.ensures.outcome

@@ -13,8 +13,8 @@ returns-in-All-clause-serves g c =
     let after = at_moment (g.D.Doors.shown all.new.doors) (g.O.Sink.written c.tell.new.output)
     (g.O.Sink.sink_shortages c.tell.new.output) in
     serves_at g.E.Engine.plain g.E.Engine.cells c.args.desk c.args.pass c.anyone-users.result c.args.limit all.result.0
-    served.All before after all.result.1 all.result.2 c.tell.result c.served_outcomes.ensures c.requires.desk c.anyone-users.ensures
-    c.in-All.is all.ensures.served
+    served.All before after all.result.1 all.result.2 c.tell.result c.served_outcomes.ensures c.requires.desk
+    c.anyone-users.ensures c.in-All.is all.ensures.served
     (told_of g.E.Engine.cells all.result.1 _ _ _ _ _ _ _ _ c.summary.ensures.accepted c.summary.ensures.cells
     c.summary.ensures.bytes c.tell.ensures.tells)
 
@@ -27,5 +27,5 @@ returns-clause-serves g c =
     let after = at_moment (g.D.Doors.shown all.new.doors) (g.O.Sink.written c.args.output.now)
     (g.O.Sink.sink_shortages c.args.output.now) in
     serves_at g.E.Engine.plain g.E.Engine.cells c.args.desk c.args.pass c.anyone-users.result c.args.limit all.result.0
-    served.DoorFault before after all.result.1 all.result.2 _ c.served_outcomes.ensures c.requires.desk c.anyone-users.ensures
-    c.in-DoorFault.is all.ensures.served (refl, refl)
+    served.DoorFault before after all.result.1 all.result.2 _ c.served_outcomes.ensures c.requires.desk
+    c.anyone-users.ensures c.in-DoorFault.is all.ensures.served (refl, refl)

@@ -23,5 +23,5 @@ returns-in-Ok-clause-said g c =
     let self = c.args.self in
     said_answer g.E.Engine.plain g.K.Keeper.failures g.K.Keeper.steady self.desk self.users (number_of self.pass)
     (seen_by self.pass) c.args.request (seen_by c.call-caller.result.0.pass) c.call-caller.result.1 c.in-Ok.ask
-    (c.in-Ok.ensures ∙ ap (λ (u : Calling _ _ _). ask_of u.users c.args.request) c.self.view_is)
+    (c.in-Ok.ensures ∙ ap (λ (u : Calling _ _ _ _). ask_of u.users c.args.request) c.self.view_is)
     c.call-caller.ensures.call c.call-caller.ensures.faults c.say-said.result c.say-said.ensures

@@ -3,6 +3,7 @@ use Rattle.std.specs.Arc.{arc_value}
 use Rattle.world_model.specs.Counts.{formulas_in, formulas_of}
 use Rattle.world_model.specs.Sheet.{PlaceSheet}
 use Rattle.world_model.specs.Sound.{most_places}
+use Rattle.dimension_ops.proofs.Marking.{kept_book}
 use Rattle.dimension_ops.proofs.Totals.{total_within}
 use Rattle.dimension_ops.proofs.book.Book.formulas.Goals as goal
 
@@ -17,13 +18,5 @@ overflow_add-formulas c =
     subst (λ list. formulas_of (map arc_value list) ≤ most_places) (sym c.deref-sheet-items.ensures.value)
     (le_trans (c.formulas_counted.ensures.all_within (map arc_value c.self.inside.sheets.items))
     (le_trans (c.filled_within_places.ensures.book
-    (record {
-      id = c.self.inside.id;
-      title = c.self.inside.title;
-      owner = c.self.inside.owner;
-      sheets = map arc_value c.self.inside.sheets.items;
-      ranges = c.self.inside.names;
-      protections = c.self.inside.protections;
-    })
-    c.self.invariant.0) c.self.invariant.0.few_places)) in
+    (kept_book c.self.inside (map arc_value c.self.inside.sheets.items)) c.self.invariant.0) c.self.invariant.0.few_places)) in
     omega (arith, within, few)

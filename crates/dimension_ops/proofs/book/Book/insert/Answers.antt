@@ -5,7 +5,7 @@ use Rattle.world_model.specs.Sheet.{PlaceSheet}
 use Rattle.world_model.specs.SheetChange.{place_sheet_added}
 use Rattle.world_model.specs.Sound.{IsSound}
 use Rattle.dimension_ops.proofs.Inserting.{map-insert}
-use Rattle.dimension_ops.proofs.Marking.{as_book}
+use Rattle.dimension_ops.proofs.Marking.{kept_book}
 use Rattle.dimension_ops.proofs.book.Book.insert.Goals.{After-drop-self-inside}
 use Rattle.dimension_ops.proofs.book.Book.insert.Goals as goal
 
@@ -18,10 +18,10 @@ sheets_after c =
     ∙ ap (insert (map arc_value c.self.inside.sheets.items) c.args.at) c.in_ok-shared.ensures
 
 book_after : (c : After-drop-self-inside)
-    → as_book c.self.inside.id c.self.inside.title c.self.inside.owner c.self.inside.names c.self.inside.protections (map arc_value c.insert.new.self.items)
+    → kept_book c.self.inside (map arc_value c.insert.new.self.items)
     ≡ place_sheet_added c.args.at c.args.sheet c.args.self.now
 book_after c =
-    ap (as_book c.self.inside.id c.self.inside.title c.self.inside.owner c.self.inside.names c.self.inside.protections) (sheets_after c)
+    ap (kept_book c.self.inside) (sheets_after c)
     ∙ ap (place_sheet_added c.args.at c.args.sheet) c.self.view_is
 
 pub invariant_of-self-2 : goal.invariant_of-self-2
@@ -32,7 +32,6 @@ invariant_of-self-2 c = (
       ∙ ap (λ ids. insert ids c.args.at c.args.sheet.id) c.self.invariant.1
       ∙ sym (map-insert (λ (sheet : PlaceSheet). sheet.id) (map arc_value c.self.inside.sheets.items) c.args.at c.args.sheet)
       ∙ sym (ap (map (λ (sheet : PlaceSheet). sheet.id)) (sheets_after c)),
-  c.self.invariant.2,
 )
 
 pub returns-clause-added : goal.returns-clause-added

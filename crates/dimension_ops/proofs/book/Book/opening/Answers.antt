@@ -18,15 +18,17 @@ invariant_of-result c =
     let one : map arc_value c.in_ok-sheets.sheets.items ≡ opening_sheet ∷ [] =
     c.in_ok-sheets.ensures
     ∙ ap (λ (sheet : PlaceSheet). sheet ∷ []) (c.in_ok-sheet.ensures ∙ ap titled (c.of-title.ensures ∙ c.in_ok-from_str.ensures.ok)) in (
-      subst (λ ranges. IsSound (as_book c.of.result c.of-2.result c.of-3.result ranges c.new-2.result
+      subst (λ ranges. IsSound (as_book c.of.result c.of-2.result c.of-3.result ranges c.new-2.result c.new-3.result
           (map arc_value c.in_ok-sheets.sheets.items)))
           (sym c.new.ensures)
-          (subst (λ protections. IsSound (as_book c.of.result c.of-2.result c.of-3.result [] protections
+          (subst (λ protections. IsSound (as_book c.of.result c.of-2.result c.of-3.result [] protections c.new-3.result
           (map arc_value c.in_ok-sheets.sheets.items)))
           (sym c.new-2.ensures)
-          (subst (λ sheets. IsSound (as_book c.of.result c.of-2.result c.of-3.result [] [] sheets)) (sym one)
-          (opening_sound c.of.result c.of-2.result c.of-3.result))),
+          (subst (λ metadata. IsSound (as_book c.of.result c.of-2.result c.of-3.result [] [] metadata
+          (map arc_value c.in_ok-sheets.sheets.items)))
+          (sym c.new-3.ensures)
+          (subst (λ sheets. IsSound (as_book c.of.result c.of-2.result c.of-3.result [] [] [] sheets)) (sym one)
+          (opening_sound c.of.result c.of-2.result c.of-3.result)))),
       c.of-4.ensures ∙ c.in_ok-push.ensures.items ∙ ap (λ list. list ++ (0 ∷ [])) c.new-ids.ensures.items
           ∙ sym (ap (map (λ (sheet : PlaceSheet). sheet.id)) one),
-      c.new-3.ensures,
     )

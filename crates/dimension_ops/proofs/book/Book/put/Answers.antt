@@ -14,7 +14,7 @@ use Rattle.world_model.specs.Sheet.{PlaceSheet}
 use Rattle.world_model.specs.Sound.{IsSound, IsContentWithin, place_sheet_with}
 use Rattle.world_model.specs.Writing.{book_put, book_written, sheet_put}
 use Rattle.dimension_ops.proofs.Finding.{IsFoundAt, found_at, there_seen, none_from}
-use Rattle.dimension_ops.proofs.Marking.{as_book}
+use Rattle.dimension_ops.proofs.Marking.{kept_book}
 use Rattle.dimension_ops.proofs.Putting.{seen_stands, seen_written, seen_kept, seen_ids, room_at}
 use Rattle.dimension_ops.proofs.book.Book.put.Goals.{In_ok-put_shared, After-from_residual, Joined-content}
 use Rattle.dimension_ops.proofs.book.Book.put.Goals as goal
@@ -58,8 +58,8 @@ put_shared-requires c =
           c.index_mut.ensures.value at.there);
       room = room_at (map arc_value c.self.inside.sheets.items) c.in-Some.place (arc_value c.index_mut.result.now)
           (le_trans (c.filled_within_places.ensures.book
-          (as_book c.self.inside.id c.self.inside.title c.self.inside.owner c.self.inside.names c.self.inside.protections (map arc_value c.self.inside.sheets.items))
-          c.self.invariant.0) c.self.invariant.0.few_places)
+          (kept_book c.self.inside (map arc_value c.self.inside.sheets.items)) c.self.invariant.0)
+          c.self.invariant.0.few_places)
           at.there
           (seen_stands arc_value c.self.inside.sheets.items c.in-Some.place c.index_mut.result.now c.index_mut.result.now
           c.index_mut.ensures.value at.there);
@@ -75,11 +75,9 @@ written c = seen_written arc_value c.self.inside.sheets.items c.in-Some.place c.
 
 pub invariant_of-self : goal.invariant_of-self
 invariant_of-self c = (
-  subst (λ sheets. IsSound (as_book c.self.inside.id c.self.inside.title c.self.inside.owner c.self.inside.names c.self.inside.protections sheets))
-      (sym (written c))
+  subst (λ sheets. IsSound (kept_book c.self.inside sheets)) (sym (written c))
       (c.writes_stay_sound.ensures.stays
-      (as_book c.self.inside.id c.self.inside.title c.self.inside.owner c.self.inside.names c.self.inside.protections
-      (map arc_value c.self.inside.sheets.items))
+      (kept_book c.self.inside (map arc_value c.self.inside.sheets.items))
       c.args.sheet c.args.row c.args.column c.args.content c.self.invariant.0
       (subst (λ (book : PlaceBook). IfSome c.args.content (IsContentWithin book.sheets)) (sym c.self.view_is) c.requires.within)
       (if_there (place_sheet_with c.args.sheet (map arc_value c.self.inside.sheets.items)) c.args.row c.args.column
@@ -87,7 +85,6 @@ invariant_of-self c = (
       (sym c.self.view_is) c.requires.there))),
   seen_ids arc_value c.self.inside.sheets.items c.in-Some.place c.index_mut.result.now c.put_shared.new.sheet
       c.index_mut.ensures.value c.args.sheet c.args.row c.args.column c.args.content c.self.inside.ids (written c) c.self.invariant.1,
-  c.self.invariant.2,
 )
 
 -- the sheets as they were
@@ -98,18 +95,16 @@ kept c = seen_kept arc_value c.self.inside.sheets.items c.in-Some.place c.index_
 
 pub invariant_of-self-in_err-put_shared : goal.invariant_of-self-in_err-put_shared
 invariant_of-self-in_err-put_shared c = (
-  subst (λ sheets. IsSound (as_book c.self.inside.id c.self.inside.title c.self.inside.owner c.self.inside.names c.self.inside.protections sheets))
-      (sym (kept c)) c.self.invariant.0,
+  subst (λ sheets. IsSound (kept_book c.self.inside sheets)) (sym (kept c)) c.self.invariant.0,
   c.self.invariant.1 ∙ sym (ap (map (λ (sheet : PlaceSheet). sheet.id)) (kept c)),
-  c.self.invariant.2,
 )
 
 pub returns-in_err-put_shared-clause-unchanged : goal.returns-in_err-put_shared-clause-unchanged
 returns-in_err-put_shared-clause-unchanged c =
-    let same : as_book c.self.inside.id c.self.inside.title c.self.inside.owner c.self.inside.names c.self.inside.protections
+    let same : kept_book c.self.inside
     (map arc_value (set c.self.inside.sheets.items c.in-Some.place c.put_shared.new.sheet)) ≡ c.args.self.now =
-    ap (as_book c.self.inside.id c.self.inside.title c.self.inside.owner c.self.inside.names c.self.inside.protections) (kept c) ∙ c.self.view_is in
-    elim c.from_residual.result as (λ r. OnErr r (as_book c.self.inside.id c.self.inside.title c.self.inside.owner c.self.inside.names c.self.inside.protections
+    ap (kept_book c.self.inside) (kept c) ∙ c.self.view_is in
+    elim c.from_residual.result as (λ r. OnErr r (kept_book c.self.inside
     (map arc_value (set c.self.inside.sheets.items c.in-Some.place c.put_shared.new.sheet)) ≡ c.args.self.now)) [
       | Ok u ↦ tt
       | Err e ↦ same
@@ -117,14 +112,14 @@ returns-in_err-put_shared-clause-unchanged c =
 
 pub returns-in_ok-put_shared-clause-put : goal.returns-in_ok-put_shared-clause-put
 returns-in_ok-put_shared-clause-put c =
-    ap (as_book c.self.inside.id c.self.inside.title c.self.inside.owner c.self.inside.names c.self.inside.protections) (written c)
+    ap (kept_book c.self.inside) (written c)
     ∙ ap (book_put c.args.sheet c.args.row c.args.column c.args.content) c.self.view_is
 
 pub returns-in_ok-put_shared-clause-names : goal.returns-in_ok-put_shared-clause-names
 returns-in_ok-put_shared-clause-names c = record {
   written = λ names r c' stands at_row at_col.
       subst (λ (book : PlaceBook). BookStandsFor book (book_written c.args.sheet r c' (option_map (content_named (orders_of names.sheets)) c.args.content) names))
-      (sym (ap (as_book c.self.inside.id c.self.inside.title c.self.inside.owner c.self.inside.names c.self.inside.protections) (written c)
+      (sym (ap (kept_book c.self.inside) (written c)
       ∙ ap (book_put c.args.sheet c.args.row c.args.column c.args.content) c.self.view_is))
       (c.writes_follow.ensures.follows c.args.self.now names c.args.sheet c.args.row c.args.column r c' c.args.content
       stands c.requires.within at_row at_col);

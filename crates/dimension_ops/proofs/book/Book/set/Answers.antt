@@ -10,7 +10,7 @@ use Rattle.dimension_ops.specs.Parts.{with_part}
 use Rattle.dimension_ops.specs.declared.part.Part.{Part}
 use Rattle.dimension_ops.specs.declared.part.Part.TheVariants.{Title, Hidden, Merges}
 use Rattle.dimension_ops.proofs.Finding.{there_seen}
-use Rattle.dimension_ops.proofs.Marking.{as_book, has_id, has_place, ids_kept, place_found, seen_changed}
+use Rattle.dimension_ops.proofs.Marking.{has_id, has_place, ids_kept, kept_book, place_found, seen_changed}
 use Rattle.dimension_ops.proofs.Putting.{seen_kept}
 use Rattle.dimension_ops.proofs.book.Book.set.Goals.{In_ok-set_shared, After-from_residual}
 use Rattle.dimension_ops.proofs.book.Book.set.Goals as goal
@@ -31,17 +31,17 @@ index_mut-requires c =
 
 -- the sheets after
 after : (c : In_ok-set_shared)
-    → as_book c.self.inside.id c.self.inside.title c.self.inside.owner c.self.inside.names c.self.inside.protections
+    → kept_book c.self.inside
     (map arc_value (set c.self.inside.sheets.items c.in-Some.place c.set_shared.new.shared))
     ≡ on_place_sheet c.args.sheet (with_part c.args.part) c.args.self.now
 after c =
-    ap (as_book c.self.inside.id c.self.inside.title c.self.inside.owner c.self.inside.names c.self.inside.protections) (sheets c)
+    ap (kept_book c.self.inside) (sheets c)
     ∙ ap (on_place_sheet c.args.sheet (with_part c.args.part)) c.self.view_is
   where
     sheets : (c : In_ok-set_shared)
         → map arc_value (set c.self.inside.sheets.items c.in-Some.place c.set_shared.new.shared)
         ≡ (on_place_sheet c.args.sheet (with_part c.args.part)
-        (as_book c.self.inside.id c.self.inside.title c.self.inside.owner c.self.inside.names c.self.inside.protections (map arc_value c.self.inside.sheets.items))).sheets
+        (kept_book c.self.inside (map arc_value c.self.inside.sheets.items))).sheets
     sheets c = seen_changed c.self.inside.sheets.items c.args.sheet c.in-Some.place c.index_mut.result.now
         c.set_shared.new.shared c.index_mut.ensures.value (with_part c.args.part) c.self.invariant.0.distinct
         (place_found c.deref.result.now c.self.inside.sheets.items c.args.sheet c.in-Some.place c.deref.ensures.value
@@ -56,7 +56,6 @@ invariant_of-self c = (
       ∙ ap (λ (book : PlaceBook). map (λ (sheet : PlaceSheet). sheet.id)
       (on_place_sheet c.args.sheet (with_part c.args.part) book).sheets) c.self.view_is
       ∙ sym (ap (λ (book : PlaceBook). map (λ (sheet : PlaceSheet). sheet.id) book.sheets) (after c)),
-  c.self.invariant.2,
 )
 
 -- the sheets as they were
@@ -68,18 +67,16 @@ kept c = seen_kept arc_value c.self.inside.sheets.items c.in-Some.place c.index_
 
 pub invariant_of-self-in_err-set_shared : goal.invariant_of-self-in_err-set_shared
 invariant_of-self-in_err-set_shared c = (
-  subst (λ sheets. IsSound (as_book c.self.inside.id c.self.inside.title c.self.inside.owner c.self.inside.names c.self.inside.protections sheets)) (sym (kept c))
-      c.self.invariant.0,
+  subst (λ sheets. IsSound (kept_book c.self.inside sheets)) (sym (kept c)) c.self.invariant.0,
   c.self.invariant.1 ∙ sym (ap (map (λ (sheet : PlaceSheet). sheet.id)) (kept c)),
-  c.self.invariant.2,
 )
 
 pub returns-in_err-set_shared-clause-unchanged : goal.returns-in_err-set_shared-clause-unchanged
 returns-in_err-set_shared-clause-unchanged c =
-    let same : as_book c.self.inside.id c.self.inside.title c.self.inside.owner c.self.inside.names c.self.inside.protections
+    let same : kept_book c.self.inside
     (map arc_value (set c.self.inside.sheets.items c.in-Some.place c.set_shared.new.shared)) ≡ c.args.self.now =
-    ap (as_book c.self.inside.id c.self.inside.title c.self.inside.owner c.self.inside.names c.self.inside.protections) (kept c) ∙ c.self.view_is in
-    elim c.from_residual.result as (λ r. OnErr r (as_book c.self.inside.id c.self.inside.title c.self.inside.owner c.self.inside.names c.self.inside.protections
+    ap (kept_book c.self.inside) (kept c) ∙ c.self.view_is in
+    elim c.from_residual.result as (λ r. OnErr r (kept_book c.self.inside
     (map arc_value (set c.self.inside.sheets.items c.in-Some.place c.set_shared.new.shared)) ≡ c.args.self.now)) [
       | Ok u ↦ tt
       | Err e ↦ same
