@@ -85,6 +85,7 @@ one_grows named (BookChange.SheetDeleted sheet) = omega arith
 one_grows named (BookChange.SheetTitled sheet title) = omega arith
 one_grows named (BookChange.SheetHidden sheet hidden) = omega arith
 one_grows named (BookChange.MergesSet sheet merges) = omega arith
+one_grows named (BookChange.FilterSet sheet filter) = omega arith
 one_grows named (BookChange.RangeAdded range) = omega arith
 one_grows named (BookChange.RangeChanged range) = omega arith
 one_grows named (BookChange.RangeDeleted id) = omega arith

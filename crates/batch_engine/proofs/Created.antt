@@ -1,6 +1,6 @@
 -- A spreadsheet that is made: what is told of it, and that only one can be.
 use Rattle.std.proofs.Common.{◌≡◌, ℕ, refl, sym, ap, subst, ◌∙◌, List, [], ◌∷◌, ◌++◌, length, get_or}
-use Rattle.std.specs.Prelude.{false, Option, Some, None, Result, Ok, Err}
+use Rattle.std.specs.Prelude.{Option, Some, None, Result, Ok, Err}
 use Rattle.std.specs.Option.{option_map_or}
 use Rattle.std.proofs.lemmas.List.{get_or_push}
 use Rattle.cell_value.specs.declared.cell.SheetProperties.{SheetProperties}
@@ -22,7 +22,7 @@ use Rattle.sheets_json.specs.declared.spreadsheet.Spreadsheet.{Spreadsheet}
 use Rattle.batch_engine.specs.Calls.{IsMaking}
 use Rattle.batch_engine.specs.Create.{IsCreateOf, IsMadeFor, book_made, makes_book, title_or_untitled, unless_broken}
 use Rattle.batch_engine.specs.Laws.{IsOnce}
-use Rattle.batch_engine.specs.Looks.{spreadsheet_of}
+use Rattle.batch_engine.specs.Looks.{spreadsheet_alone}
 
 -- ---- what is told of what breaks no rule, and of what breaks one
 
@@ -67,7 +67,7 @@ module _ (owner : List ℕ) (asked : NewSpreadsheet) (before after : List PlaceB
   sheets = asked_sheets asked.sheets
 
   making_told : (id : List ℕ) (shown : Spreadsheet) → IsBookAdded owner title sheets before after (Ok id)
-      → ((other : PlaceBook) → shown ≡ spreadsheet_of owner false (get_or after (length before) other))
+      → ((other : PlaceBook) → shown ≡ spreadsheet_alone owner (get_or after (length before) other))
       → IsMaking (IsMadeFor owner asked before) before (Ok (answer.Create shown, after))
   making_told id shown is shows =
       let others = length before in
@@ -76,16 +76,16 @@ module _ (owner : List ℕ) (asked : NewSpreadsheet) (before after : List PlaceB
       let named : id ≡ book_id others = told_same found id (book_id others) is.judged in
       let added : after ≡ before ++ book ∷ [] =
       is.added ∙ ap (λ one. before ++ with_all_placed (bare_book one title owner) is.placed ∷ []) named in
-      let told : shown ≡ spreadsheet_of owner false book =
-      shows book ∙ ap (λ books. spreadsheet_of owner false (get_or books others book)) added
-      ∙ ap (spreadsheet_of owner false) (get_or_push before book book others refl) in (
+      let told : shown ≡ spreadsheet_alone owner book =
+      shows book ∙ ap (λ books. spreadsheet_alone owner (get_or books others book)) added
+      ∙ ap (spreadsheet_alone owner) (get_or_push before book book others refl) in (
         makes_book owner asked others is.placed,
         record {
           placed = is.placed;
           are = is.are;
           told_is =
               ap (λ one. Ok (answer.Create one)) told
-              ∙ told_right found id (book_id others) (answer.Create (spreadsheet_of owner false book)) is.judged;
+              ∙ told_right found id (book_id others) (answer.Create (spreadsheet_alone owner book)) is.judged;
           effect_is = refl;
         },
         record {
@@ -104,7 +104,7 @@ module _ (owner : List ℕ) (asked : NewSpreadsheet) (before after : List PlaceB
         are = is.are;
         told_is =
             told_wrong (first_broken (created_broken others sheets is.placed)) broken (book_id others)
-            (answer.Create (spreadsheet_of owner false (book_made owner asked others is.placed))) is.judged;
+            (answer.Create (spreadsheet_alone owner (book_made owner asked others is.placed))) is.judged;
         effect_is = refl;
       }
 
@@ -118,11 +118,11 @@ module _ (owner title : List ℕ) (asked : NewSpreadsheet) (before copied after 
 
   pub made_told : (id : List ℕ) (shown : Spreadsheet) (at : ℕ) → at ≡ length before
       → IsBookAdded owner title (asked_sheets asked.sheets) copied after (Ok id)
-      → ((other : PlaceBook) → shown ≡ spreadsheet_of owner false (get_or after at other))
+      → ((other : PlaceBook) → shown ≡ spreadsheet_alone owner (get_or after at other))
       → IsMaking (IsMadeFor owner asked before) before (Ok (answer.Create shown, after))
   made_told id shown at at_is is shows =
       making_told owner asked before after id shown (on_own (Ok id) is)
-      (subst (λ place. (other : PlaceBook) → shown ≡ spreadsheet_of owner false (get_or after place other)) at_is shows)
+      (subst (λ place. (other : PlaceBook) → shown ≡ spreadsheet_alone owner (get_or after place other)) at_is shows)
 
   pub made_refused : (fault : RuleOr)
       → IsUnlessNoMemory (IsBookAdded owner title (asked_sheets asked.sheets) copied after) (Err fault)
@@ -157,7 +157,7 @@ module _ (news : NewSheetsOnce) where
       let same_told : told ≡ told' =
       is.told_is
       ∙ ap (λ placed. judged_by (created_broken others (asked_sheets asked.sheets) placed)
-      (answer.Create (spreadsheet_of owner false (book_made owner asked others placed)))) same
+      (answer.Create (spreadsheet_alone owner (book_made owner asked others placed)))) same
       ∙ sym is'.told_is in (
         same_told,
         is.effect_is

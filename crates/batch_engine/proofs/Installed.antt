@@ -1,6 +1,6 @@
 -- A call on a spreadsheet that is there, from its answer and from what takes its place.
-use Rattle.std.proofs.Common.{◌≡◌, ℕ, refl, sym, ap, subst, ◌∙◌, List}
-use Rattle.std.specs.Prelude.{Bool, Option, Some, None, IsSomeAnd, IfOk, Result, Ok, Err}
+use Rattle.std.proofs.Common.{◌≡◌, ℕ, refl, sym, subst, ◌∙◌, List, ap}
+use Rattle.std.specs.Prelude.{Bool, false, Option, Some, None, IsSomeAnd, IfOk, unwrap_or, Result, Ok, Err}
 use Rattle.std.specs.Option.{IsSome}
 use Rattle.world_model.specs.Book.{PlaceBook}
 use Rattle.world_model.specs.BookChange.{BookChange}
@@ -9,6 +9,8 @@ use Rattle.dimension_ops.specs.Rules.{IsUnlessNoMemory}
 use Rattle.dimension_ops.specs.World.{book_with}
 use Rattle.dimension_ops.specs.declared.rule.Rule.{Rule}
 use Rattle.sheets_json.specs.declared.answer.Answer.{Answer}
+use Rattle.sheets_json.specs.declared.answer.Answer.TheVariants as answer
+use Rattle.sheets_json.specs.declared.spreadsheet.Spreadsheet.{Spreadsheet}
 use Rattle.dimension_ops.specs.declared.rule.RuleOr.{RuleOr}
 use Rattle.grid_range.specs.declared.axis.Axis.{Axis}
 use Rattle.cell_value.specs.declared.cell.Render.{Render}
@@ -26,8 +28,8 @@ use Rattle.sheets_json.specs.declared.place.Place.TheVariants as place
 use Rattle.batch_engine.specs.Calls.{OnBook, IsAlone, IsAnswered, IsApplied, IsChange, IsInstalled, Refusal, alone, as_told, told_as}
 use Rattle.batch_engine.specs.Calls.{AreNext, IsMaking}
 use Rattle.batch_engine.specs.Create.{IsCreateOf}
-use Rattle.batch_engine.specs.Looks.{looked}
-use Rattle.batch_engine.specs.Calls.{IsItemOf, IsLookOf, IsClearOf, IsReadFilteredOf, IsReadOf, IsReadManyOf, IsSearchOf, IsWriteOf}
+use Rattle.batch_engine.specs.Looks.{IsSpreadsheetShown}
+use Rattle.batch_engine.specs.Calls.{IsLookOf, IsClearOf, IsReadOf, IsReadManyOf, IsWriteOf, IsItemOf, IsReadFilteredOf, IsSearchOf}
 use Rattle.batch_engine.specs.Searches.{item_told}
 use Rattle.batch_engine.specs.declared.calls.Caller.{Caller}
 use Rattle.batch_engine.specs.declared.calls.Outcome.{Outcome}
@@ -220,12 +222,14 @@ module _ (books : List PlaceBook) (book : PlaceBook) (caller : Caller) (called :
       outcome next (record { judged = told; answered = holds; told_is = refl }) is none
 
   pub look_applied : (id : List ℕ) (grids : Option Bool) → called ≡ call.Get id grids
-      → book_with id books ≡ Some book → (told : Answer) → told ≡ looked caller.user grids book
-      → outcome ≡ told_as (Ok told) → IsApplied caller called books outcome next
-  look_applied id grids called_is found told holds is =
+      → book_with id books ≡ Some book → (shown : Spreadsheet)
+      → IsSpreadsheetShown caller.user (unwrap_or grids false) book shown
+      → outcome ≡ told_as (Ok (answer.Get shown)) → IsApplied caller called books outcome next
+  look_applied id grids called_is found shown holds is =
       applied_read caller called id books (IsLookOf caller.user grids)
       (λ answered effect on. subst (λ one. IsAnswered caller one books answered effect) (sym called_is) on) book found
-      (Ok told) outcome next (ap (λ shown. Ok shown) holds, refl) is none
+      (Ok (answer.Get shown)) outcome next (record { shown = shown; is = holds; told_is = refl; nothing = refl }) is
+      none
 
   pub read_many_applied : (id : List ℕ) (ranges : List (List ℕ)) (dimension : Option Axis) (render : Option Render)
       → called ≡ call.ReadMany id ranges dimension render → book_with id books ≡ Some book

@@ -24,7 +24,9 @@ pub mod Once
 pub mod Judging
 pub mod InTurns
 pub mod Counting
+pub mod HiddenRows
 pub mod Looking
+pub mod FilterPut
 pub mod PatchWithin
 pub mod ProtectionsJudged
 pub mod ProtectionsMade

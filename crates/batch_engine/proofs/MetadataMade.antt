@@ -34,7 +34,7 @@ use Rattle.json_requests.specs.declared.request.MetadataPatch.{MetadataPatch}
 use Rattle.json_requests.specs.declared.request.NewMetadata.{NewMetadata}
 use Rattle.sheets_json.specs.declared.spreadsheet.Reply.{Reply}
 use Rattle.sheets_json.specs.declared.spreadsheet.Reply.TheVariants as reply
-use Rattle.batch_engine.specs.CreateDeveloperMetadata.{IsCreateDeveloperMetadata, IsMetadataCreated, IsPutIn}
+use Rattle.batch_engine.specs.CreateDeveloperMetadata.{IsCreateDeveloperMetadata, IsMetadataCreated}
 use Rattle.batch_engine.specs.CreateDeveloperMetadata.{item_made, item_put, metadata_created_broken, with_item}
 use Rattle.batch_engine.specs.DeleteDeveloperMetadata.{IsDeleteDeveloperMetadata, IsMetadataDeleted}
 use Rattle.batch_engine.specs.Members.{IsDoneTo}
@@ -80,49 +80,8 @@ lookup_refused Is told fault.NoMemory bad is when no_other refused = tt
 
 -- ---- createDeveloperMetadata
 
--- an item is put in
-module _ (project : List ℕ) (asked : NewMetadata) (before after : PlaceBook) (told : Result ℕ MetaFault)
-    (taken : (told ≡ Err fault.IdTaken) ↔ (is_taken (has_id before.metadata) asked.metadata_id ≡ true)) where
-  pub put_refused : (of : MetaFault) → (told ≢ Err fault.NoId) × (told ≢ Err fault.BadLookup) → told ≡ Err of
-      → IsUnlessNoMemory (IsPutIn project asked before after) (Err (refusal_of of))
-  put_refused fault.NoId no_other is = absurd (no_other.0 is)
-  put_refused fault.BadLookup no_other is = absurd (no_other.1 is)
-  put_refused fault.NoMemory no_other is = tt
-  put_refused fault.IdTaken no_other is =
-      record { id_taken = (λ _. taken.0 is, λ _. refl); no_other = refl; new = tt; put = tt }
-
-  abbrev put_as : ℕ → Result ℕ Rule
-  put_as id = Ok id
-
-  put_apart : (id : ℕ) → put_as id ≡ Err rule.IdTaken → ⊥
-  put_apart id is = cc
-
-  pub put_in : (id : ℕ) (key value : List ℕ) (place : Spot) (sight : Sight) → key ≡ asked.metadata_key
-      → value ≡ unwrap_or asked.metadata_value [] → place ≡ spot_of asked.location
-      → sight ≡ sight_given project asked.visibility → told ≡ Ok id
-      → IsNewId (IsLeastUnused (has_id before.metadata)) asked.metadata_id id
-      → MetadataBecomes (with_one_more id key value place sight before.metadata) before after
-      → IsPutIn project asked before after (Ok id)
-  put_in id key value place sight key_is value_is place_is sight_is is new becomes =
-      let same : with_one_more id key value place sight before.metadata
-      ≡ with_item (item_made project asked id) before.metadata = rw (key_is, value_is, place_is, sight_is) refl in
-      record {
-        id_taken = (
-          λ (is_taken : put_as id ≡ Err rule.IdTaken). absurd (put_apart id is_taken),
-          λ so. absurd (not_both told id fault.IdTaken is (taken.1 so)),
-        );
-        no_other = tt;
-        new = new;
-        put = subst (λ items. MetadataBecomes items before after) same becomes;
-      }
-
-module _ (project : List ℕ) (asked : NewMetadata) (before after : PlaceBook) where
-  abbrev Created : Tells
-  Created = IsCreateDeveloperMetadata project asked before
-
-  abbrev Done : Tells
-  Done = IsMetadataCreated project asked before
-
+-- which rule is broken first
+module _ (asked : NewMetadata) (before : PlaceBook) where
   abbrev first_created : Option Rule
   first_created = first_broken (metadata_created_broken asked before)
 
@@ -141,60 +100,64 @@ module _ (project : List ℕ) (asked : NewMetadata) (before after : PlaceBook) w
   abbrev past_rule : Bool → Option Rule
   past_rule past = option_map_or (λ limit. Some (rule.PastLimit limit)) (cond past (Some limit.Metadata) None) None
 
-  pub location_broken : (broken : Rule) → judged_location ≡ Some broken → Created (Err broken)
-  location_broken broken is =
-      broken_is_told Done first_created broken (created_first before.sheets is_id_taken passed asked.location broken is)
+  pub location_broken : (broken : Rule) → judged_location ≡ Some broken → first_created ≡ Some broken
+  location_broken broken is = created_first before.sheets is_id_taken passed asked.location broken is
 
   module _ (none : judged_location ≡ None) where
     first_is : first_created ≡ cond is_id_taken (Some rule.IdTaken) (past_rule is_past)
     first_is = created_behind before.sheets is_id_taken passed asked.location none
 
-    taken_first : is_id_taken ≡ true → first_created ≡ Some rule.IdTaken
+    pub taken_first : is_id_taken ≡ true → first_created ≡ Some rule.IdTaken
     taken_first taken = first_is ∙ ap (λ taken. cond taken (Some rule.IdTaken) (past_rule is_past)) taken
 
     limit_behind : is_id_taken ≡ false → first_created ≡ past_rule is_past
     limit_behind free = first_is ∙ ap (λ taken. cond taken (Some rule.IdTaken) (past_rule is_past)) free
 
-    -- the item isn't put in
-    pub put_in_refused : (of : RuleOr) (left : PlaceBook)
-        → IsUnlessNoMemory (IsPutIn project asked before after) (Err of)
-        → IsUnlessNoMemory (IsDoneTo Created before left) (Err of)
-    put_in_refused refusal.NoMemory left put = tt
-    put_in_refused (refusal.Rule broken) left put =
-        broken_is_told Done first_created broken
-        (taken_first (put.id_taken.0 (ap (λ broken. Err broken) put.no_other))
-        ∙ ap (λ broken. Some broken) (sym put.no_other))
+    pub past_limit : is_id_taken ≡ false → is_past ≡ true → first_created ≡ Some (rule.PastLimit limit.Metadata)
+    past_limit free past = limit_behind free ∙ ap (λ past. past_rule past) past
 
-    -- it is
-    module _ (id : ℕ) (put : IsPutIn project asked before after (Ok id)) where
-      abbrev put_at : Result ℕ Rule
-      put_at = Ok id
+    pub none_created : is_id_taken ≡ false → is_past ≡ false → first_created ≡ None
+    none_created free few = limit_behind free ∙ ap (λ past. past_rule past) few
 
-      put_at_apart : put_at ≡ Err rule.IdTaken → ⊥
-      put_at_apart is = cc
+-- what is told
+module _ (project : List ℕ) (asked : NewMetadata) (before after : PlaceBook) where
+  abbrev Created : Tells
+  Created = IsCreateDeveloperMetadata project asked before
 
-      is_free : is_id_taken ≡ false
-      is_free = false_from_ne_true is_id_taken (λ taken. put_at_apart (put.id_taken.1 taken))
+  abbrev Done : Tells
+  Done = IsMetadataCreated project asked before
 
-      pub past_limit : is_past ≡ true → Created (Err (rule.PastLimit limit.Metadata))
-      past_limit past =
-          broken_is_told Done first_created (rule.PastLimit limit.Metadata)
-          (limit_behind is_free ∙ ap (λ past. past_rule past) past)
+  pub creation_refused : (broken : Rule) → first_created asked before ≡ Some broken → Created (Err broken)
+  creation_refused broken is = broken_is_told Done (first_created asked before) broken is
 
-      abbrev made : List Item
-      made = with_item (item_made project asked id) before.metadata
+  module _ (id : ℕ) where
+    abbrev made : List Item
+    made = with_item (item_made project asked id) before.metadata
 
-      abbrev told_created : Item → Result (Reply × List BookChange) Rule
-      told_created item = Ok (reply.CreateDeveloperMetadata item, BookChange.MetadataSet made ∷ [])
+    -- an item of what is asked is put in
+    pub put_in : (key value : List ℕ) (place : Spot) (sight : Sight) → key ≡ asked.metadata_key
+        → value ≡ unwrap_or asked.metadata_value [] → place ≡ spot_of asked.location
+        → sight ≡ sight_given project asked.visibility
+        → MetadataBecomes (with_one_more id key value place sight before.metadata) before after
+        → MetadataBecomes made before after
+    put_in key value place sight key_is value_is place_is sight_is becomes =
+        let same : with_one_more id key value place sight before.metadata ≡ made =
+        rw (key_is, value_is, place_is, sight_is) refl in
+        subst (λ items. MetadataBecomes items before after) same becomes
 
-      pub item_created : is_past ≡ false → (item : Item) → item ≡ item_made project asked id
-          → IsDoneTo Created before after (Ok (reply.CreateDeveloperMetadata item))
-      item_created few item is = (
-        BookChange.MetadataSet made ∷ [],
-        done_is_told Done first_created (told_created item) (limit_behind is_free ∙ ap (λ past. past_rule past) few)
-            (record { id = id; new = put.new; told_is = ap (λ item. told_created item) is }),
-        put.put.names,
-      )
+    abbrev told_created : Item → Result (Reply × List BookChange) Rule
+    told_created item = Ok (reply.CreateDeveloperMetadata item, BookChange.MetadataSet made ∷ [])
+
+    pub item_created : first_created asked before ≡ None
+        → IsNewId (IsLeastUnused (has_id before.metadata)) asked.metadata_id id → MetadataBecomes made before after
+        → (item : Item) → item ≡ item_made project asked id
+        → IsDoneTo Created before after (Ok (reply.CreateDeveloperMetadata item))
+    item_created none new becomes item is = (
+      BookChange.MetadataSet made ∷ [],
+      done_is_told Done (first_created asked before) (told_created item) none
+          (record { id = id; new = new; told_is = ap (λ item. told_created item) is }),
+      becomes.names,
+    )
 
 -- ---- updateDeveloperMetadata
 

@@ -1,6 +1,6 @@
 -- A call on given spreadsheets has one answer and one effect.
-use Rattle.std.proofs.Common.{◌≡◌, ℕ, Bool, refl, sym, ap, subst, ◌∙◌, List, suc, [], ◌∷◌, cond, true, false, arith}
-use Rattle.std.specs.Prelude.{◌+◌, Option, Some, None, IsSomeAnd, IfOk, IfSome, OnOk, Result, Ok, Err, MatchResult, flat_map}
+use Rattle.std.proofs.Common.{◌≡◌, ℕ, Bool, sym, ap, subst, ◌∙◌, List, suc, [], ◌∷◌, cond, true, false, arith, refl}
+use Rattle.std.specs.Prelude.{◌+◌, Option, Some, None, IsSomeAnd, IfSome, OnOk, unwrap_or, Result, Ok, Err, MatchResult, IfOk, flat_map}
 use Rattle.std.specs.List.{All}
 use Rattle.std.specs.Str.{bytes_eq}
 use Rattle.cell_value.specs.declared.cell.Block.{Block}
@@ -23,6 +23,7 @@ use Rattle.values_api.specs.Blocks.{contents_of}
 use Rattle.values_api.specs.Denials.{AreaCells, WriteCells}
 use Rattle.values_api.specs.Laws.{AppendsOnce, ReadsOnce, WritesOnce}
 use Rattle.values_api.specs.Ranges.{FoundArea, Resolves}
+use Rattle.values_api.specs.Values.{CellsHaveOneValue}
 use Rattle.values_api.specs.declared.writing.Written.{Written}
 use Rattle.json_requests.specs.declared.request.DataFilter.{DataFilter}
 use Rattle.json_requests.specs.declared.request.MetadataLookup.{MetadataLookup}
@@ -41,7 +42,6 @@ use Rattle.batch_engine.specs.Ranges.{IsTarget, agreed}
 use Rattle.batch_engine.specs.Values.{OnRange, done, refused, IsRead, IsClear, IsUpdate, IsShown, IsCleared, IsWritten}
 use Rattle.batch_engine.specs.Values.{Appended, IsAppendOn, IsAppended, IsUpdated, Wrote, appended_of, clear, inserts, update_of}
 use Rattle.batch_engine.specs.Values.{axis_or_rows, is_columns, render_or_formatted, shown_range}
-use Rattle.batch_engine.specs.Looks.{looked}
 use Rattle.batch_engine.specs.Calls.{AreMade, IsAppendOf, IsBatchOf, IsLookOf, IsAlone, IsAnswered, IsClearManyOf, IsClearOf, IsMade, IsReadManyOf}
 use Rattle.batch_engine.specs.Calls.{IsReadFilteredOf, IsReadOf, IsSearchOf, IsItemOf, IsSeen, IsWriteManyOf, IsWriteOf, OnBook, Refusal, alone, answered_at}
 use Rattle.batch_engine.specs.Calls.{answered_by, effect_of, effect_on, told_of, written_answer}
@@ -58,6 +58,7 @@ use Rattle.batch_engine.proofs.DeniedOnce.{unless_once, unless_told_once}
 use Rattle.batch_engine.proofs.FilteredOnce.{resolves_once, shown_by_once}
 use Rattle.batch_engine.proofs.MetadataOnce.{ids_once}
 use Rattle.batch_engine.proofs.InTurns.{in_turn_once}
+use Rattle.batch_engine.proofs.Looking.{look_once}
 use Rattle.batch_engine.proofs.RequestsOnce.{requested_once}
 use Rattle.batch_engine.specs.Requests.{IsRequested}
 
@@ -118,6 +119,18 @@ module _ {A : Type 0} (Found : Result FoundArea Rule → Type 0) (sheets : List 
 -- what is answered and made so has one answer and one effect
 said_once : {Broken : Type 0} (says : Result Answer Broken) (makes : Effect) → IsOnce (λ told effect. (told ≡ says) × (effect ≡ makes))
 said_once says makes told told' effect effect' is is' = (is.0 ∙ sym is'.0, is.1 ∙ sym is'.1)
+
+-- ---- looks
+
+looks_once : CellsHaveOneValue → (user : List ℕ) (grids : Option Bool) (book : PlaceBook) → IsSound book
+    → IsOnce (IsLookOf user grids book)
+looks_once values user grids book sound told told' effect effect' is is' = (
+  is.told_is
+      ∙ ap (λ shown. Ok (answer.Get shown))
+      (look_once values user book sound (unwrap_or grids false) is.shown is'.shown is.is is'.is)
+      ∙ sym is'.told_is,
+  is.nothing ∙ sym is'.nothing,
+)
 
 -- ---- reads
 
@@ -287,8 +300,9 @@ found_sound id (b ∷ bs) all =
     first_sound (bytes_eq b.id id) b (book_with id bs) (all 0 b (omega arith))
     (found_sound id bs (λ k d there. all (suc k) d (omega arith)))
 
-module _ (one_reading : HasOneReading) (news : NewSheetsOnce) (reads : ReadsOnce) (writes : WritesOnce) (appends : AppendsOnce)
-    (apart : ChangesApart) (turns : ChangesInTurn) (lists : ListsAreSame) where
+module _ (one_reading : HasOneReading) (news : NewSheetsOnce) (reads : ReadsOnce) (held : CellsHaveOneValue)
+    (writes : WritesOnce) (appends : AppendsOnce) (apart : ChangesApart) (turns : ChangesInTurn)
+    (lists : ListsAreSame) where
   shown_once : (dimension : Option Axis) (render : Option Render) (book : PlaceBook) → IsSound book → (range : List ℕ)
       (one other : Result ShownRange Rule) → IsShown dimension render book range one
       → IsShown dimension render book range other → one ≡ other
@@ -399,8 +413,7 @@ module _ (one_reading : HasOneReading) (news : NewSheetsOnce) (reads : ReadsOnce
     answered_once caller (call.Create spreadsheet) =
         alone_once (IsCreateOf caller.user spreadsheet books) (create_once news caller.user spreadsheet books)
     answered_once caller (call.Get id grids) =
-        on_book_once id (IsLookOf caller.user grids)
-        (λ book sound. said_once (Ok (looked caller.user grids book)) Nothing)
+        on_book_once id (IsLookOf caller.user grids) (λ book sound. looks_once held caller.user grids book sound)
     answered_once caller (call.Batch id requests) =
         on_book_once id (IsBatchOf caller.user caller.project requests)
         (λ book sound. are_made_once (IsRequested caller.user caller.project)

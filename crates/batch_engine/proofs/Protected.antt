@@ -291,7 +291,8 @@ pub protected_cells_stay : UntouchedCellsKeep → LeftCellsStay → DenialsByNam
 protected_cells_stay keep stays denials caller (call.Create spreadsheet) books told id changes is =
     create_parts keep stays denials caller.user id changes books spreadsheet is.judged is.answered
 protected_cells_stay keep stays denials caller (call.Get of grids) books told id changes is =
-    on_book keep stays denials caller.user id changes books of _ (λ book is. absurd (no_effect keep stays denials caller.user id changes is.1)) is
+    on_book keep stays denials caller.user id changes books of _
+    (λ book is. absurd (no_effect keep stays denials caller.user id changes is.nothing)) is
 protected_cells_stay keep stays denials caller (call.Batch of requests) books told id changes is =
     on_book keep stays denials caller.user id changes books of _
     (λ book. are_made_parts keep stays denials caller.user id changes (IsRequested caller.user caller.project) requests place.Requests

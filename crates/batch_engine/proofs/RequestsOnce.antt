@@ -144,8 +144,8 @@ module _ (news : NewSheetsOnce) (writes : WritesOnce) (apart : ChangesApart) (tu
       protection_added_once user book id patch (first_broken (protection_added_broken id patch book))
   by_kind_once (request.UpdateProtectedRange id patch) = λ told told' is is'. is ∙ sym is'
   by_kind_once (request.DeleteProtectedRange id) = λ told told' is is'. is ∙ sym is'
-  by_kind_once (request.SetBasicFilter filter) = refused_once _
-  by_kind_once (request.ClearBasicFilter sheet) = refused_once _
+  by_kind_once (request.SetBasicFilter filter) = λ told told' is is'. is ∙ sym is'
+  by_kind_once (request.ClearBasicFilter sheet) = λ told told' is is'. is ∙ sym is'
   by_kind_once (request.CreateDeveloperMetadata item) =
       item_created_once project book item (first_broken (metadata_created_broken item book))
   by_kind_once (request.UpdateDeveloperMetadata filters patch) =

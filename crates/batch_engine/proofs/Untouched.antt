@@ -2,6 +2,7 @@
 use Rattle.std.proofs.lemmas.Bool.{false≢true}
 use Rattle.std.proofs.Common.{◌≡◌, ℕ, ◌+◌, ◌-◌, length, false, refl, sym, subst, List, [], ◌∷◌}
 use Rattle.std.specs.Prelude.{Option, None, Some, unwrap_or, Result, Ok, Err, MatchResult}
+use Rattle.basic_filter.specs.declared.types.Filter.{Filter}
 use Rattle.cell_value.specs.declared.cell.Block.{Block}
 use Rattle.grid_range.specs.declared.area.Area.{Area}
 use Rattle.protection.specs.Denial.{Cells}
@@ -12,14 +13,14 @@ use Rattle.protection.specs.declared.range.Protection.{Protection}
 use Rattle.protection.specs.declared.range.ProtectionPatch.{ProtectionPatch}
 use Rattle.world_model.specs.Book.{PlaceBook}
 use Rattle.world_model.specs.BookChange.{BookChange}
-use Rattle.world_model.specs.BookChange.BookChange.{ProtectionsSet, RangeAdded, RangeDeleted, SheetDeleted, MetadataSet}
+use Rattle.world_model.specs.BookChange.BookChange.{FilterSet, ProtectionsSet, RangeAdded, RangeDeleted, SheetDeleted, MetadataSet}
 use Rattle.world_model.specs.ChangingLaws.{ChangesApart, ChangesInTurn}
+use Rattle.world_model.specs.Sound.{place_sheet_with}
 use Rattle.dimension_ops.specs.Broken.{Broken, first_broken, judged_by}
 use Rattle.dimension_ops.specs.RangeRequests.{range_of, range_updates}
 use Rattle.dimension_ops.specs.SetProperties.{properties_broken, properties_set}
 use Rattle.dimension_ops.specs.SheetRequests.{sheet_added_broken, sheet_dropped_broken}
 use Rattle.dimension_ops.specs.declared.rule.Rule.{Rule}
-use Rattle.dimension_ops.specs.declared.rule.Rule.TheVariants as rule
 use Rattle.values_api.specs.Denials.{NoCells}
 use Rattle.json_requests.specs.declared.request.NewNamedRange.{NewNamedRange}
 use Rattle.json_requests.specs.declared.request.Request.{Request}
@@ -42,7 +43,10 @@ use Rattle.batch_engine.specs.Telling.{UnlessBroken}
 use Rattle.batch_engine.specs.UpdateDeveloperMetadata.{IsMetadataUpdated, metadata_updated, metadata_updated_broken}
 use Rattle.batch_engine.specs.DeleteProtectedRange.{protection_deleted_broken}
 use Rattle.batch_engine.specs.Dimensions.{MovedCells, append_broken, end_of, insert_broken, lines_there, move_broken}
+use Rattle.batch_engine.specs.ClearBasicFilter.{filter_cleared_broken}
 use Rattle.batch_engine.specs.Requests.{IsDoneByKind}
+use Rattle.batch_engine.specs.Rows.{cut_on}
+use Rattle.batch_engine.specs.SetBasicFilter.{broken_by_filter, put_on}
 use Rattle.batch_engine.specs.Touching.{TouchedCells}
 use Rattle.batch_engine.specs.Untouched.{appends_rows}
 use Rattle.batch_engine.specs.UpdateCells.{UpdatedCells, IsUpdateCells}
@@ -103,6 +107,13 @@ items_deleted_leave project asked book (Some broken) reply changes is = absurd (
 items_deleted_leave project asked book None reply changes is =
     subst (Leave [] NoCells book) (reply_changes (reply, changes) _ is.told_is)
     (metadata_leaves book (not_found (lookup_of asked) project book.metadata))
+
+-- ---- filters
+
+filter_leaves : (book : PlaceBook) (sheet : ℕ) (filter : Option Filter)
+    → Leave [] NoCells book (FilterSet sheet filter ∷ [])
+filter_leaves book sheet filter =
+    plain_leave NoCells book (FilterSet sheet filter) (λ named id row col. tt) (λ id. tt)
 
 -- ---- named ranges
 
@@ -192,8 +203,14 @@ module _ (apart : ChangesApart) (turns : ChangesInTurn) (user project : List ℕ
   by_kind_leave (request.DeleteProtectedRange id) none is =
       judged_leave book NoCells (protection_deleted_broken user id book) reply reply_of.Empty changes
       (ProtectionsSet (without_id id book.protections) ∷ []) (protections_leave book (without_id id book.protections)) is
-  by_kind_leave (request.SetBasicFilter filter) none is = refused NoCells rule.Unsupported is
-  by_kind_leave (request.ClearBasicFilter sheet) none is = refused NoCells rule.Unsupported is
+  by_kind_leave (request.SetBasicFilter filter) none is =
+      let found = place_sheet_with filter.area.sheet book.sheets in
+      judged_leave book NoCells (broken_by_filter found filter) reply reply_of.Empty changes
+      (put_on filter (cut_on found filter.area)).1
+      (filter_leaves book filter.area.sheet (Some (record filter { area = cut_on found filter.area }))) is
+  by_kind_leave (request.ClearBasicFilter sheet) none is =
+      judged_leave book NoCells (filter_cleared_broken sheet book.sheets) reply reply_of.Empty changes
+      (FilterSet sheet None ∷ []) (filter_leaves book sheet None) is
   by_kind_leave (request.CreateDeveloperMetadata item) none is =
       item_created_leaves project item book (first_broken (metadata_created_broken item book)) reply changes is
   by_kind_leave (request.UpdateDeveloperMetadata filters patch) none is =

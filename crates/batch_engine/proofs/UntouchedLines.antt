@@ -2,7 +2,7 @@
 use Rattle.std.proofs.Common.{◌≡◌, ◌≢◌, ◌⊎◌, inl, inr, ℕ, zero, suc, ◌+◌, ◌-◌, ◌<◌, ◌≤◌, refl, sym, ap, subst, ◌∙◌, List, [], ◌∷◌, ◌++◌, length, take, drop, get_or, cond, Bool, true, false, arith, length-drop}
 use Rattle.std.specs.Prelude.{Option, Some, None, Contains, IsSomeAnd, ◌==◌, ◌&&◌, nat_le, map, filter, not, slice_get, slice_range}
 use Rattle.std.specs.List.{before_first, position_or_len, range_with_len}
-use Rattle.std.specs.Option.{option_map_or}
+use Rattle.std.specs.Option.{option_map, option_map_or}
 use Rattle.std.proofs.lemmas.Bool.{cases_lt, eqb-true, false≢true, false_from_ne_true}
 use Rattle.std.proofs.lemmas.List.{get_or-drop, get_or-take, length-take, take-append-drop}
 use Rattle.std.proofs.lemmas.List.Elements.{Contains-append_cases, Contains-append_left, Contains-append_right}
@@ -17,9 +17,10 @@ use Rattle.grid_range.specs.declared.axis.Axis.TheVariants.{Rows, Columns}
 use Rattle.grid_range.specs.declared.change.Change.{Change}
 use Rattle.world_model.specs.Area.{area_named}
 use Rattle.world_model.specs.Book.{NameBook, orders_of, sheet_with}
-use Rattle.world_model.specs.BookChange.{BookChange, Named, changed_by, marked_hidden, merged, new_sheet, sheet_renamed, titled, without_references}
+use Rattle.world_model.specs.BookChange.{BookChange, Named, changed_by, filtered, marked_hidden, merged, new_sheet, sheet_renamed, titled, without_references}
 use Rattle.world_model.specs.BookChange.BookChange.{CellsUpdated, LinesChanged, SheetAdded, SheetDeleted, SheetTitled, SheetHidden}
-use Rattle.world_model.specs.BookChange.BookChange.{RangeAdded, RangeChanged, RangeDeleted, WordsRenamed, MergesSet, ProtectionsSet, MetadataSet}
+use Rattle.world_model.specs.BookChange.BookChange.{RangeAdded, RangeChanged, RangeDeleted, WordsRenamed, MergesSet, FilterSet, ProtectionsSet, MetadataSet}
+use Rattle.world_model.specs.Filters.{filter_named}
 use Rattle.world_model.specs.Leaving.{HasCell}
 use Rattle.world_model.specs.LineChange.{LineChange, line_change, sheet_followed, with_all_followed, with_lines}
 use Rattle.world_model.specs.Sheet.{NameSheet, lines_of}
@@ -141,6 +142,7 @@ KeepsSheet (RangeChanged range) id = Unit {0}
 KeepsSheet (RangeDeleted range) id = Unit {0}
 KeepsSheet (WordsRenamed old new) id = Unit {0}
 KeepsSheet (MergesSet sheet merges) id = Unit {0}
+KeepsSheet (FilterSet sheet given) id = Unit {0}
 KeepsSheet (ProtectionsSet protections) id = Unit {0}
 KeepsSheet (MetadataSet items) id = Unit {0}
 
@@ -169,6 +171,10 @@ module _ (named : Named) (id : ℕ) (axis : Axis) where
       let by_names = map (area_named (orders_of sheets)) merges in
       mapped_lines (λ one. cond (one.id == sheet) (merged by_names one) one)
       (λ one. keeps_if (one.id == sheet) (merged by_names one) one (refl, refl, refl)) id axis sheets
+  lines_kept (FilterSet sheet given) keeps =
+      let by_names = option_map (filter_named (orders_of sheets)) given in
+      mapped_lines (λ one. cond (one.id == sheet) (filtered by_names one) one)
+      (λ one. keeps_if (one.id == sheet) (filtered by_names one) one (refl, refl, refl)) id axis sheets
   lines_kept (WordsRenamed old new) keeps =
       mapped_lines (sheet_renamed old new) (λ one. (refl, refl, refl)) id axis sheets
   lines_kept (RangeAdded range) keeps = refl

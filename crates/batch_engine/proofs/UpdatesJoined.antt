@@ -25,6 +25,7 @@ module _ (id : ℕ) (one later both : Updates) (same : (row col : ℕ) (held : O
         ∙ on (before.id == id) row col (item_at before.table row col) (item_at between.table row col)
         (first.items row col);
     merges = second.merges ∙ first.merges;
+    filter = second.filter ∙ first.filter;
   }
     where
       on : (own : Bool) (row col : ℕ) (held now : Option Content)

@@ -1,7 +1,7 @@
 -- What a call is answered, and what it makes of the spreadsheets (Google Sheets API v4 reference, spreadsheets.create,
 -- spreadsheets.get, spreadsheets.batchUpdate, spreadsheets.values.get, batchGet, batchGetByDataFilter, update,
 -- batchUpdate, append, clear and batchClear, and spreadsheets.developerMetadata.get and search).
-use Rattle.std.specs.Prelude.{◌≡◌, ℕ, Bool, ◌==◌, ◌&&◌, List, map, flat_map, Option, Some, None, Result, Ok, Err}
+use Rattle.std.specs.Prelude.{◌≡◌, ℕ, Bool, false, ◌==◌, ◌&&◌, List, map, flat_map, Option, Some, None, unwrap_or, Result, Ok, Err}
 use Rattle.std.specs.Prelude.{IsSomeAnd, ⊤}
 use Rattle.std.specs.List.{sum_by}
 use Rattle.std.specs.Option.{IsSome}
@@ -26,6 +26,7 @@ use Rattle.sheets_json.specs.declared.call.Call.TheVariants as call
 use Rattle.sheets_json.specs.declared.call.InsertData.{InsertData}
 use Rattle.sheets_json.specs.declared.call.RangeBlock.{RangeBlock}
 use Rattle.sheets_json.specs.declared.call.ValueRange.{ValueRange}
+use Rattle.sheets_json.specs.declared.spreadsheet.Spreadsheet.{Spreadsheet}
 use Rattle.sheets_json.specs.declared.place.Place.{Place}
 use Rattle.sheets_json.specs.declared.place.Place.TheVariants as place
 use Rattle.json_requests.specs.declared.request.DataFilter.{DataFilter}
@@ -36,7 +37,7 @@ use Rattle.batch_engine.specs.Create.{IsCreateOf}
 use Rattle.batch_engine.specs.Effects.{Effect, IsNext}
 use Rattle.batch_engine.specs.Effects.Effect.{Nothing, Changes}
 use Rattle.batch_engine.specs.Filtered.{AreShownBy, Showing}
-use Rattle.batch_engine.specs.Looks.{looked}
+use Rattle.batch_engine.specs.Looks.{IsSpreadsheetShown}
 use Rattle.batch_engine.specs.Members.{InOrder, InTurn, Told}
 use Rattle.batch_engine.specs.Requests.{IsRequested}
 use Rattle.batch_engine.specs.Searches.{AreSearched, item_told, search_answer}
@@ -198,9 +199,13 @@ pub record IsReadFilteredOf (project : List ℕ) (filters : List (Reading DataFi
 abbrev pub OnBook : List ℕ → List PlaceBook → (PlaceBook → Type 0) → Type 0
 OnBook id books Holds = IsSomeAnd (book_with id books) Holds
 
--- a user's look at the spreadsheet changes nothing
-abbrev pub IsLookOf : List ℕ → Option Bool → PlaceBook → Result Answer Refusal → Effect → Type 0
-IsLookOf user grids book told effect = (told ≡ Ok (looked user grids book)) × (effect ≡ Nothing)
+-- a user's look at the spreadsheet shows it, the rows of its sheets where that is asked for, and changes nothing
+pub record IsLookOf (user : List ℕ) (grids : Option Bool) (book : PlaceBook) (told : Result Answer Refusal)
+    (effect : Effect) : Type 0 where
+  pub shown : Spreadsheet
+  pub is : IsSpreadsheetShown user (unwrap_or grids false) book shown
+  pub told_is : told ≡ Ok (answer.Get shown)
+  pub nothing : effect ≡ Nothing
 
 -- the call of its caller is answered so, or breaks that rule there, and makes that of the spreadsheets
 abbrev pub IsAnswered : Caller → Call → List PlaceBook → Result Answer Refusal → Effect → Type 0

@@ -1,7 +1,7 @@
 -- spreadsheets.create (Google Sheets API v4 reference, spreadsheets.create and Spreadsheet): a spreadsheet is made for its
 -- caller, behind all others, and is told as a look at it shows it. The title where none is given is this project's
 -- profile.
-use Rattle.std.specs.Prelude.{◌≡◌, ℕ, List, [], false, length, unwrap_or, codes, Result, Ok, Err}
+use Rattle.std.specs.Prelude.{◌≡◌, ℕ, List, [], length, unwrap_or, codes, Result, Ok, Err}
 use Rattle.world_model.specs.Book.{PlaceBook}
 use Rattle.world_model.specs.Making.{Placed, additions, bare_book, bare_names, with_all_placed}
 use Rattle.dimension_ops.specs.Broken.{judged_by}
@@ -13,7 +13,7 @@ use Rattle.sheets_json.specs.declared.answer.Answer.TheVariants as answer
 use Rattle.sheets_json.specs.declared.call.NewSpreadsheet.{NewSpreadsheet}
 use Rattle.batch_engine.specs.Effects.{Effect}
 use Rattle.batch_engine.specs.Effects.Effect.{Nothing, Makes}
-use Rattle.batch_engine.specs.Looks.{spreadsheet_of}
+use Rattle.batch_engine.specs.Looks.{spreadsheet_alone}
 use Rattle.batch_engine.specs.Values.{rule_of}
 
 abbrev pub title_or_untitled : NewSpreadsheet → List ℕ
@@ -40,7 +40,7 @@ pub record IsMadeFor (owner : List ℕ) (asked : NewSpreadsheet) (books : List P
   pub placed : List Placed
   pub are : ArePlaced (asked_sheets asked.sheets) [] placed
   pub told_is : told ≡ judged_by (created_broken (length books) (asked_sheets asked.sheets) placed)
-      (answer.Create (spreadsheet_of owner false (book_made owner asked (length books) placed)))
+      (answer.Create (spreadsheet_alone owner (book_made owner asked (length books) placed)))
   pub effect_is : effect ≡ unless_broken told (makes_book owner asked (length books) placed)
 
 -- one whose shape is broken is refused

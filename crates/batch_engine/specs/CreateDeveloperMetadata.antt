@@ -1,7 +1,7 @@
 -- createDeveloperMetadata (Google Sheets API v4 reference, CreateDeveloperMetadataRequest): an item of metadata is
 -- created and is replied. One that is seen by its project alone is seen under the project of the call. No cell is
 -- touched.
-use Rattle.std.specs.Prelude.{◌≡◌, ◌↔◌, ◌+◌, ℕ, true, List, [], ◌∷◌, length, unwrap_or, Result, Ok, Err, IfErr, IfOk}
+use Rattle.std.specs.Prelude.{◌≡◌, ◌+◌, ℕ, List, [], ◌∷◌, length, unwrap_or, Result, Ok}
 use Rattle.cell_value.specs.Ids.{IsLeastUnused, IsNewId, is_taken}
 use Rattle.dev_metadata.specs.Listed.{has_id, with_one_more}
 use Rattle.dev_metadata.specs.SightKind.{sight_given}
@@ -9,9 +9,7 @@ use Rattle.dev_metadata.specs.declared.types.Item.{Item}
 use Rattle.world_model.specs.Book.{PlaceBook}
 use Rattle.world_model.specs.BookChange.{BookChange}
 use Rattle.dimension_ops.specs.Broken.{Broken, first_broken, first_passed}
-use Rattle.dimension_ops.specs.MetadataRequests.{MetadataBecomes}
 use Rattle.dimension_ops.specs.declared.rule.Rule.{Rule}
-use Rattle.dimension_ops.specs.declared.rule.Rule.TheVariants as rule
 use Rattle.json_requests.specs.declared.request.NewMetadata.{NewMetadata}
 use Rattle.sheets_json.specs.declared.spreadsheet.Reply.{Reply}
 use Rattle.sheets_json.specs.declared.spreadsheet.Reply.TheVariants as reply
@@ -53,13 +51,3 @@ pub record IsMetadataCreated (project : List ℕ) (asked : NewMetadata) (book : 
 abbrev pub IsCreateDeveloperMetadata : List ℕ → NewMetadata → PlaceBook → Tells
 IsCreateDeveloperMetadata project asked book =
     UnlessBroken (first_broken (metadata_created_broken asked book)) (IsMetadataCreated project asked book)
-
--- ---- what the private functions hand to one another
-
--- an item that is put in with its id, or whose id is taken
-pub record IsPutIn (project : List ℕ) (asked : NewMetadata) (before after : PlaceBook) (told : Result ℕ Rule)
-    : Type 0 where
-  pub id_taken : (told ≡ Err rule.IdTaken) ↔ (is_taken (has_id before.metadata) asked.metadata_id ≡ true)
-  pub no_other : IfErr told (λ broken. broken ≡ rule.IdTaken)
-  pub new : IfOk told (IsNewId (IsLeastUnused (has_id before.metadata)) asked.metadata_id)
-  pub put : IfOk told (λ id. MetadataBecomes (with_item (item_made project asked id) before.metadata) before after)

@@ -7,6 +7,7 @@ pub mod Rows
 pub mod Protections
 pub mod UpdateCells
 pub mod AppendCells
+pub mod HiddenRows
 pub mod Looks
 pub mod Create
 pub mod AddSheet
@@ -22,6 +23,8 @@ pub mod UnmergeCells
 pub mod AddProtectedRange
 pub mod UpdateProtectedRange
 pub mod DeleteProtectedRange
+pub mod SetBasicFilter
+pub mod ClearBasicFilter
 pub mod Metadata
 pub mod CreateDeveloperMetadata
 pub mod UpdateDeveloperMetadata

@@ -1,15 +1,16 @@
 -- What is shown of a spreadsheet itself (Google Sheets API v4 reference, spreadsheets.get, Spreadsheet, Sheet,
--- SheetProperties, GridData, NamedRange and ProtectedRange). None has filters yet.
-use Rattle.std.specs.Prelude.{ℕ, ◌+◌, Bool, true, false, List, [], ◌∷◌, Option, None, Some, unwrap_or}
+-- SheetProperties, GridData, BasicFilter, NamedRange and ProtectedRange).
+use Rattle.std.specs.Prelude.{◌≡◌, ℕ, ◌+◌, Bool, true, false, List, [], ◌∷◌, map, Option, None, Some}
+use Rattle.std.specs.List.{AllZip}
 use Rattle.world_model.specs.Book.{PlaceBook}
 use Rattle.world_model.specs.Sheet.{PlaceSheet}
-use Rattle.sheets_json.specs.declared.answer.Answer.{Answer}
-use Rattle.sheets_json.specs.declared.answer.Answer.TheVariants as answer
+use Rattle.sheets_json.specs.declared.spreadsheet.DimensionProperties.{DimensionProperties}
 use Rattle.sheets_json.specs.declared.spreadsheet.GridData.{GridData}
 use Rattle.sheets_json.specs.declared.spreadsheet.ShownProperties.{ShownProperties}
 use Rattle.sheets_json.specs.declared.spreadsheet.ShownProtection.{ShownProtection}
 use Rattle.sheets_json.specs.declared.spreadsheet.ShownSheet.{ShownSheet}
 use Rattle.sheets_json.specs.declared.spreadsheet.Spreadsheet.{Spreadsheet}
+use Rattle.batch_engine.specs.HiddenRows.{AreRowsTold}
 use Rattle.batch_engine.specs.Protections.{shown_protections}
 use Rattle.batch_engine.specs.Values.{unless_empty}
 
@@ -24,37 +25,61 @@ shown_properties index sheet = record {
   title = sheet.title;
 }
 
--- what is known of the rows, if that is asked for: no filter hides one
-abbrev pub rows_shown : Bool → Option GridData
-rows_shown true = Some (record { row_metadata = [] })
-rows_shown false = None
+-- what is told of rows
+abbrev pub with_rows : List DimensionProperties → Option GridData
+with_rows rows = Some (record { row_metadata = rows })
 
--- the sheet at a place among the sheets, with its rows or without; its merges stand by first row and then first column,
--- and its protected ranges, as they are shown, in order of id, where there are some
-abbrev pub shown_sheet : Bool → ℕ → PlaceSheet → List ShownProtection → ShownSheet
-shown_sheet grids index sheet protections = record {
-  basic_filter = None;
-  «data» = rows_shown grids;
+-- what is known of the sheet's rows, if that is asked for: which its filter hides
+abbrev pub IsGridShown : Bool → PlaceBook → PlaceSheet → Option GridData → Type 0
+IsGridShown false book sheet grid = grid ≡ None
+IsGridShown true book sheet grid =
+    (rows : List DimensionProperties) × AreRowsTold book sheet sheet.filter rows × (grid ≡ with_rows rows)
+
+-- the sheet at a place among the sheets, with what is known of its rows; its merges stand by first row and then first
+-- column, and its protected ranges, as they are shown, in order of id, where there are some
+abbrev pub shown_sheet : ℕ → PlaceSheet → Option GridData → List ShownProtection → ShownSheet
+shown_sheet index sheet grid protections = record {
+  basic_filter = sheet.filter;
+  «data» = grid;
   merges = unless_empty sheet.merges;
   properties = shown_properties index sheet;
   protected_ranges = unless_empty protections;
 }
 
--- the sheets of the spreadsheet from a place on
-abbrev pub shown_from : List ℕ → Bool → PlaceBook → ℕ → List PlaceSheet → List ShownSheet
-shown_from user grids book index [] = []
-shown_from user grids book index (sheet ∷ sheets) =
-    shown_sheet grids index sheet (shown_protections user book sheet.id) ∷ shown_from user grids book (index + 1) sheets
+-- the sheets of the spreadsheet from a place on, each with what is known of its rows
+abbrev pub shown_from : List ℕ → PlaceBook → ℕ → List PlaceSheet → List (Option GridData) → List ShownSheet
+shown_from user book index (sheet ∷ sheets) (grid ∷ grids) =
+    shown_sheet index sheet grid (shown_protections user book sheet.id) ∷ shown_from user book (index + 1) sheets grids
+shown_from user book index _ _ = []
 
--- what a user is shown of the spreadsheet; the named ranges stand in order of creation, where there are some
-abbrev pub spreadsheet_of : List ℕ → Bool → PlaceBook → Spreadsheet
-spreadsheet_of user grids book = record {
+-- the spreadsheet with these sheets; the named ranges stand in order of creation, where there are some
+abbrev pub with_sheets : PlaceBook → List ShownSheet → Spreadsheet
+with_sheets book sheets = record {
   named_ranges = unless_empty book.ranges;
   title = book.title;
-  sheets = shown_from user grids book 0 book.sheets;
+  sheets = sheets;
   spreadsheet_id = book.id;
 }
 
--- the rows of the sheets are shown where that is asked for
-abbrev pub looked : List ℕ → Option Bool → PlaceBook → Answer
-looked user grids book = answer.Get (spreadsheet_of user (unwrap_or grids false) book)
+-- what a user is shown of the spreadsheet
+abbrev pub spreadsheet_with : List ℕ → PlaceBook → List (Option GridData) → Spreadsheet
+spreadsheet_with user book grids = with_sheets book (shown_from user book 0 book.sheets grids)
+
+-- without what is known of rows
+abbrev pub spreadsheet_alone : List ℕ → PlaceBook → Spreadsheet
+spreadsheet_alone user book = spreadsheet_with user book (map (λ sheet. None) book.sheets)
+
+-- the rows of the sheets are shown where that is wanted
+pub record IsSpreadsheetShown (user : List ℕ) (wanted : Bool) (book : PlaceBook) (shown : Spreadsheet) : Type 0 where
+  pub grids : List (Option GridData)
+  pub each : AllZip (IsGridShown wanted book) book.sheets grids
+  pub shown_is : shown ≡ spreadsheet_with user book grids
+
+-- ---- what the private functions hand to one another
+
+-- so many sheets are shown
+pub record AreSheetsShown (user : List ℕ) (wanted : Bool) (book : PlaceBook) (sheets : List PlaceSheet)
+    (shown : List ShownSheet) : Type 0 where
+  pub grids : List (Option GridData)
+  pub each : AllZip (IsGridShown wanted book) sheets grids
+  pub shown_are : shown ≡ shown_from user book 0 sheets grids

@@ -6,7 +6,6 @@ use Rattle.std.specs.Prelude.{◌≡◌, ℕ, false, List, unwrap_or, Result, Er
 use Rattle.world_model.specs.Book.{PlaceBook}
 use Rattle.world_model.specs.BookChange.{BookChange}
 use Rattle.dimension_ops.specs.declared.rule.Rule.{Rule}
-use Rattle.dimension_ops.specs.declared.rule.Rule.TheVariants as rule
 use Rattle.json_requests.specs.declared.request.Request.{Request}
 use Rattle.json_requests.specs.declared.request.Request.TheVariants as request
 use Rattle.json_requests.specs.declared.request.Step.{Step}
@@ -17,6 +16,7 @@ use Rattle.batch_engine.specs.AddNamedRange.{IsAddNamedRange}
 use Rattle.batch_engine.specs.AddProtectedRange.{IsAddProtectedRange}
 use Rattle.batch_engine.specs.AddSheet.{IsAddSheet}
 use Rattle.batch_engine.specs.AppendCells.{IsAppendCells}
+use Rattle.batch_engine.specs.ClearBasicFilter.{basic_filter_cleared}
 use Rattle.batch_engine.specs.CreateDeveloperMetadata.{IsCreateDeveloperMetadata}
 use Rattle.batch_engine.specs.DeleteDeveloperMetadata.{IsDeleteDeveloperMetadata}
 use Rattle.batch_engine.specs.DeleteNamedRange.{range_deleted}
@@ -24,6 +24,7 @@ use Rattle.batch_engine.specs.DeleteProtectedRange.{protection_deleted}
 use Rattle.batch_engine.specs.DeleteSheet.{IsDeleteSheet}
 use Rattle.batch_engine.specs.Dimensions.{dimension_appended, dimension_deleted, dimension_inserted, dimension_moved}
 use Rattle.batch_engine.specs.MergeCells.{IsMergeCells}
+use Rattle.batch_engine.specs.SetBasicFilter.{basic_filter_set}
 use Rattle.batch_engine.specs.Touching.{TouchedCells}
 use Rattle.batch_engine.specs.UnmergeCells.{IsUnmergeCells}
 use Rattle.batch_engine.specs.UpdateCells.{IsUpdateCells}
@@ -33,8 +34,7 @@ use Rattle.batch_engine.specs.UpdateProtectedRange.{protection_updated}
 use Rattle.batch_engine.specs.UpdateSheetProperties.{sheet_properties_updated}
 use Rattle.batch_engine.specs.Values.{rule_of}
 
--- what a user's request is replied, or which rule it breaks, and what it changes, whatever cells are denied; no other
--- kind is done yet
+-- what a user's request is replied, or which rule it breaks, and what it changes, whatever cells are denied
 abbrev pub IsDoneByKind : List ℕ → List ℕ → PlaceBook → Request → Result (Reply × List BookChange) Rule → Type 0
 IsDoneByKind user project book (request.UpdateCells rows area) told = IsUpdateCells rows area book told
 IsDoneByKind user project book (request.AppendCells sheet rows) told = IsAppendCells user sheet rows book told
@@ -64,7 +64,8 @@ IsDoneByKind user project book (request.UpdateDeveloperMetadata filters patch) t
     IsUpdateDeveloperMetadata project filters patch book told
 IsDoneByKind user project book (request.DeleteDeveloperMetadata filter) told =
     IsDeleteDeveloperMetadata project filter book told
-IsDoneByKind user project book _ told = told ≡ Err rule.Unsupported
+IsDoneByKind user project book (request.SetBasicFilter filter) told = told ≡ basic_filter_set filter book.sheets
+IsDoneByKind user project book (request.ClearBasicFilter sheet) told = told ≡ basic_filter_cleared sheet book.sheets
 
 -- it is done unless a protected range denies the user a cell that it touches: both as they are before it
 abbrev pub IsDoneAsAsked : List ℕ → List ℕ → PlaceBook → Request → Result (Reply × List BookChange) Rule → Type 0

@@ -50,10 +50,9 @@ pub struct Applied {
     pub outcome: Outcome,
 }
 
-/// Makes a call of its caller on the spreadsheets, which stay as they are: what they are after it is told (Sheets API
-/// v4 reference, spreadsheets, spreadsheets.values and spreadsheets.developerMetadata). A request of a kind that isn't
-/// done is refused as [`Rule::Unsupported`]. A batch and a list are done in their order, each member on what those
-/// before it leave, and the first member that breaks a rule refuses the call.
+/// Makes a call of its caller on the spreadsheets, which stay as they are: what they are after it is told (Sheets API v4
+/// reference, spreadsheets, spreadsheets.values and spreadsheets.developerMetadata). A batch and a list are done in
+/// their order, each member on what those before it leave, and the first member that breaks a rule refuses the call.
 ///
 /// # Errors
 ///
@@ -144,8 +143,8 @@ pub fn apply(
             include_grid_data,
         } => {
             let book = book_of(world, id.as_str());
-            let told = look(alloc, book, caller.user.as_str(), *include_grid_data)?;
-            Ok(unchanged(Ok(told)))
+            let shown = look(alloc, book, caller.user.as_str(), *include_grid_data)?;
+            Ok(unchanged(Ok(Answer::Get(shown))))
         }
         Call::Create { spreadsheet } => {
             let told = judged(create(alloc, world, caller.user.as_str(), spreadsheet))?;

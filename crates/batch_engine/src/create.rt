@@ -3,10 +3,10 @@ ghost use Rattle.dimension_ops.specs.Rules.{IsUnlessNoMemory};
 ghost use Rattle.world_model.specs.Book.{PlaceBook};
 ghost use Rattle.batch_engine.specs.Calls.{IsMaking};
 ghost use Rattle.batch_engine.specs.Create.{IsCreateOf, IsMadeFor, title_or_untitled};
-ghost use Rattle.batch_engine.specs.Looks.{spreadsheet_of};
+ghost use Rattle.batch_engine.specs.Looks.{spreadsheet_alone};
 
 use crate::answers::rule_of;
-use crate::looks::spreadsheet_of;
+use crate::looks::spreadsheet_alone;
 use cell_value::{Duplicate, NoMemory};
 use dimension_ops::{RuleOr, World};
 use sheets_json::{Answer, NewSpreadsheet, ShapeFault, Spreadsheet};
@@ -60,8 +60,9 @@ fn title_or_untitled(asked: &NewSpreadsheet) -> &str
 fn shown_at(alloc: Global, world: &World, owner: &str, at: u64) -> Result<Spreadsheet, NoMemory>
     requires there { at < length world.now }
     requires few { at < 4294967296 }
-    ensures { IfOk result (λ shown. (other : PlaceBook) → shown ≡ spreadsheet_of owner.now false (get_or world.now at other)) }
+    ensures { IfOk result (λ shown. (other : PlaceBook) →
+        shown ≡ spreadsheet_alone owner.now (get_or world.now at other)) }
 {
     let book = world.at(at as u32).unwrap();
-    spreadsheet_of(alloc, book, owner, false)
+    spreadsheet_alone(alloc, book, owner)
 }

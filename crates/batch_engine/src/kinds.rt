@@ -7,6 +7,7 @@ mod add_protected_range;
 mod add_sheet;
 mod append_cells;
 mod areas;
+mod clear_basic_filter;
 mod create_developer_metadata;
 mod delete_developer_metadata;
 mod delete_named_range;
@@ -17,6 +18,7 @@ mod given;
 mod merge_cells;
 mod merging;
 mod protections;
+mod set_basic_filter;
 mod touching;
 mod unmerge_cells;
 mod update_cells;
@@ -30,6 +32,7 @@ use add_protected_range::add_protected_range;
 use add_sheet::add_sheet;
 use append_cells::append_cells;
 pub(crate) use areas::area_on;
+use clear_basic_filter::clear_basic_filter;
 use create_developer_metadata::create_developer_metadata;
 use delete_developer_metadata::delete_developer_metadata;
 use delete_named_range::delete_named_range;
@@ -41,6 +44,7 @@ use dimensions::{append_dimension, delete_dimension, insert_dimension, move_dime
 pub(crate) use given::given_text;
 use merge_cells::merge_cells;
 pub(crate) use protections::shown_protections;
+use set_basic_filter::set_basic_filter;
 use sheets_json::{Reply, Request};
 use std::alloc::Global;
 use touching::denial;
@@ -145,6 +149,7 @@ fn done_by_kind(
         Request::DeleteDeveloperMetadata { data_filter } => {
             delete_developer_metadata(book, project, data_filter)
         }
-        _ => Err(RuleOr::Rule(Rule::Unsupported)),
+        Request::SetBasicFilter { filter } => set_basic_filter(book, filter),
+        Request::ClearBasicFilter { sheet_id } => clear_basic_filter(book, *sheet_id),
     }
 }

@@ -7,7 +7,7 @@ ghost use Rattle.batch_engine.specs.Untouched.{UntouchedCellsKeep};
 use a1_notation::a1_laws;
 use dimension_ops::new_sheets_once;
 use merge_ranges::lists_are_same;
-use values_api::{appends_once, shows_once, writes_once};
+use values_api::{appends_once, cells_have_one_value, shows_once, writes_once};
 use world_model::{changes_apart, changes_in_turn, denials_by_name, left_cells_stay};
 
 /// A call has one answer and one effect on given spreadsheets.
@@ -17,6 +17,7 @@ pub fn calls_answered_once()
     a1_laws();
     new_sheets_once();
     shows_once();
+    cells_have_one_value();
     writes_once();
     appends_once();
     changes_apart();

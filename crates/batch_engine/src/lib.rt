@@ -8,6 +8,7 @@ mod batch;
 mod calls;
 mod create;
 mod filtered;
+mod hidden_rows;
 mod kinds;
 mod laws;
 mod lists;

@@ -1,44 +1,71 @@
-ghost use Rattle.std.specs.Prelude.{◌≡◌, ◌<◌, IfOk, length, get_or};
+ghost use Rattle.std.specs.Prelude.{◌≡◌, ◌<◌, IfOk, OnOk, length, get_or, unwrap_or, false};
+ghost use Rattle.cell_calc.specs.Calculated.{IsTableOf};
 ghost use Rattle.world_model.specs.Sheet.{PlaceSheet};
-ghost use Rattle.world_model.specs.Sound.{most_sheets};
-ghost use Rattle.batch_engine.specs.Looks.{looked, spreadsheet_of, shown_from, shown_sheet, rows_shown, shown_properties};
+ghost use Rattle.world_model.specs.Sound.{IsSheetSound, most_sheets};
+ghost use Rattle.values_api.specs.Sheets.{stored_in};
+ghost use Rattle.batch_engine.specs.Looks.{AreSheetsShown, IsGridShown, IsSpreadsheetShown, shown_properties, shown_sheet, spreadsheet_alone, with_sheets};
 
 use crate::answers::unless_empty;
+use crate::hidden_rows::rows_told;
 use crate::kinds::shown_protections;
+use basic_filter::Filter;
+use cell_calc::Table;
 use cell_value::{Duplicate, Items, NoMemory};
 use dimension_ops::{Book, Sheet};
 use grid_range::Area;
 use named_ranges::{NamedRange, Names};
-use sheets_json::{Answer, GridData, ShownProperties, ShownProtection, ShownSheet, Spreadsheet};
+use sheets_json::{GridData, ShownProperties, ShownProtection, ShownSheet, Spreadsheet};
 use std::alloc::Global;
 use world_model::ids_find;
 
-/// What a user's look at a spreadsheet is answered, with what is known of its rows where that is asked for.
+/// What a user's look at a spreadsheet shows, with what is known of its rows where that is asked for.
 pub(crate) fn look(
     alloc: Global,
     book: &Book,
     user: &str,
     grids: Option<bool>,
-) -> Result<Answer, NoMemory>
-    ensures { IfOk result (λ told. told ≡ looked user.now grids book.now) }
+) -> Result<Spreadsheet, NoMemory>
+    ensures { IfOk result (IsSpreadsheetShown user.now (unwrap_or grids false) book.now) }
 {
-    let shown = spreadsheet_of(alloc, book, user, grids.unwrap_or(false))?;
-    Ok(Answer::Get(shown))
+    spreadsheet_of(alloc, book, user, grids.unwrap_or(false))
 }
 
-/// The spreadsheet as the user is shown it, with what is known of its rows or without.
-pub(crate) fn spreadsheet_of(
+/// The spreadsheet as the user is shown it, without what is known of its rows.
+pub(crate) fn spreadsheet_alone(
     alloc: Global,
     book: &Book,
     user: &str,
-    grids: bool,
 ) -> Result<Spreadsheet, NoMemory>
-    ensures { IfOk result (λ shown. shown ≡ spreadsheet_of user.now grids book.now) }
+    ensures { IfOk result (λ shown. shown ≡ spreadsheet_alone user.now book.now) }
+{
+    spreadsheet_of(alloc, book, user, false)
+}
+
+/// The spreadsheet as the user is shown it, with what is known of its rows or without.
+fn spreadsheet_of(
+    alloc: Global,
+    book: &Book,
+    user: &str,
+    wanted: bool,
+) -> Result<Spreadsheet, NoMemory>
+    ensures { IfOk result (IsSpreadsheetShown user.now wanted book.now) }
+{
+    let sheets = shown_sheets(alloc, book, user, wanted)?;
+    with_sheets(alloc, book, sheets)
+}
+
+/// The spreadsheet as it is shown with these sheets.
+fn with_sheets(
+    alloc: Global,
+    book: &Book,
+    sheets: Items<ShownSheet>,
+) -> Result<Spreadsheet, NoMemory>
+    ensures { IfOk result (λ shown. shown ≡ with_sheets book.now sheets) }
 {
     Ok(Spreadsheet {
         named_ranges: unless_empty(ranges_of(alloc, book.names())?),
         title: book.title().duplicate()?,
-        sheets: shown_sheets(alloc, book, user, grids)?,
+        sheets,
         spreadsheet_id: book.id().duplicate()?,
     })
 }
@@ -58,20 +85,23 @@ fn ranges_of(alloc: Global, names: &Names) -> Result<Items<NamedRange>, NoMemory
     Err(NoMemory)
 }
 
-/// The sheets as they are shown, in their order.
+/// The sheets as they are shown, in their order. A value is calculated once for all of them.
 fn shown_sheets(
     alloc: Global,
     book: &Book,
     user: &str,
-    grids: bool,
+    wanted: bool,
 ) -> Result<Items<ShownSheet>, NoMemory>
-    ensures { IfOk result (λ sheets. sheets ≡ shown_from user.now grids book.now 0 book.now.sheets) }
+    ensures { IfOk result (AreSheetsShown user.now wanted book.now book.now.sheets) }
 {
+    book.stays_sound();
     let mut sheets = Vec::new(alloc);
+    let mut table = Table::new(alloc);
     for at in 0..book.sheets().as_slice().len() {
         let sheet = sheet_at(book, at);
+        let grid = grid_shown(alloc, book, &mut table, sheet, wanted)?;
         let protections = shown_protections(alloc, book, user, sheet.id())?;
-        sheets.push(shown_sheet(alloc, at as u32, sheet, grids, protections)?)?;
+        sheets.push(shown_sheet(alloc, at as u32, sheet, grid, protections)?)?;
     }
     Ok(Items::of(sheets))
 }
@@ -88,24 +118,34 @@ fn sheet_at(book: &Book, at: usize) -> &Sheet
     book.sheet(ids[at]).unwrap()
 }
 
-/// The sheet as it is shown at its place among the sheets, with what is known of its rows or
-/// without, and with what is shown of its protected ranges.
+/// The sheet as it is shown at its place among the sheets, with what is known of its rows, and with what is
+/// shown of its protected ranges.
 fn shown_sheet(
     alloc: Global,
     index: u32,
     sheet: &Sheet,
-    grids: bool,
+    grid: Option<GridData>,
     protections: Items<ShownProtection>,
 ) -> Result<ShownSheet, NoMemory>
-    ensures { IfOk result (λ shown. shown ≡ shown_sheet grids index sheet.now protections) }
+    ensures { IfOk result (λ shown. shown ≡ shown_sheet index sheet.now grid protections) }
 {
     Ok(ShownSheet {
-        basic_filter: None,
-        data: rows_shown(alloc, grids),
+        basic_filter: filter_of(sheet)?,
+        data: grid,
         merges: unless_empty(merges_of(alloc, sheet)?),
         properties: shown_properties(index, sheet)?,
         protected_ranges: unless_empty(protections),
     })
+}
+
+/// A copy of the sheet's filter, if it has one.
+fn filter_of(sheet: &Sheet) -> Result<Option<Filter>, NoMemory>
+    ensures { IfOk result (λ filter. filter ≡ sheet.now.filter) }
+{
+    match sheet.filter() {
+        Some(filter) => Ok(Some(filter.duplicate()?)),
+        None => Ok(None),
+    }
 }
 
 /// The merges of the sheet, by first row and then first column.
@@ -116,16 +156,24 @@ fn merges_of(alloc: Global, sheet: &Sheet) -> Result<Items<Area>, NoMemory>
     Ok(Items::of(merges))
 }
 
-/// What is known of the rows of a sheet, if that is asked for: no filter hides one.
-fn rows_shown(alloc: Global, grids: bool) -> Option<GridData>
-    ensures { result ≡ rows_shown grids }
+/// What is known of the rows of a sheet, if that is wanted: which its filter hides.
+fn grid_shown(
+    alloc: Global,
+    book: &Book,
+    table: &mut Table,
+    sheet: &Sheet,
+    wanted: bool,
+) -> Result<Option<GridData>, NoMemory>
+    requires sound { IsSheetSound book.now.sheets sheet.now }
+    requires table { IsTableOf (stored_in book.now) table.old }
+    ensures grid { IfOk result (IsGridShown wanted book.now sheet.now) }
+    ensures table { OnOk result (IsTableOf (stored_in book.now) table.new) }
 {
-    if grids {
-        Some(GridData {
-            row_metadata: Items::of(Vec::new(alloc)),
-        })
+    if wanted {
+        let row_metadata = rows_told(alloc, book, table, sheet)?;
+        Ok(Some(GridData { row_metadata }))
     } else {
-        None
+        Ok(None)
     }
 }
 

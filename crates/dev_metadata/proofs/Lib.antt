@@ -1,3 +1,4 @@
 pub mod OwnIds
 pub mod Entries
 pub mod Patching
+pub mod UsedIds

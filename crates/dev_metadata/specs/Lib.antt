@@ -5,6 +5,7 @@ pub mod SightKind
 pub mod Lookup
 pub mod Listed
 pub mod Kept
+pub mod Used
 pub mod Following
 pub mod Patch
 pub mod Given

@@ -25,15 +25,20 @@ use std::marker::Model;
 pub struct Metadata {
     alloc: Global,
     items: ById,
+    /// All ids from 1 on below it are those of items: where the search of an unused one begins.
+    used_below: u32,
 }
 
 impl Model for Metadata {
     ghost use Rattle.std.specs.Prelude.{List};
     ghost use Rattle.dev_metadata.specs.declared.types.Item.{Item};
+    ghost use Rattle.dev_metadata.specs.Used.{AreUsedBelow};
 
     ghost Value = { List Item };
 
     ghost view = { λ m. m.items };
+
+    ghost invariant = { λ m. AreUsedBelow m.items m.used_below };
 }
 
 impl Metadata {
@@ -44,6 +49,7 @@ impl Metadata {
         Metadata {
             alloc,
             items: ById::new(alloc),
+            used_below: 1,
         }
     }
 
@@ -52,6 +58,13 @@ impl Metadata {
         ensures { result ≡ length self.now }
     {
         self.items.len() as u64
+    }
+
+    /// Whether an item has the id, which is told without going over them. It takes no memory.
+    pub fn has_id(&self, id: u32) -> bool
+        ensures { result ≡ has_id self.now id }
+    {
+        self.items.has_id(id)
     }
 
     /// Adds an item behind the others, and gives its id: the one that is asked for, or else the least
@@ -89,20 +102,20 @@ impl Metadata {
     /// Adds an item with a new id, and gives the id.
     fn add_last(
         &mut self,
-        id: Option<u32>,
+        asked: Option<u32>,
         key: Text,
         value: Text,
         spot: Spot,
         sight: Sight,
     ) -> Result<u32, NoMemory>
         requires room { length self.old < 4294967295 }
-        requires free { is_taken (has_id self.old) id ≡ false }
-        ensures id { IfOk result (IsNewId (IsLeastUnused (has_id self.old)) id) }
+        requires free { is_taken (has_id self.old) asked ≡ false }
+        ensures id { IfOk result (IsNewId (IsLeastUnused (has_id self.old)) asked) }
         ensures added { IfOk result (λ new.
             self.new ≡ with_one_more new key value spot sight self.old) }
         ensures unchanged { OnErr result (self.new ≡ self.old) }
     {
-        let id = new_id(&self.items, id)?;
+        let id = new_id(&self.items, self.used_below, asked)?;
         self.items.push(Item {
             id,
             key,
@@ -110,6 +123,9 @@ impl Metadata {
             spot,
             sight,
         })?;
+        if asked.is_none() {
+            self.used_below = id;
+        }
         Ok(id)
     }
 
@@ -242,6 +258,7 @@ impl Metadata {
     {
         let found = found_items(self.alloc, &self.items, lookup, project)?;
         self.items.drop_found(lookup, project);
+        self.used_below = 1;
         Ok(found)
     }
 
@@ -254,6 +271,7 @@ impl Metadata {
         ensures below { All (IsBelow sheet axis (count_after change.now count)) self.new }
     {
         self.items.follow(sheet, axis, count, change);
+        self.used_below = 1;
     }
 
     /// Takes out the items of a sheet that is deleted and of its lines. It takes no memory.
@@ -261,6 +279,7 @@ impl Metadata {
         ensures { self.new ≡ items_elsewhere sheet self.old }
     {
         self.items.drop_sheet(sheet);
+        self.used_below = 1;
     }
 }
 
@@ -269,6 +288,7 @@ impl Duplicate for Metadata {
         Ok(Metadata {
             alloc: self.alloc,
             items: self.items.copy(self.alloc)?,
+            used_below: self.used_below,
         })
     }
 }

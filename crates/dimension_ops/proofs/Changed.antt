@@ -6,6 +6,7 @@ use Rattle.std.specs.Option.{option_map}
 use Rattle.std.proofs.lemmas.Bool.{and_parts, cases_Bool, cond-true, cond-false, eqb-true, eq-eqb, false≢true, false_from_ne_true}
 use Rattle.std.proofs.lemmas.List.Sums.{sum_by-cons}
 use Rattle.std.proofs.lemmas.Option.{none-some, same_Some}
+use Rattle.basic_filter.specs.declared.types.Filter.{Filter}
 use Rattle.grid_range.specs.Area.{AreaWithin, IsWithinOn, band_on}
 use Rattle.grid_range.specs.Band.{Within}
 use Rattle.grid_range.specs.Change.{count_after}
@@ -35,9 +36,9 @@ use Rattle.world_model.specs.Counts.{grid_places}
 use Rattle.world_model.specs.Laws.{size_of}
 use Rattle.world_model.specs.PlaceChange.{BookChanged, SheetChanged}
 use Rattle.world_model.specs.Sheet.{PlaceSheet}
-use Rattle.world_model.specs.Sound.{IsSheetSound, IsContentWithin, IsItemWithin, IsLineCount, IsOnSheet, IsPieceWithin, IsProtectionWithin, IsSpotWithin, place_sheet_with}
+use Rattle.world_model.specs.Sound.{IsSheetSound, IsContentWithin, IsFilterOf, IsItemWithin, IsLineCount, IsOnSheet, IsPieceWithin, IsProtectionWithin, IsSpotWithin, place_sheet_with}
 use Rattle.dimension_ops.specs.Lines.{HasSizesChanged, SheetFollows, lines_of_sheet, places_changed, size_changed}
-use Rattle.dimension_ops.specs.References.{CanChange, IsContentWithinOn, TearsNone}
+use Rattle.dimension_ops.specs.References.{CanChange, CanFollow, IsContentWithinOn, TearsNone}
 
 abbrev places_of : ℕ × ℕ → ℕ
 places_of size = size.0 * size.1
@@ -136,6 +137,13 @@ pub merges_within : (axis : Axis) (sheets : List PlaceSheet) (sheet : PlaceSheet
 merges_within axis sheets sheet sound k d there =
     on_axis axis (get_or sheet.merges k d) sheet (sound.merges.1 k d there).1
 
+-- and its filter can follow
+filter_ready : (axis : Axis) (sheet : PlaceSheet) (found : Option Filter) → IfSome found (IsFilterOf sheet)
+    → IfSome found (CanFollow axis (lines_of_sheet axis sheet))
+filter_ready axis sheet None is = tt
+filter_ready Rows sheet (Some filter) is = record { area = is.within.0; columns = tt }
+filter_ready Columns sheet (Some filter) is = record { area = is.within.1; columns = is.columns }
+
 -- ---- sizes
 
 -- a line of the axis that has `count` lines
@@ -226,6 +234,8 @@ module _ (id : ℕ) (axis : Axis) (count : ℕ) (change : Change) where
     whole = λ own. absurd (other own);
     merges_follow = λ own. absurd (other own);
     merges_stay = λ _. follows.merges;
+    filter_follows = λ own. absurd (other own);
+    filter_stays = λ _. follows.filter;
   }
 
   -- ---- the change can be made on each
@@ -302,6 +312,8 @@ module _ (id : ℕ) (axis : Axis) (count : ℕ) (change : Change) where
             (subst (λ n. IsLineCount axis (count_after change n)) (sym (own same).0) room);
         merges = subst (λ n. AreWithin axis n sheet.merges) (own same).0 (merges_within axis sheets sheet sound);
         untorn = (own same).1;
+        filter = subst (λ n. IfSome sheet.filter (CanFollow axis n)) (own same).0
+            (filter_ready axis sheet sheet.filter sound.filter);
       };
       within = λ row col. held_within (item_at sheet.table row col) (sound.within row col);
     }

@@ -62,6 +62,7 @@ module _ (sheet : ℕ) where
     cols = refl;
     items = items_lost one.table [] none;
     merges = refl;
+    filter = refl;
   }
 
   pub formula_stays : (item : Content) → is_formula (content_without sheet item) ≡ is_formula item

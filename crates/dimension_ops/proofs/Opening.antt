@@ -52,6 +52,7 @@ sheet_sound sheets = record {
   inside = λ row col some. absurd (no_some (item_at opening_sheet.table row col) (nothing_there row col) some);
   within = λ row col. holds_if_none (item_at opening_sheet.table row col) (IsContentWithin sheets) (nothing_there row col);
   merges = no_merges;
+  filter = tt;
 }
 
 pub opening_sound : (id title owner : List ℕ)

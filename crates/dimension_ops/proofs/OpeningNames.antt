@@ -1,5 +1,6 @@
 -- The spreadsheet of the beginning stands for that by names, and has the first number.
 use Rattle.std.proofs.Common.{ℕ, zero, suc, ◌+◌, ◌<◌, ◌≤◌, refl, sym, ap, subst, ◌∙◌, [], ◌∷◌, ◌++◌, arith, codes, false}
+use Rattle.std.specs.Prelude.{None}
 use Rattle.std.specs.List.{All, range_with_len}
 use Rattle.std.specs.Option.{option_map}
 use Rattle.std.proofs.lemmas.Fmt.{decimal_digit}
@@ -33,7 +34,14 @@ names_below first count next fits k d there =
 
 module _ (rows cols : ℕ) where
   abbrev sheet : PlaceSheet
-  sheet = record { id = 0; title = codes "Sheet1"; hidden = false; table = empty_table rows cols; merges = [] }
+  sheet = record {
+    id = 0;
+    title = codes "Sheet1";
+    hidden = false;
+    table = empty_table rows cols;
+    merges = [];
+    filter = None;
+  }
 
   abbrev book : PlaceBook
   book = record {
@@ -70,6 +78,7 @@ module _ (rows cols : ℕ) where
         ap (option_map (content_named (orders_of names.sheets))) (sym (finite.get-empty by_rows (row, col)));
     nowhere_else = λ r c out. refl;
     merges = λ area. (λ c. c, λ c. c);
+    filter = refl;
   }
 
   book_stands : IsSound book → BookStandsFor book names

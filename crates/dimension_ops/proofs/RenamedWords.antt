@@ -44,6 +44,7 @@ module _ (old new : List ℕ) where
     cols = refl;
     items = items_become (content_renamed old new) (has_word old) content_stays one.table [] none;
     merges = refl;
+    filter = refl;
   }
 
   pub formula_stays : (item : Content) → is_formula (content_renamed old new item) ≡ is_formula item

@@ -1,6 +1,8 @@
 -- How a sheet and a spreadsheet are laid out, so that they can be seen as what they keep.
-use Rattle.std.specs.Prelude.{ℕ, Bool, List, refl}
-use Rattle.std.specs.Coded.{Coded, code_by, coded×, coded_list, coded_bool, coded_ℕ}
+use Rattle.std.specs.Prelude.{ℕ, Bool, List, Option, refl}
+use Rattle.std.specs.Coded.{Coded, code_by, coded×, coded_list, coded_option, coded_bool, coded_ℕ}
+use Rattle.basic_filter.specs.contracts.types.Filter as filter
+use Rattle.basic_filter.specs.declared.types.Filter.{Filter}
 use Rattle.cell_store.specs.Table.{Table, table_code}
 use Rattle.dev_metadata.specs.contracts.types.Item as item
 use Rattle.dev_metadata.specs.declared.types.Item.{Item}
@@ -18,11 +20,19 @@ use Rattle.world_model.specs.Sheet.{PlaceSheet}
 
 abbrev pub sheet_code : Coded PlaceSheet
 sheet_code =
-    code_by (ℕ × (List ℕ × (Bool × (Table Content × List Area))))
-    (coded× coded_ℕ (coded× (coded_list coded_ℕ) (coded× coded_bool
-    (coded× (table_code content.the_row.coded) (coded_list area.the_row.coded)))))
-    (λ s. (s.id, (s.title, (s.hidden, (s.table, s.merges)))))
-    (λ p. record { id = p.0; title = p.1.0; hidden = p.1.1.0; table = p.1.1.1.0; merges = p.1.1.1.1 }) (λ _. refl)
+    code_by (ℕ × (List ℕ × (Bool × (Table Content × (List Area × Option Filter)))))
+    (coded× coded_ℕ (coded× (coded_list coded_ℕ) (coded× coded_bool (coded× (table_code content.the_row.coded)
+    (coded× (coded_list area.the_row.coded) (coded_option filter.the_row.coded))))))
+    (λ s. (s.id, (s.title, (s.hidden, (s.table, (s.merges, s.filter))))))
+    (λ p. record {
+      id = p.0;
+      title = p.1.0;
+      hidden = p.1.1.0;
+      table = p.1.1.1.0;
+      merges = p.1.1.1.1.0;
+      filter = p.1.1.1.1.1;
+    })
+    (λ _. refl)
 
 abbrev pub book_code : Coded PlaceBook
 book_code =

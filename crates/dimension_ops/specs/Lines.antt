@@ -1,9 +1,10 @@
 -- Which rules a change of the lines of a sheet breaks, and what it makes of sizes (InsertDimensionRequest,
 -- DeleteDimensionRequest, MoveDimensionRequest and AppendDimensionRequest of the Google Sheets API v4 reference).
 use Rattle.std.specs.Prelude.{◌≡◌, ◌≤◌, ◌*◌, ◌∷◌, [], ℕ, Bool, false, List, None, Result, IfSome, IsSomeAnd, OnErr, OnOk}
-use Rattle.std.specs.Prelude.{◌==◌, ◌&&◌, nat_le, nat_lt, if◌then◌else◌}
+use Rattle.std.specs.Prelude.{◌==◌, ◌&&◌, nat_le, nat_lt, option_and_then, if◌then◌else◌}
 use Rattle.std.specs.List.{list_any, sum_by}
 use Rattle.std.specs.Option.{option_map, option_map_or}
+use Rattle.basic_filter.specs.Following.{filter_followed}
 use Rattle.grid_range.specs.Change.{Fits, count_after}
 use Rattle.grid_range.specs.declared.axis.Axis.{Axis}
 use Rattle.grid_range.specs.declared.axis.Axis.TheVariants.{Rows, Columns}
@@ -82,8 +83,8 @@ HasSizesChanged id axis change before after = (other : ℕ)
     → option_map size_of (place_sheet_with other after.sheets)
     ≡ option_map (size_changed id axis change) (place_sheet_with other before.sheets)
 
--- the items of the sheet, which has `count` lines on the axis, went with its lines, its merges followed, and all else
--- of it is as it was
+-- the items of the sheet, which has `count` lines on the axis, went with its lines, its merges and its filter followed,
+-- and all else of it is as it was
 pub record SheetMoves (axis : Axis) (count : ℕ) (change : Change) (before after : PlaceSheet) : Type 0 where
   pub id : after.id ≡ before.id
   pub title : after.title ≡ before.title
@@ -91,6 +92,7 @@ pub record SheetMoves (axis : Axis) (count : ℕ) (change : Change) (before afte
   pub goes : GoesWithLines axis change before.table after.table
   pub whole : KeepsAll axis count change before.merges
   pub merges : ListsJust (CameFrom axis count change before.merges) after.merges
+  pub filter : after.filter ≡ option_and_then (filter_followed axis count change) before.filter
 
 -- each of its items followed in its place, and all else of it is as it was
 pub record SheetFollows (changed : ℕ) (axis : Axis) (count : ℕ) (change : Change) (before after : PlaceSheet) : Type
@@ -100,6 +102,7 @@ pub record SheetFollows (changed : ℕ) (axis : Axis) (count : ℕ) (change : Ch
   pub hidden : after.hidden ≡ before.hidden
   pub followed : FollowsInPlace changed axis count change before.table after.table
   pub merges : after.merges ≡ before.merges
+  pub filter : after.filter ≡ before.filter
 
 -- the answer to a change of the lines of the sheet with the id: the first rule that it breaks, and then the spreadsheet
 -- is as it was, or else the change, whatever lines are called, and by their places

@@ -4,7 +4,10 @@ use Rattle.std.specs.Prelude.{◌≡◌, ◌↔◌, ℕ, Bool, true, false, List
 use Rattle.std.specs.List.{All, list_any}
 use Rattle.std.specs.Option.{IsSome, option_map_or}
 use Rattle.std.specs.List.Sorted.{IsStrictlySortedBy}
+use Rattle.basic_filter.specs.Following.{AreBelow}
+use Rattle.basic_filter.specs.declared.types.Filter.{Filter}
 use Rattle.grid_range.specs.Area.{band_on, by_rows}
+use Rattle.grid_range.specs.Band.{Within}
 use Rattle.grid_range.specs.Tearing.{IsTorn}
 use Rattle.grid_range.specs.declared.area.Area.{Area}
 use Rattle.grid_range.specs.declared.axis.Axis.{Axis}
@@ -83,12 +86,18 @@ AreWithinOn sheet axis count table = (row col : ℕ) → IfSome (item_at table r
 abbrev pub TearsNone : Axis → ℕ → Change → List Area → Type 0
 TearsNone axis count change merges = ¬ (Any (λ merge. IsTorn change count (band_on axis merge)) merges)
 
+-- the filter can follow a change of `count` lines on the axis: its area and the columns of its criteria are among them
+pub record CanFollow (axis : Axis) (count : ℕ) (filter : Filter) : Type 0 where
+  pub area : Within (band_on axis filter.area) count
+  pub columns : AreBelow axis count filter.criteria
+
 -- the sheet has `count` lines on the axis, and can make the change of them
 pub record CanMove (axis : Axis) (count : ℕ) (change : Change) (found : PlaceSheet) : Type 0 where
   pub long : lines_on axis found.table.rows found.table.cols ≡ count
   pub room : IsRoomAfter axis change found.table
   pub merges : AreWithin axis count found.merges
   pub untorn : TearsNone axis count change found.merges
+  pub filter : IfSome found.filter (CanFollow axis count)
 
 -- a change of the lines of a sheet that has `count` on the axis can be made on this one of its sheets
 pub record CanChange (sheet : ℕ) (axis : Axis) (count : ℕ) (change : Change) (found : PlaceSheet) : Type 0 where

@@ -23,7 +23,14 @@ AreNumbered books =
 
 -- an empty sheet of the size that one has where none is asked for
 abbrev pub opening_sheet : PlaceSheet
-opening_sheet = record { id = 0; title = codes "Sheet1"; hidden = false; table = empty_table 1000 26; merges = [] }
+opening_sheet = record {
+  id = 0;
+  title = codes "Sheet1";
+  hidden = false;
+  table = empty_table 1000 26;
+  merges = [];
+  filter = None;
+}
 
 -- the one spreadsheet that there is in the beginning
 abbrev pub opening_book : PlaceBook
@@ -47,6 +54,7 @@ opening_names rows cols = record {
   cols = range_with_len rows cols;
   cells = λ _ _. None;
   merges = [];
+  filter = None;
 }
 
 abbrev pub opening_world : NameWorld

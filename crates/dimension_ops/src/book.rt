@@ -23,13 +23,13 @@ ghost use Rattle.world_model.specs.Counts.{filled_of, formulas_of, grid_places};
 ghost use Rattle.world_model.specs.RangeChange.{PlaceWordsRenamed, place_range_added, place_range_deleted, with_place_ranges};
 ghost use Rattle.world_model.specs.BookChange.{AreChanges};
 ghost use Rattle.world_model.specs.Making.{bare_book};
-ghost use Rattle.world_model.specs.BookChange.BookChange.{MergesSet};
-ghost use Rattle.world_model.specs.SheetChange.{PlaceSheetDeleted, on_place_sheet, other_sheets, place_marked_hidden, place_merges_set, place_sheet_added, place_titled, with_place_sheets};
+ghost use Rattle.world_model.specs.BookChange.BookChange.{FilterSet, MergesSet};
+ghost use Rattle.world_model.specs.SheetChange.{PlaceSheetDeleted, on_place_sheet, other_sheets, place_filter_set, place_marked_hidden, place_merges_set, place_sheet_added, place_titled, with_place_sheets};
 ghost use Rattle.dimension_ops.specs.MergeRequests.{AreOfSheet};
 ghost use Rattle.dimension_ops.specs.Parts.{with_part};
 ghost use Rattle.dimension_ops.specs.MetadataRequests.{IsItemPatchWithin, MetadataBecomes};
 ghost use Rattle.dimension_ops.specs.ProtectionRequests.{IsPatchWithin, ProtectionsBecome};
-ghost use Rattle.world_model.specs.Sound.{IsContentWithin, IsLineCount, IsOnSheet, IsSound, IsSpotWithin, most_places, most_sheets, place_sheet_with};
+ghost use Rattle.world_model.specs.Sound.{IsContentWithin, IsFilterOf, IsLineCount, IsOnSheet, IsSound, IsSpotWithin, most_places, most_sheets, place_sheet_with};
 ghost use Rattle.world_model.specs.Writing.{book_put, table_written};
 ghost use Rattle.std.specs.Arc.{arc_value};
 ghost use Rattle.dimension_ops.specs.Found.{ArePlacesOf, content_at};
@@ -49,6 +49,7 @@ use crate::part::Part;
 use crate::renaming::sheets_renamed;
 use crate::sheet::Sheet;
 use crate::sheets::places_of;
+use basic_filter::Filter;
 use cell_value::{Duplicate, Items, NoMemory, Text};
 use dev_metadata::{Item, ItemPatch, Lookup, MetaFault, Metadata, Sight, Spot};
 use grid_range::{Area, SheetChange};
@@ -61,9 +62,9 @@ use std::marker::Model;
 use std::mem;
 use std::sync::Arc;
 use world_model::{
-    changes_stay_sound, filled_within_places, formulas_counted, merges_are_set, metadata_is_set,
-    protections_are_set, ranges_added, ranges_deleted, sheets_deleted, words_are_renamed,
-    writes_follow, writes_stay_sound,
+    changes_stay_sound, filled_within_places, filter_is_set, formulas_counted, merges_are_set,
+    metadata_is_set, protections_are_set, ranges_added, ranges_deleted, sheets_deleted,
+    words_are_renamed, writes_follow, writes_stay_sound,
 };
 
 /// A spreadsheet: its sheets in their order, named ranges, protected ranges and metadata (Sheets API v4
@@ -392,6 +393,23 @@ impl Book {
         self.stays_sound();
         let _listed = merges.list();
         self.set(sheet, Part::Merges(merges))
+    }
+
+    /// Gives the sheet with the id another basic filter, or none (Sheets API v4 reference, SetBasicFilterRequest and
+    /// ClearBasicFilterRequest).
+    ///
+    /// # Errors
+    ///
+    /// [`NoMemory`] where memory runs out; the spreadsheet is as it was.
+    pub fn set_filter(&mut self, sheet: u32, filter: Option<Filter>) -> Result<(), NoMemory>
+        requires { IsSomeAnd (place_sheet_with sheet self.old.sheets) (λ found. IfSome filter (IsFilterOf found)) }
+        ensures set { OnOk result (self.new ≡ place_filter_set sheet filter self.old) }
+        ensures names { OnOk result (AreChanges (FilterSet sheet filter ∷ []) self.old self.new) }
+        ensures unchanged { OnErr result (self.new ≡ self.old) }
+    {
+        filter_is_set();
+        self.stays_sound();
+        self.set(sheet, Part::BasicFilter(filter))
     }
 
     /// Gives the sheet with the id another one of its parts; all else stays. It is copied first where another

@@ -26,8 +26,9 @@ use std::alloc::Global;
 use std::sync::Arc;
 use world_model::line_changes_are_changes;
 
-/// Makes the change of the lines on the axis of the sheet with the id. Cells go with their lines, its merges
-/// follow them, and so does each reference to the sheet, in formulas of all sheets. Lines are counted from 0.
+/// Makes the change of the lines on the axis of the sheet with the id. Cells go with their lines, its merges and
+/// its filter follow them, and so does each reference to the sheet, in formulas of all sheets. Lines are counted
+/// from 0.
 ///
 /// # Errors
 ///
@@ -235,8 +236,8 @@ fn sheet_changed(alloc: Global, sheet: Arc<Sheet>, by: &SheetChange) -> Result<A
     }
 }
 
-/// The sheet whose lines are changed, after the change: its items went with their lines, and its merges and
-/// its formulas followed.
+/// The sheet whose lines are changed, after the change: its items went with their lines, and its merges, its
+/// filter and its formulas followed.
 fn own_changed(sheet: Sheet, by: &SheetChange) -> Result<Sheet, NoMemory>
     requires fits { Fits by.now.change.now by.now.count }
     requires own { sheet.id ≡ by.now.sheet }

@@ -1,15 +1,16 @@
-ghost use Rattle.std.specs.Prelude.{◌≡◌, None, false, IfOk, IsTrue, OnOk, OnErr, ◌+◌, ◌<◌, ◌≤◌};
+ghost use Rattle.std.specs.Prelude.{◌≡◌, false, IfOk, IfSome, IsTrue, OnOk, OnErr, ◌+◌, ◌<◌, ◌≤◌, option_and_then};
 ghost use Rattle.std.specs.Option.{option_copied, IsSome};
+ghost use Rattle.basic_filter.specs.Following.{filter_followed};
 ghost use Rattle.ref_rewrite.specs.declared.cell_content.Content.{Content};
 ghost use Rattle.cell_store.specs.Places.{AreFilledPlaces};
 ghost use Rattle.cell_store.specs.Table.{Table, item_at, filled_places, most_filled, most_lines, HasPlace, HasItemsInside};
 ghost use Rattle.world_model.specs.Counts.{formulas_at, formulas_in};
-ghost use Rattle.world_model.specs.SheetChange.{LosesReferences, new_place_sheet, place_marked_hidden, place_merged, place_titled};
+ghost use Rattle.world_model.specs.SheetChange.{LosesReferences, new_place_sheet, place_filtered, place_marked_hidden, place_merged, place_titled};
 ghost use Rattle.world_model.specs.Writing.{table_written};
 ghost use Rattle.grid_range.specs.Change.{Fits};
 ghost use Rattle.merge_ranges.specs.Calls.{ListsJust};
 ghost use Rattle.merge_ranges.specs.Following.{AreWithin, CameFrom, KeepsAll};
-ghost use Rattle.dimension_ops.specs.References.{AreMarked, AreReferring, AreWithinOn, CanMove, TearsNone, is_formula_at};
+ghost use Rattle.dimension_ops.specs.References.{AreMarked, AreReferring, AreWithinOn, CanFollow, CanMove, TearsNone, is_formula_at};
 ghost use Rattle.dimension_ops.specs.Lines.{SheetFollows, SheetMoves};
 ghost use Rattle.dimension_ops.specs.Parts.{with_part};
 ghost use Rattle.dimension_ops.specs.Renaming.{AreNaming};
@@ -52,7 +53,7 @@ pub struct Sheet {
 }
 
 impl Model for Sheet {
-    ghost use Rattle.std.specs.Prelude.{◌≡◌, None};
+    ghost use Rattle.std.specs.Prelude.{◌≡◌};
     ghost use Rattle.world_model.specs.Counts.{formulas_in};
     ghost use Rattle.world_model.specs.Sheet.{PlaceSheet};
     ghost use Rattle.dimension_ops.specs.References.{AreMarked};
@@ -68,10 +69,10 @@ impl Model for Sheet {
       hidden = s.hidden;
       table = s.cells.table;
       merges = s.merges;
+      filter = s.filter;
     } };
 
-    ghost invariant = { λ s. (s.formulas ≡ formulas_in s.cells.table) × AreMarked s.cells.table s.marks.table
-        × (s.filter ≡ None) };
+    ghost invariant = { λ s. (s.formulas ≡ formulas_in s.cells.table) × AreMarked s.cells.table s.marks.table };
 }
 
 impl Sheet {
@@ -160,6 +161,13 @@ impl Sheet {
         self.merges = merges;
     }
 
+    /// Gives the sheet another basic filter, or none.
+    pub(crate) fn set_filter(&mut self, filter: Option<Filter>)
+        ensures { self.new ≡ place_filtered filter self.old }
+    {
+        self.filter = filter;
+    }
+
     /// Gives the sheet another one of its parts.
     pub(crate) fn set(&mut self, part: Part)
         ensures { self.new ≡ with_part part self.old }
@@ -168,6 +176,7 @@ impl Sheet {
             Part::Title(title) => self.set_title(title),
             Part::Hidden(hidden) => self.set_hidden(hidden),
             Part::Merges(merges) => self.set_merges(merges),
+            Part::BasicFilter(filter) => self.set_filter(filter),
         }
     }
 
@@ -178,9 +187,9 @@ impl Sheet {
         &self.merges
     }
 
-    /// The basic filter, lent; no request makes one yet.
+    /// The basic filter, lent; None where there is none.
     pub fn filter(&self) -> Option<&Filter>
-        ensures { result ≡ None }
+        ensures { option_copied result ≡ self.now.filter }
     {
         self.filter.as_ref()
     }
@@ -271,8 +280,8 @@ impl Sheet {
         Ok(())
     }
 
-    /// The sheet after the change of its lines. Items go with their lines, and merges follow; its formulas have
-    /// yet to follow.
+    /// The sheet after the change of its lines. Items go with their lines, and its merges and its filter follow;
+    /// its formulas have yet to follow.
     ///
     /// # Errors
     ///
@@ -290,6 +299,7 @@ impl Sheet {
         cells.change(by.axis, by.change)?;
         marks.change(by.axis, by.change)?;
         merges_followed(&mut merges, by);
+        let filter = filter_followed(self.filter, by);
         let stay = keeps_places(by.change, by.count);
         let formulas = counted_again(&cells, &marks, self.formulas, stay)?;
         Ok(Sheet {
@@ -300,7 +310,7 @@ impl Sheet {
             marks,
             formulas,
             merges,
-            filter: self.filter,
+            filter,
         })
     }
 
@@ -367,6 +377,32 @@ fn merges_followed(merges: &mut Merges, by: &SheetChange)
     match merges.change(by.axis, by.count, by.change) {
         Ok(()) => {}
         Err(Cut) => unreachable!(),
+    }
+}
+
+/// The filter of the sheet whose lines are changed, after the change; it is lost with its area.
+fn filter_followed(filter: Option<Filter>, by: &SheetChange) -> Option<Filter>
+    requires fits { Fits by.now.change.now by.now.count }
+    requires ready { IfSome filter (CanFollow by.now.axis by.now.count) }
+    ensures { result ≡ option_and_then (filter_followed by.now.axis by.now.count by.now.change.now) filter }
+{
+    match filter {
+        Some(held) => one_followed(held, by),
+        None => None,
+    }
+}
+
+/// The filter after the change; None where its area is lost.
+fn one_followed(filter: Filter, by: &SheetChange) -> Option<Filter>
+    requires fits { Fits by.now.change.now by.now.count }
+    requires ready { CanFollow by.now.axis by.now.count filter }
+    ensures { result ≡ filter_followed by.now.axis by.now.count by.now.change.now filter }
+{
+    let mut followed = filter;
+    if followed.change(by.axis, by.count, by.change) {
+        Some(followed)
+    } else {
+        None
     }
 }
 
@@ -449,6 +485,16 @@ fn exchange(
     }
 }
 
+/// A copy of the filter, if there is one.
+fn copy_filter(filter: &Option<Filter>) -> Result<Option<Filter>, NoMemory>
+    ensures { IfOk result (λ copy. copy ≡ filter.now) }
+{
+    match filter {
+        Some(filter) => Ok(Some(filter.duplicate()?)),
+        None => Ok(None),
+    }
+}
+
 impl Duplicate for Sheet {
     fn duplicate(&self) -> Result<Sheet, NoMemory> {
         Ok(Sheet {
@@ -459,7 +505,7 @@ impl Duplicate for Sheet {
             marks: self.marks.copy()?,
             formulas: self.formulas,
             merges: self.merges.duplicate()?,
-            filter: None,
+            filter: copy_filter(&self.filter)?,
         })
     }
 }

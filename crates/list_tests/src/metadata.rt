@@ -29,6 +29,7 @@ fn the_least_unused_id_is_given(rt: HostRuntime) {
         check(&rt, row, made == row.1);
     }
     check(&rt, &"all", has_ids(&list, &[3, 1, 2, 4, 0, 4294967295, 5]));
+    check(&rt, &"has", list.has_id(5) && !list.has_id(6));
 }
 
 const ROW: Spot = Spot::Line(0, Axis::Rows, 4);

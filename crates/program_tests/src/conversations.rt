@@ -1,36 +1,36 @@
-use crate::appends::{APPENDS, CORNERS, NO_APPENDS};
-use crate::batches::{
-    A_HUNDRED, AFTER_A_HUNDRED, FIFTH_BATCHES, FIRST_BATCHES, FOURTH_BATCHES, LAST_OF_A_HUNDRED,
-    LONG_BATCHES, Repeated, SECOND_BATCHES, SEVENTH_BATCHES, SIXTH_BATCHES, THIRD_BATCHES,
-    TWO_BROKEN,
-};
 use crate::common::{Ran, calls, check, words_of};
-use crate::creations::{APPENDED_ROWS, CREATED};
-use crate::deletions::DELETED_SHEETS;
-use crate::lines::{COLUMNS, INSERTED_AND_DELETED, LINES, MOVED};
-use crate::merges::{
+use cell_value::Bytes;
+use connections::one_reply;
+use conversation::cut_off_laws;
+use exchanges::{BAD_REQUEST, Conversation, Exchange, LongHead, OK, Repeated};
+use known_batches::batches::{
+    A_HUNDRED, AFTER_A_HUNDRED, FIFTH_BATCHES, FIRST_BATCHES, FOURTH_BATCHES, LAST_OF_A_HUNDRED,
+    LONG_BATCHES, SECOND_BATCHES, SEVENTH_BATCHES, SIXTH_BATCHES, THIRD_BATCHES, TWO_BROKEN,
+};
+use known_batches::creations::{APPENDED_ROWS, CREATED};
+use known_batches::deletions::DELETED_SHEETS;
+use known_batches::lines::{COLUMNS, INSERTED_AND_DELETED, LINES, MOVED};
+use known_batches::names::{
+    BROKEN_RANGES, NAMED, NAMES_FOLLOWED, NAMES_OF_FORMULAS, RANGES_LISTED, TOO_MANY,
+};
+use known_batches::sheets::{ADDED_SHEETS, PROPERTIES, REFUSED_PROPERTIES, REFUSED_SHEETS};
+use known_merges::filters;
+use known_merges::merges::{
     COVERED, COVERED_APPENDS, MANY_MERGES, MERGE_TYPES, MERGED, MERGES_FOLLOWED, MERGES_LEFT,
     UNMERGED,
 };
-use crate::metadata;
-use crate::names::{
-    BROKEN_RANGES, NAMED, NAMES_FOLLOWED, NAMES_OF_FORMULAS, RANGES_LISTED, TOO_MANY,
-};
-use crate::protections::{
+use known_protections::metadata;
+use known_protections::protections::{
     APPENDED_BY_OTHERS, COVERED_CELLS, KEPT_OFF, MORE_COVERED_CELLS, MORE_KEPT_OFF, MORE_MOVED_OFF,
     MORE_OPENED, MORE_PROTECTIONS, MORE_TOUCHED, MOVED_OFF, OPENED, PROTECTED_IN_BATCHES,
     PROTECTIONS, STILL_MORE_PROTECTIONS, TOO_MANY_PROTECTIONS, TOUCHED,
 };
-use crate::rows::{
-    BAD_REQUEST, CHANGES, CONVERSATIONS, Conversation, Exchange, FORMULAS, LIMITS, LISTS,
-    LONG_HEADS, LOOKS, LongHead, NO_CALLS, OK, RANGES, TYPED, USERS, WRITES, WRITES_TO_LISTS,
-    WRITES_TO_TWO_SHEETS,
+use known_values::appends::{APPENDS, CORNERS, NO_APPENDS};
+use known_values::rows::{
+    CHANGES, CONVERSATIONS, FORMULAS, LIMITS, LISTS, LONG_HEADS, LOOKS, NO_CALLS, RANGES, TYPED,
+    USERS, WRITES, WRITES_TO_LISTS, WRITES_TO_TWO_SHEETS,
 };
-use crate::sheets::{ADDED_SHEETS, PROPERTIES, REFUSED_PROPERTIES, REFUSED_SHEETS};
-use crate::values::{VALUES, VALUES_OF_OTHERS};
-use cell_value::Bytes;
-use connections::one_reply;
-use conversation::cut_off_laws;
+use known_values::values::{VALUES, VALUES_OF_OTHERS};
 use serving_tests::TurnDoors;
 use sheet_engine::Sheets;
 use sheets_cli::sheets_main;
@@ -593,6 +593,90 @@ fn refuses_look_ups(rt: HostRuntime) {
 #[test]
 fn reads_by_filters(rt: HostRuntime) {
     for row in &metadata::FILTERED_READS {
+        check(&rt, &row.3, is_answered(&rt, row));
+    }
+}
+
+#[test]
+fn sets_filters(rt: HostRuntime) {
+    for row in &filters::FILTERS_SET {
+        check(&rt, &row.3, is_answered(&rt, row));
+    }
+}
+
+#[test]
+fn asks_for_numbers(rt: HostRuntime) {
+    for row in &filters::NUMBER_CONDITIONS {
+        check(&rt, &row.3, is_answered(&rt, row));
+    }
+}
+
+#[test]
+fn asks_for_texts(rt: HostRuntime) {
+    for row in &filters::TEXT_CONDITIONS {
+        check(&rt, &row.3, is_answered(&rt, row));
+    }
+}
+
+#[test]
+fn asks_for_more_texts(rt: HostRuntime) {
+    for row in &filters::MORE_TEXT_CONDITIONS {
+        check(&rt, &row.3, is_answered(&rt, row));
+    }
+}
+
+#[test]
+fn hides_by_values(rt: HostRuntime) {
+    for row in &filters::FILTERS_BY_VALUES {
+        check(&rt, &row.3, is_answered(&rt, row));
+    }
+}
+
+#[test]
+fn hides_by_more_values(rt: HostRuntime) {
+    for row in &filters::MORE_FILTERS_BY_VALUES {
+        check(&rt, &row.3, is_answered(&rt, row));
+    }
+}
+
+#[test]
+fn follows_rows_of_filters(rt: HostRuntime) {
+    for row in &filters::FILTERS_ON_ROWS {
+        check(&rt, &row.3, is_answered(&rt, row));
+    }
+}
+
+#[test]
+fn follows_more_rows_of_filters(rt: HostRuntime) {
+    for row in &filters::MORE_FILTERS_ON_ROWS {
+        check(&rt, &row.3, is_answered(&rt, row));
+    }
+}
+
+#[test]
+fn follows_columns_of_filters(rt: HostRuntime) {
+    for row in &filters::FILTERS_ON_COLUMNS {
+        check(&rt, &row.3, is_answered(&rt, row));
+    }
+}
+
+#[test]
+fn keeps_filters_of_sheets(rt: HostRuntime) {
+    for row in &filters::FILTERS_OF_SHEETS {
+        check(&rt, &row.3, is_answered(&rt, row));
+    }
+}
+
+#[test]
+fn refuses_filters(rt: HostRuntime) {
+    for row in &filters::BROKEN_FILTERS {
+        check(&rt, &row.3, is_answered(&rt, row));
+    }
+}
+
+#[test]
+fn refuses_shapes_of_filters(rt: HostRuntime) {
+    for row in &filters::MISSHAPEN_FILTERS {
         check(&rt, &row.3, is_answered(&rt, row));
     }
 }

@@ -7,38 +7,14 @@
 #![tactic(auto)]
 
 #[cfg(test)]
-mod appends;
-#[cfg(test)]
-mod batches;
-#[cfg(test)]
 mod common;
 #[cfg(test)]
 mod conversations;
 #[cfg(test)]
-mod creations;
-#[cfg(test)]
-mod deletions;
-#[cfg(test)]
-mod lines;
-#[cfg(test)]
-mod merges;
-#[cfg(test)]
-mod metadata;
-#[cfg(test)]
-mod names;
-#[cfg(test)]
-mod protections;
-#[cfg(test)]
-mod rows;
-#[cfg(test)]
 mod serve;
-#[cfg(test)]
-mod sheets;
 #[cfg(test)]
 mod system;
 #[cfg(test)]
 mod tcp;
-#[cfg(test)]
-mod values;
 #[cfg(test)]
 mod words;

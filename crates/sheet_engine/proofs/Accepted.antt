@@ -96,7 +96,7 @@ pub call_makes : (caller : Caller) (called : Call) (books : List PlaceBook) (tol
     (effect : Effect) → IsAnswered caller called books told effect → makes effect ≡ (is_ok told && is_writing called)
 call_makes caller (call.Create spreadsheet) books told effect is = created caller.user spreadsheet books told effect is
 call_makes caller (call.Get id grids) books told effect is =
-    on_book (book_with id books) _ is (λ book look. reads told effect look.1)
+    on_book (book_with id books) _ is (λ book seen. reads told effect seen.nothing)
 call_makes caller (call.Batch id requests) books told effect is =
     on_book (book_with id books) _ is (λ book made. all_made _ _ _ _ book told effect made)
 call_makes caller (call.Read id range dimension render) books told effect is =

@@ -7,6 +7,7 @@ pub mod Listed
 pub mod Emptied
 pub mod Ends
 pub mod CellsShown
+pub mod CellValues
 pub mod Readable
 pub mod LinesRead
 pub mod GivenCells

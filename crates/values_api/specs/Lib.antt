@@ -1,6 +1,7 @@
 pub mod Ranges
 pub mod Sheets
 pub mod Shown
+pub mod Values
 pub mod Reading
 pub mod Updates
 pub mod Blocks

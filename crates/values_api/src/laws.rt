@@ -1,6 +1,7 @@
 //! Laws of reads, writes, appends and updates: each function does nothing of its own, and its contract is the law.
 
 ghost use Rattle.values_api.specs.Laws.{AppendsOnce, ReadsOnce, UpdatesOnce, WritesOnce};
+ghost use Rattle.values_api.specs.Values.{CellsHaveOneValue};
 
 use cell_calc::values_once;
 use formula_reader::reads_once;
@@ -9,6 +10,13 @@ use world_model::{changes_apart, changes_in_turn, stands_for_apart, stands_for_s
 /// A read shows one thing of an area.
 pub fn shows_once()
     ensures { ReadsOnce }
+{
+    values_once();
+}
+
+/// A cell has one value.
+pub fn cells_have_one_value()
+    ensures { CellsHaveOneValue }
 {
     values_once();
 }

@@ -15,10 +15,11 @@ use Rattle.world_model.specs.Area.{area_named}
 use Rattle.world_model.specs.Book.{PlaceBook, orders_of}
 use Rattle.world_model.specs.Content.{NameContent, content_named}
 use Rattle.world_model.specs.Counts.{grid_places}
+use Rattle.world_model.specs.Filters.{filter_named}
 use Rattle.world_model.specs.Sheet.{NameSheet, PlaceSheet}
 use Rattle.world_model.specs.Sound.{IsContentWithin, IsLineCount, IsOnSheet, IsSheetSound, IsSound}
 use Rattle.world_model.specs.StandsFor.{SheetStandsFor}
-use Rattle.world_model.proofs.Kept.{KeepsTitle, distinct_stay, merges_kept, size_within, still_found, titles_stay, visible_stays}
+use Rattle.world_model.proofs.Kept.{KeepsTitle, distinct_stay, filter_kept, merges_kept, size_within, still_found, titles_stay, visible_stays}
 use Rattle.world_model.proofs.MetadataNamed.{AreWithin as AreItemsWithin, items_stay}
 use Rattle.world_model.proofs.ProtectionsNamed.{AreWithin, protections_stay}
 use Rattle.world_model.proofs.StillStands.{merges_stand}
@@ -33,6 +34,7 @@ pub record EachBecomes (becomes : Content → Content) (before after : PlaceShee
   pub cols : after.table.cols ≡ before.table.cols
   pub items : (row col : ℕ) → item_at after.table row col ≡ option_map becomes (item_at before.table row col)
   pub merges : after.merges ≡ before.merges
+  pub filter : after.filter ≡ before.filter
 
 -- ---- the sheets are sound
 
@@ -91,6 +93,7 @@ module _ (becomes : Content → Content) where
         (held_becomes becomes (IsContentWithin befores) (IsContentWithin afters) contents (item_at one.table row col)
         (sound.within row col));
     merges = merges_kept one other is.id is.rows is.cols is.merges sound.merges;
+    filter = filter_kept one other is.id is.rows is.cols is.filter sound.filter;
   }
 
   -- ---- some sheets are so already
@@ -118,6 +121,7 @@ module _ (becomes : Content → Content) where
     inside = sound.inside;
     within = λ row col. held_within befores afters areas (item_at one.table row col) (sound.within row col);
     merges = sound.merges;
+    filter = sound.filter;
   }
 
   module _ (befores afters : List PlaceSheet) (all : AllZip MayBecome befores afters) where
@@ -179,8 +183,10 @@ module _ (becomes : Content → Content) (by_names : NameContent → NameContent
   pub becomes_stands : (one after : PlaceSheet) (names : NameSheet) → SheetStandsFor sheets one names
       → EachBecomes becomes one after
       → map (area_named (orders_of sheets)) one.merges ≡ map (area_named (orders_of sheets')) one.merges
+      → option_map (filter_named (orders_of sheets)) one.filter
+      ≡ option_map (filter_named (orders_of sheets')) one.filter
       → SheetStandsFor sheets' after (record names { cells = λ row col. option_map by_names (names.cells row col) })
-  becomes_stands one after names stands is lines = record {
+  becomes_stands one after names stands is lines columns = record {
     id = is.id ∙ stands.id;
     title = is.title ∙ stands.title;
     hidden = is.hidden ∙ stands.hidden;
@@ -195,4 +201,5 @@ module _ (becomes : Content → Content) (by_names : NameContent → NameContent
     nowhere_else = λ r c out. ap (option_map by_names) (stands.nowhere_else r c out);
     merges = merges_stand (orders_of sheets) (orders_of sheets') one.merges after.merges names.merges names.merges refl
         (lines ∙ ap (map (area_named (orders_of sheets'))) (sym is.merges)) stands.merges;
+    filter = stands.filter ∙ columns ∙ ap (option_map (filter_named (orders_of sheets'))) (sym is.filter);
   }

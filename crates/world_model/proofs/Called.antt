@@ -15,6 +15,7 @@ use Rattle.ref_rewrite.specs.declared.cell_content.Content.{Content}
 use Rattle.world_model.specs.Area.{Orders, area_named}
 use Rattle.world_model.specs.Book.{NameBook, PlaceBook, orders_of, sheet_with}
 use Rattle.world_model.specs.Content.{NameContent, content_named}
+use Rattle.world_model.specs.Filters.{filter_named}
 use Rattle.world_model.specs.Metadata.{item_named}
 use Rattle.world_model.specs.Protections.{protection_named}
 use Rattle.world_model.specs.Ranges.{range_named}
@@ -57,6 +58,7 @@ called orders sheet = record {
   cols = by_places sheet.table.cols;
   cells = λ row col. option_map (content_named orders) (item_at sheet.table row col);
   merges = map (area_named orders) sheet.merges;
+  filter = option_map (filter_named orders) sheet.filter;
 }
 
 abbrev called_orders : List PlaceSheet → Orders
@@ -114,6 +116,7 @@ sheet_stands orders sheets sheet same inside = record {
       subst (λ other. Contains (map (area_named orders) sheet.merges) area
       ↔ Contains (map (area_named other) sheet.merges) area)
       (sym same) (λ listed. listed, λ listed. listed);
+  filter = ap (λ orders. option_map (filter_named orders) sheet.filter) (sym same);
 }
 
 sheets_stand : (orders : Orders) (sheets : List NameSheet) (placed some : List PlaceSheet) → orders_of sheets ≡ orders

@@ -1,11 +1,11 @@
 -- A change of lines by places stands for the change by names.
 use Rattle.std.proofs.Common.{◌≡◌, ℕ, ◌<◌, ◌≤◌, refl, sym, ap, subst, ◌∙◌, List, [], ◌∷◌, cond, Bool, true, false, length, get_or, ◌&&◌, arith, suc}
-use Rattle.std.specs.Prelude.{◌≢◌, ◌↔◌, MatchOption, Option, None, Some, IfSome, map, slice_get, ◌==◌, Contains}
+use Rattle.std.specs.Prelude.{◌≢◌, ◌↔◌, MatchOption, Option, None, Some, IfSome, map, option_and_then, slice_get, ◌==◌, Contains}
 use Rattle.std.specs.List.{All, AllZip, filter_map}
 use Rattle.std.specs.Option.{option_map}
 use Rattle.std.proofs.lemmas.Bool.{eqb-true, eq-eqb, false≢true, and_parts}
 use Rattle.std.proofs.lemmas.List.Elements.{All-contains}
-use Rattle.std.proofs.lemmas.Option.{get_or_from_slice_get, same_Some, slice_get-get_or, slice_get_within}
+use Rattle.std.proofs.lemmas.Option.{IfSome_then, get_or_from_slice_get, same_Some, slice_get-get_or, slice_get_within}
 use Rattle.grid_range.specs.Area.{AreaWithin, band_on, with_band}
 use Rattle.grid_range.specs.Band.{Within}
 use Rattle.grid_range.specs.Change.{Changes, Fits, count_after, order_change}
@@ -35,8 +35,9 @@ use Rattle.world_model.specs.Area.{NameArea, Orders, area_named, band_named}
 use Rattle.world_model.specs.Book.{NameBook, PlaceBook, orders_of, sheet_with}
 use Rattle.world_model.specs.Counts.{grid_places}
 use Rattle.world_model.specs.Content.{content_named}
-use Rattle.world_model.specs.LineChange.{LineChange, book_changed, line_change, name_content_followed, name_item_followed, name_protection_followed, name_range_followed, sheet_followed}
+use Rattle.world_model.specs.LineChange.{LineChange, book_changed, line_change, name_content_followed, name_filter_followed, name_item_followed, name_protection_followed, name_range_followed, sheet_followed}
 use Rattle.world_model.specs.PlaceChange.{SheetChanged, BookChanged}
+use Rattle.world_model.specs.Filters.{filter_named}
 use Rattle.world_model.specs.Metadata.{item_named}
 use Rattle.world_model.specs.Protections.{protection_named}
 use Rattle.world_model.specs.Ranges.{range_named}
@@ -47,16 +48,17 @@ use Rattle.world_model.proofs.Areas.{FollowsOn, area_follows, other_axis}
 use Rattle.world_model.proofs.Bands.{band_follows}
 use Rattle.world_model.proofs.Contents.{AreasFollow, held_follows}
 use Rattle.world_model.proofs.Counts.{count_after_change}
+use Rattle.world_model.proofs.FiltersNamed.{filter_moved, filters_follow, moved_elsewhere, moved_here}
 use Rattle.world_model.proofs.MergesFollowed.{IsFollowed, IsInLines, merges_follow}
-use Rattle.world_model.proofs.MetadataNamed.{AreWithin as AreItemsWithin, items_follow}
+use Rattle.world_model.proofs.MetadataNamed.{AreWithin as AreItemsWithin, LinesFollow, items_follow}
 use Rattle.world_model.proofs.ProtectionsNamed.{AreWithin as AreProtectionsWithin, protections_follow}
 use Rattle.world_model.proofs.RangesNamed.{AreOnSheets, ranges_follow}
 use Rattle.world_model.proofs.SoundAfter.{changes_stay_sound}
-use Rattle.world_model.proofs.Found.{IsOwn, FoundByName, found_by_name, merges_on, own_sheets, lines_if_found, as_long, distinct_on}
+use Rattle.world_model.proofs.Found.{IsFilterOn, IsOwn, FoundByName, filters_on, found_by_name, merges_on, own_sheets, lines_if_found, as_long, distinct_on}
 use Rattle.world_model.proofs.Lines.{lines_there, listed, sheet_with-map}
 use Rattle.world_model.proofs.MovedCells.{among_if_listed, listed_if_among}
 use Rattle.world_model.proofs.MovedTables.{IsPlaced, LinesGo, moved_table, same_size, size_moved, holds_where_moved}
-use Rattle.world_model.proofs.Orders.{on_both, order_here, orders_across, orders_elsewhere, followed_id, followed_title, followed_hidden, followed_cells, followed_merges, followed_here, followed_across, followed_elsewhere}
+use Rattle.world_model.proofs.Orders.{on_both, order_here, orders_across, orders_elsewhere, followed_id, followed_title, followed_hidden, followed_cells, followed_filter, followed_merges, followed_here, followed_across, followed_elsewhere}
 
 within_on : (axis : Axis) (area : Area) (rows cols : ℕ) → AreaWithin area rows cols
     → Within (band_on axis area) (lines_on axis rows cols)
@@ -203,19 +205,23 @@ module _ (tracks : TracksAll) (places : PlacesAll) (orders_stay : OrdersStay) (p
         subst (λ a. after sheet a ≡ before sheet a) (sym (not_same_axis its axis apart)) (orders_across to sheets sheet)
     others_stay sheet its false elsewhere apart = orders_elsewhere to sheets sheet elsewhere its
 
+    lines_follow : LinesFollow to change before after placed
+    lines_follow = record {
+      here = item_goes;
+      elsewhere = λ sheet its. others_stay sheet its (sheet == id) refl;
+    }
+
     -- the metadata
     pub metadata_follows : (items : List Item) → AreItemsWithin placed items
         → filter_map (name_item_followed to) (map (item_named before) items)
         ≡ map (item_named after) (filter_map (item_followed id axis change) items)
-    metadata_follows = items_follow to change before after placed (record {
-      here = item_goes;
-      elsewhere = λ sheet its. others_stay sheet its (sheet == id) refl;
-    })
+    metadata_follows = items_follow to change before after placed lines_follow
 
     -- a sheet
     module _ (sheet sheet' : PlaceSheet) (names : NameSheet) (stands : SheetStandsFor sheets sheet names)
         (own : IsOwn sheets names) (sound : IsSheetSound placed sheet) (on : All (IsOnSheet placed) sheet.merges)
-        (changed : SheetChanged id axis count change sheet sheet') (can : AreMergesOf sheet' sheet'.merges) where
+        (filtered : IfSome sheet.filter (IsFilterOn placed)) (changed : SheetChanged id axis count change sheet sheet')
+        (can : AreMergesOf sheet' sheet'.merges) where
       abbrev now : NameSheet
       now = sheet_followed to names
 
@@ -389,6 +395,26 @@ module _ (tracks : TracksAll) (places : PlacesAll) (orders_stay : OrdersStay) (p
           (λ k d there. areas.follow (get_or sheet.merges k d) (on k d there)) merges_in_lines
           (merges_made (names.id == id) refl) stands.merges area)
 
+      -- the filter
+      filter_made : (b : Bool) → (names.id == id) ≡ b
+          → sheet'.filter ≡ option_and_then (filter_moved id axis count change) sheet.filter
+      filter_made true is =
+          let same : sheet.id ≡ id = stands.id ∙ eqb-true names.id id is in
+          changed.filter_follows same
+          ∙ sym (moved_here id axis count change sheet.filter
+          (IfSome_then sheet.filter sound.filter (λ filter of. of.own ∙ same)))
+      filter_made false is =
+          let other : (sheet.id == id) ≡ false = ap (λ n. n == id) stands.id ∙ is in
+          changed.filter_stays (λ same. false≢true (sym other ∙ eq-eqb sheet.id id same))
+          ∙ sym (moved_elsewhere id axis count change sheet.filter
+          (IfSome_then sheet.filter sound.filter (λ filter of. ap (λ n. n == id) of.own ∙ other)))
+
+      filter_same : now.filter ≡ option_map (filter_named after) sheet'.filter
+      filter_same =
+          followed_filter to names ∙ ap (option_and_then (name_filter_followed to)) stands.filter
+          ∙ filters_follow to count change before after placed lines_follow areas.follow sheet.filter filtered
+          ∙ ap (option_map (filter_named after)) (sym (filter_made (names.id == id) refl))
+
       pub sheet_follows : SheetStandsFor (map (sheet_followed to) sheets) sheet' now
       sheet_follows = record {
         id = changed.id ∙ stands.id ∙ sym (followed_id to names);
@@ -401,25 +427,27 @@ module _ (tracks : TracksAll) (places : PlacesAll) (orders_stay : OrdersStay) (p
         cells = cells_follow;
         nowhere_else = no_others;
         merges = merges_same;
+        filter = filter_same;
       }
 
     sheets_follow : (ones others : List PlaceSheet) (names : List NameSheet) → AllZip (SheetStandsFor sheets) ones names
         → All (IsOwn sheets) names → All (IsSheetSound placed) ones
         → All (λ sheet. All (IsOnSheet placed) sheet.merges) ones
+        → All (λ sheet. IfSome sheet.filter (IsFilterOn placed)) ones
         → AllZip (SheetChanged id axis count change) ones others
         → All (λ sheet. AreMergesOf sheet sheet.merges) others
         → AllZip (SheetStandsFor (map (sheet_followed to) sheets)) others (map (sheet_followed to) names)
-    sheets_follow [] [] [] stand own sound on changed can = tt
-    sheets_follow [] [] (n ∷ ns) stand own sound on changed can = absurd stand
-    sheets_follow [] (o ∷ os) names stand own sound on changed can = absurd changed
-    sheets_follow (s ∷ ss) [] names stand own sound on changed can = absurd changed
-    sheets_follow (s ∷ ss) (o ∷ os) [] stand own sound on changed can = absurd stand
-    sheets_follow (s ∷ ss) (o ∷ os) (n ∷ ns) stand own sound on changed can = (
-      sheet_follows s o n stand.0 (own 0 n (omega arith)) (sound 0 s (omega arith)) (on 0 s (omega arith)) changed.0
-          (can 0 o (omega arith)),
+    sheets_follow [] [] [] stand own sound on filtered changed can = tt
+    sheets_follow [] [] (n ∷ ns) stand own sound on filtered changed can = absurd stand
+    sheets_follow [] (o ∷ os) names stand own sound on filtered changed can = absurd changed
+    sheets_follow (s ∷ ss) [] names stand own sound on filtered changed can = absurd changed
+    sheets_follow (s ∷ ss) (o ∷ os) [] stand own sound on filtered changed can = absurd stand
+    sheets_follow (s ∷ ss) (o ∷ os) (n ∷ ns) stand own sound on filtered changed can = (
+      sheet_follows s o n stand.0 (own 0 n (omega arith)) (sound 0 s (omega arith)) (on 0 s (omega arith))
+          (filtered 0 s (omega arith)) changed.0 (can 0 o (omega arith)),
       sheets_follow ss os ns stand.1 (λ k d there. own (suc k) d (omega arith))
-          (λ k d there. sound (suc k) d (omega arith)) (λ k d there. on (suc k) d (omega arith)) changed.1
-          (λ k d there. can (suc k) d (omega arith)),
+          (λ k d there. sound (suc k) d (omega arith)) (λ k d there. on (suc k) d (omega arith))
+          (λ k d there. filtered (suc k) d (omega arith)) changed.1 (λ k d there. can (suc k) d (omega arith)),
     )
 
 -- the law
@@ -453,7 +481,8 @@ module _ (tracks : TracksAll) (places : PlacesAll) (orders_stay : OrdersStay) (w
         sheets = sheets_follow tracks places orders_stay before.sheets names.sheets stands.sheets id axis count change fresh fits
             made before.sheets after.sheets names.sheets stands.sheets
             (own_sheets before.sheets names.sheets stands.sheets stands.sound.distinct) stands.sound.sheets
-            (merges_on before.sheets before.sheets stands.sound.distinct stands.sound.sheets) changed.sheets
+            (merges_on before.sheets before.sheets stands.sound.distinct stands.sound.sheets)
+            (filters_on before.sheets before.sheets stands.sound.distinct stands.sound.sheets) changed.sheets
             (λ k d there. (sound.sheets k d there).merges);
         ranges = ap (filter_map (name_range_followed to)) stands.ranges
             ∙ named_follow tracks places orders_stay before.sheets names.sheets stands.sheets id axis count change fresh fits

@@ -1,8 +1,10 @@
 -- A sheet that is found by its id, among those that a program keeps and among those that these stand for.
 use Rattle.std.proofs.Common.{◌≡◌, ◌≢◌, ℕ, ◌<◌, zero, suc, refl, sym, ap, subst, ◌∙◌, List, [], ◌∷◌, cond, Bool, true, false, length, get_or, arith}
-use Rattle.std.specs.Prelude.{Option, Some, IfSome, IsSomeAnd, ◌==◌}
+use Rattle.std.specs.Prelude.{Option, None, Some, IfSome, IsSomeAnd, ◌==◌}
 use Rattle.std.specs.List.{All, AllPairs, AllZip, find}
 use Rattle.std.proofs.lemmas.Bool.{eqb-true, eq-eqb, false≢true, false_from_ne_true}
+use Rattle.basic_filter.specs.declared.types.Filter.{Filter}
+use Rattle.dev_metadata.specs.declared.types.Spot.TheVariants as spot
 use Rattle.grid_range.specs.Area.{AreaWithin}
 use Rattle.grid_range.specs.Order.{IsOrder}
 use Rattle.grid_range.specs.declared.axis.Axis.{Axis}
@@ -10,7 +12,7 @@ use Rattle.grid_range.specs.declared.axis.Axis.TheVariants.{Rows, Columns}
 use Rattle.cell_store.specs.Moved.{lines_on}
 use Rattle.world_model.specs.Book.{sheet_with, orders_of}
 use Rattle.world_model.specs.Sheet.{NameSheet, PlaceSheet, lines_of}
-use Rattle.world_model.specs.Sound.{IsOnSheet, IsSheetSound, place_sheet_with}
+use Rattle.world_model.specs.Sound.{IsFilterOf, IsOnSheet, IsSheetSound, IsSpotWithin, place_sheet_with}
 use Rattle.world_model.specs.StandsFor.{SheetStandsFor}
 use Rattle.world_model.proofs.Lines.{lines_there}
 
@@ -51,6 +53,34 @@ merges_on placed sheets distinct sound k d there i e below =
     subst (λ found. IsSomeAnd found (λ one. AreaWithin merge one.table.rows one.table.cols))
     (sym (ap (λ n. place_sheet_with n sheets) here.0
     ∙ each_found (λ (one : PlaceSheet). one.id) sheets distinct k d there)) here.1
+
+-- a filter is on a sheet that is there, and of its columns
+pub record IsFilterOn (sheets : List PlaceSheet) (filter : Filter) : Type 0 where
+  pub area : IsOnSheet sheets filter.area
+  pub columns : All (λ criterion. IsSpotWithin sheets (spot.Line filter.area.sheet Columns criterion.column))
+      filter.criteria
+
+filter_on : (sheets : List PlaceSheet) (sheet : PlaceSheet) → place_sheet_with sheet.id sheets ≡ Some sheet
+    → (found : Option Filter) → IfSome found (IsFilterOf sheet) → IfSome found (IsFilterOn sheets)
+filter_on sheets sheet there None is = tt
+filter_on sheets sheet there (Some filter) is =
+    let found : place_sheet_with filter.area.sheet sheets ≡ Some sheet =
+    ap (λ n. place_sheet_with n sheets) is.own ∙ there in
+    record {
+      area = subst (λ held. IsSomeAnd held (λ one. AreaWithin filter.area one.table.rows one.table.cols)) (sym found)
+          is.within;
+      columns = λ k d inside.
+          subst (λ held. IsSomeAnd held (λ one. (get_or filter.criteria k d).column < one.table.cols)) (sym found)
+          (is.columns k d inside);
+    }
+
+-- and so is each filter of the sheets
+pub filters_on : (placed sheets : List PlaceSheet) → AllPairs (λ one other. one.id ≢ other.id) sheets
+    → All (IsSheetSound placed) sheets → All (λ sheet. IfSome sheet.filter (IsFilterOn sheets)) sheets
+filters_on placed sheets distinct sound k d there =
+    let sheet = get_or sheets k d in
+    filter_on sheets sheet (each_found (λ (one : PlaceSheet). one.id) sheets distinct k d there) sheet.filter
+    (sound k d there).filter
 
 -- where no two have one id, each is found
 pub each_own : (sheets : List NameSheet) → AllPairs (λ one other. one.id ≢ other.id) sheets

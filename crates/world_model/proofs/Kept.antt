@@ -1,15 +1,17 @@
--- Sheets that keep their ids, titles and marks, or their merges, and the one that is found by its id.
+-- Sheets that keep their ids, titles and marks, or their merges and filters, and the one that is found by its id.
 use Rattle.std.proofs.Common.{◌≡◌, ◌≢◌, ℕ, ◌<◌, zero, suc, refl, sym, ap, subst, ◌∙◌, List, [], ◌∷◌, cond, Bool, true, false, length, get_or, arith, ◌&&◌}
 use Rattle.std.specs.Prelude.{Option, None, Some, IfSome, IsSomeAnd, ◌==◌}
-use Rattle.std.specs.List.{AllPairs, AllZip, list_all}
+use Rattle.std.specs.List.{All, AllPairs, AllZip, list_all}
 use Rattle.std.specs.Str.{str_eq_ignore_ascii_case}
 use Rattle.std.proofs.lemmas.Bool.{eqb-true, eq-eqb, false≢true}
 use Rattle.std.proofs.lemmas.List.Elements.{AllZip-get_or, length_all_zip}
+use Rattle.basic_filter.specs.declared.types.Criterion.{Criterion}
+use Rattle.basic_filter.specs.declared.types.Filter.{Filter}
 use Rattle.grid_range.specs.Area.{AreaWithin}
 use Rattle.grid_range.specs.Band.{Within}
 use Rattle.grid_range.specs.declared.area.Area.{Area}
 use Rattle.world_model.specs.Sheet.{PlaceSheet}
-use Rattle.world_model.specs.Sound.{AreMergesOf, place_sheet_with}
+use Rattle.world_model.specs.Sound.{AreMergesOf, IsFilterOf, place_sheet_with}
 
 pub record KeepsTitle (before after : PlaceSheet) : Type 0 where
   pub id : after.id ≡ before.id
@@ -39,6 +41,23 @@ pub merges_kept : (one other : PlaceSheet) → other.id ≡ one.id → other.tab
     → AreMergesOf other other.merges
 merges_kept one other id rows cols same are =
     subst (AreMergesOf other) (sym same) (merges_fit one other one.merges id rows cols are)
+
+-- and what filter
+pub filter_fits : (one other : PlaceSheet) (filter : Option Filter) → other.id ≡ one.id
+    → other.table.rows ≡ one.table.rows → other.table.cols ≡ one.table.cols → IfSome filter (IsFilterOf one)
+    → IfSome filter (IsFilterOf other)
+filter_fits one other None id rows cols is = tt
+filter_fits one other (Some filter) id rows cols is = record {
+  own = is.own ∙ sym id;
+  within = size_within filter.area one other rows cols is.within;
+  columns = subst (λ n. All (λ (criterion : Criterion). criterion.column < n) filter.criteria) (sym cols) is.columns;
+}
+
+pub filter_kept : (one other : PlaceSheet) → other.id ≡ one.id → other.table.rows ≡ one.table.rows
+    → other.table.cols ≡ one.table.cols → other.filter ≡ one.filter → IfSome one.filter (IsFilterOf one)
+    → IfSome other.filter (IsFilterOf other)
+filter_kept one other id rows cols same is =
+    subst (λ filter. IfSome filter (IsFilterOf other)) (sym same) (filter_fits one other one.filter id rows cols is)
 
 -- no other sheet has the id of the one that is found
 module _ (id : ℕ) (P : PlaceSheet → Type 0) where

@@ -7,10 +7,11 @@ use Rattle.std.proofs.lemmas.Bool.{eqb-true, eq-eqb, false≢true, false_from_ne
 use Rattle.grid_range.specs.Change.{inserted_lines, order_change}
 use Rattle.world_model.specs.Area.{NameArea, Orders, area_named}
 use Rattle.world_model.specs.Book.{orders_of, sheet_with}
-use Rattle.world_model.specs.BookChange.{BookChange, Named, changed_by, changed_by_all, name_content_renamed, name_content_without, marked_hidden, merged, new_sheet, sheet_renamed, titled, without_references}
+use Rattle.world_model.specs.BookChange.{BookChange, Named, changed_by, changed_by_all, name_content_renamed, name_content_without, filtered, marked_hidden, merged, new_sheet, sheet_renamed, titled, without_references}
 use Rattle.world_model.specs.BookChange.BookChange.{CellsUpdated, LinesChanged, SheetAdded, SheetDeleted, SheetTitled, SheetHidden}
-use Rattle.world_model.specs.BookChange.BookChange.{RangeAdded, RangeChanged, RangeDeleted, WordsRenamed, MergesSet, ProtectionsSet, MetadataSet}
+use Rattle.world_model.specs.BookChange.BookChange.{RangeAdded, RangeChanged, RangeDeleted, WordsRenamed, MergesSet, ProtectionsSet, MetadataSet, FilterSet}
 use Rattle.world_model.specs.Content.{NameContent}
+use Rattle.world_model.specs.Filters.{NameFilter, filter_named}
 use Rattle.world_model.specs.LineChange.{LineChange, line_change, name_content_followed, sheet_followed}
 use Rattle.world_model.specs.Sheet.{NameSheet}
 use Rattle.world_model.specs.Leaving.{HasCell, LeaveInTurn, Leaves, cell_of, content_kept, content_kept_by_all}
@@ -241,6 +242,13 @@ one_stays named (RangeChanged range) id row col leaves there = kept_as_is (cell_
 one_stays named (RangeDeleted range) id row col leaves there = kept_as_is (cell_of id row col named.book)
 one_stays named (ProtectionsSet protections) id row col leaves there = kept_as_is (cell_of id row col named.book)
 one_stays named (MetadataSet items) id row col leaves there = kept_as_is (cell_of id row col named.book)
+one_stays named (FilterSet sheet given) id row col leaves there =
+    let by_names : Option NameFilter = option_map (filter_named (orders_of named.book.sheets)) given in
+    let changed : NameSheet → NameSheet = λ one. cond (one.id == sheet) (filtered by_names one) one in
+    cell_kept (λ content. content) row col (sheet_with id named.book.sheets) _ changed
+    (find_kept changed (λ one. id_if (one.id == sheet) (filtered by_names one) one refl) id named.book.sheets)
+    (if_some (sheet_with id named.book.sheets) (λ one.
+    cell_if (one.id == sheet) (filtered by_names one) one row col refl ∙ kept_as_is (one.cells row col)))
 one_stays named (WordsRenamed old new) id row col leaves there =
     cell_kept (name_content_renamed old new) row col (sheet_with id named.book.sheets) _ (sheet_renamed old new)
     (find_kept (sheet_renamed old new) (λ one. refl) id named.book.sheets)

@@ -23,6 +23,7 @@ pub mod StillStands
 pub mod RangesNamed
 pub mod ProtectionsNamed
 pub mod MetadataNamed
+pub mod FiltersNamed
 pub mod MergesApart
 pub mod Apart
 pub mod Filled
@@ -42,6 +43,7 @@ pub mod SheetMarked
 pub mod MergesSet
 pub mod ProtectionsSet
 pub mod MetadataSet
+pub mod FilterSet
 pub mod LineAlone
 pub mod Protected
 pub mod Inserts

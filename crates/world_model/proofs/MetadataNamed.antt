@@ -322,7 +322,7 @@ item_of_same one other id key value place sight =
     ∙ ap (λ seen. record other { sight = seen }) sight
 
 -- a line where an item lies has a place in an order
-record HasPlace (order : List ℕ) (place : ℕ) : Type 0 where
+pub record HasPlace (order : List ℕ) (place : ℕ) : Type 0 where
   pub distinct : IsOrder order
   pub there : place < length order
 
@@ -330,7 +330,7 @@ module _ (sheets : List NameSheet) where
   abbrev orders : Orders
   orders = orders_of sheets
 
-  has_place : (placed : List PlaceSheet) → AllZip (SheetStandsFor sheets) placed sheets
+  pub has_place : (placed : List PlaceSheet) → AllZip (SheetStandsFor sheets) placed sheets
       → (id : ℕ) (axis : Axis) (place : ℕ) → IsSpotWithin placed (spot.Line id axis place)
       → HasPlace (orders id axis) place
   has_place placed stand id Rows place within =

@@ -1,6 +1,6 @@
 -- The lines of each sheet after a change of the lines of one.
 use Rattle.std.proofs.Common.{◌≡◌, ℕ, refl, sym, ap, ◌∙◌, List, [], ◌∷◌, cond, Bool, true, false}
-use Rattle.std.specs.Prelude.{Option, None, Some, map, ◌==◌, ◌&&◌}
+use Rattle.std.specs.Prelude.{Option, None, Some, map, option_and_then, ◌==◌, ◌&&◌}
 use Rattle.std.specs.List.{filter_map}
 use Rattle.std.specs.Option.{option_map, option_map_or}
 use Rattle.std.proofs.lemmas.Bool.{eqb-true}
@@ -9,7 +9,7 @@ use Rattle.grid_range.specs.Order.{is_among}
 use Rattle.grid_range.specs.declared.axis.Axis.{Axis}
 use Rattle.grid_range.specs.declared.axis.Axis.TheVariants.{Rows, Columns}
 use Rattle.world_model.specs.Book.{orders_of, sheet_with}
-use Rattle.world_model.specs.LineChange.{LineChange, sheet_followed, name_content_followed, with_lines, with_all_followed, name_merge_followed}
+use Rattle.world_model.specs.LineChange.{LineChange, sheet_followed, name_content_followed, with_lines, with_all_followed, name_filter_followed, name_merge_followed}
 use Rattle.world_model.specs.Sheet.{NameSheet, lines_of}
 use Rattle.world_model.proofs.Areas.{other_axis}
 use Rattle.world_model.proofs.Lines.{sheet_with-map}
@@ -23,6 +23,7 @@ record MayHaveLines (b : Bool) (axis : Axis) (order : List ℕ) (one other : Nam
   pub across : lines_of one (other_axis axis) ≡ lines_of other (other_axis axis)
   pub cells : (r c : ℕ) → one.cells r c ≡ other.cells r c
   pub merges : one.merges ≡ other.merges
+  pub filter : one.filter ≡ other.filter
 
 lines_replaced : (b : Bool) (axis : Axis) (order : List ℕ) (sheet : NameSheet)
     → MayHaveLines b axis order (cond b (with_lines axis order sheet) sheet) sheet
@@ -34,6 +35,7 @@ lines_replaced true Rows order sheet = record {
   across = refl;
   cells = λ r c. refl;
   merges = refl;
+  filter = refl;
 }
 lines_replaced true Columns order sheet = record {
   id = refl;
@@ -43,6 +45,7 @@ lines_replaced true Columns order sheet = record {
   across = refl;
   cells = λ r c. refl;
   merges = refl;
+  filter = refl;
 }
 lines_replaced false axis order sheet = record {
   id = refl;
@@ -52,6 +55,7 @@ lines_replaced false axis order sheet = record {
   across = refl;
   cells = λ r c. refl;
   merges = refl;
+  filter = refl;
 }
 
 -- the sheet with an id has it
@@ -66,7 +70,7 @@ sheet_has_id id [] sheet found = absurd (none-some sheet found)
 sheet_has_id id (first ∷ sheets) sheet found =
     first_has_id (first.id == id) id first sheet (sheet_with id sheets) refl (sheet_has_id id sheets sheet) found
 
--- cells and merges don't matter for lines
+-- cells, merges and a filter don't matter for lines
 lines_with_all : (to : LineChange) (sheet : NameSheet) (axis : Axis)
     → lines_of (with_all_followed to sheet) axis ≡ lines_of sheet axis
 lines_with_all to sheet Rows = refl
@@ -128,6 +132,11 @@ module _ (to : LineChange) where
   pub followed_merges : (sheet : NameSheet)
       → (sheet_followed to sheet).merges ≡ filter_map (name_merge_followed to) sheet.merges
   followed_merges sheet = ap (filter_map (name_merge_followed to)) (replaced sheet).merges
+
+  -- and so does its filter
+  pub followed_filter : (sheet : NameSheet)
+      → (sheet_followed to sheet).filter ≡ option_and_then (name_filter_followed to) sheet.filter
+  followed_filter sheet = ap (option_and_then (name_filter_followed to)) (replaced sheet).filter
 
   lines_found : (found : Option NameSheet) (axis : Axis)
       → option_map_or (λ sheet. lines_of sheet axis) (option_map (sheet_followed to) found) []

@@ -54,6 +54,7 @@ pub record SameSheet (one other : PlaceSheet) : Type 0 where
   pub rows : one.table.rows ≡ other.table.rows
   pub cols : one.table.cols ≡ other.table.cols
   pub merges : one.merges ≡ other.merges
+  pub filter : one.filter ≡ other.filter
 
 pub put_is_same : (b : Bool) (row col : ℕ) (item : Option Content) (sheet : PlaceSheet)
     → SameSheet (cond b (record sheet { table = table_written row col item sheet.table }) sheet) sheet
@@ -64,6 +65,7 @@ put_is_same true row col item sheet = record {
   rows = (size_written row col item sheet.table).0;
   cols = (size_written row col item sheet.table).1;
   merges = refl;
+  filter = refl;
 }
 put_is_same false row col item sheet = record {
   id = refl;
@@ -72,4 +74,5 @@ put_is_same false row col item sheet = record {
   rows = refl;
   cols = refl;
   merges = refl;
+  filter = refl;
 }

@@ -1,6 +1,7 @@
 -- Words of formulas that become another one, by places and by names.
 use Rattle.std.proofs.Common.{◌≡◌, ℕ, ◌<◌, refl, sym, ap, ◌∙◌, List, [], ◌∷◌, get_or, Bool, true, false, cond, inl, inr}
 use Rattle.std.specs.Prelude.{map, ◌⊎◌}
+use Rattle.std.specs.Option.{option_map}
 use Rattle.std.specs.List.{All, AllZip}
 use Rattle.std.specs.Str.{str_eq_ignore_ascii_case}
 use Rattle.std.proofs.lemmas.List.Elements.{All-map}
@@ -17,6 +18,7 @@ use Rattle.world_model.specs.Book.{PlaceBook, orders_of}
 use Rattle.world_model.specs.BookChange.{AreChanges, BookChange, Named, NamedStandsFor, name_content_renamed, name_piece_renamed, sheet_renamed, words_renamed}
 use Rattle.world_model.specs.Content.{NameContent, NamePiece, content_named, piece_named}
 use Rattle.world_model.specs.RangeChange.{PlaceWordsRenamed, SomeWordsRenamed, WordsRenamedIn, content_renamed}
+use Rattle.world_model.specs.Filters.{filter_named}
 use Rattle.world_model.specs.Metadata.{item_named}
 use Rattle.world_model.specs.Protections.{protection_named}
 use Rattle.world_model.specs.Ranges.{range_named}
@@ -38,6 +40,7 @@ module _ (old new : List ℕ) where
     cols = renamed.cols;
     items = renamed.items;
     merges = renamed.merges;
+    filter = renamed.filter;
   }
 
   -- ---- the spreadsheet is sound: no reference is another one
@@ -154,7 +157,8 @@ module _ (old new : List ℕ) where
     all_stand (s ∷ ss) (a ∷ more) [] all renamed = absurd all
     all_stand (s ∷ ss) (a ∷ more) (n ∷ ns) all renamed = (
       becomes_stands (content_renamed old new) (name_content_renamed old new) sheets renamed_sheets content_stands s a n
-          all.0 (renamed_is s a renamed.0) (ap (λ orders. map (area_named orders) s.merges) (sym same_orders)),
+          all.0 (renamed_is s a renamed.0) (ap (λ orders. map (area_named orders) s.merges) (sym same_orders))
+          (ap (λ orders. option_map (filter_named orders) s.filter) (sym same_orders)),
       all_stand ss more ns all.1 renamed.1,
     )
 

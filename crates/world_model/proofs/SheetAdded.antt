@@ -34,7 +34,7 @@ use Rattle.world_model.proofs.Inserted.{All-inserted, AllPairs-inserted, AllZip-
 use Rattle.world_model.proofs.MetadataNamed.{AreWithin as AreItemsWithin, items_same, items_stay}
 use Rattle.world_model.proofs.ProtectionsNamed.{AreWithin, protections_same, protections_stay}
 use Rattle.world_model.proofs.RangesNamed.{AreOnSheets, ranges_same}
-use Rattle.world_model.proofs.StillStands.{held_same, merges_same, still_stands}
+use Rattle.world_model.proofs.StillStands.{filter_same, held_same, merges_same, still_stands}
 use Rattle.world_model.proofs.WrittenSound.{held_within}
 
 -- ---- fresh names
@@ -200,6 +200,7 @@ module _ (empty : (rows cols row col : ℕ) → item_at (empty_table {T = Conten
     inside = sound.inside;
     within = λ row col. held_within book.sheets after area_stays (item_at one.table row col) (sound.within row col);
     merges = sound.merges;
+    filter = sound.filter;
   }
 
   no_some : (held : Option Content) → held ≡ None → IsSome held → ⊥
@@ -220,6 +221,7 @@ module _ (empty : (rows cols row col : ℕ) → item_at (empty_table {T = Conten
     within = λ row col.
         if_none (IsContentWithin after) (item_at new.table row col) (empty sheet.rows sheet.cols row col);
     merges = (no_merges, λ k d there. absurd (omega (arith, there)));
+    filter = tt;
   }
 
   pub added_nearly : IsNearlySound book → IsNearlySound added
@@ -277,10 +279,12 @@ module _ (empty : (rows cols row col : ℕ) → item_at (empty_table {T = Conten
         still_stands named.book.sheets names one other
         (λ row col. held_same book.sheets (orders_of named.book.sheets) (orders_of names) same_area
         (item_at one.table row col) (sound.within row col))
-        (merges_same (orders_of named.book.sheets) (orders_of names) one
-        (same_lines one.id (false_from_ne_true (sheet.id == one.id)
-        (λ is. false≢true (sym apart ∙ eq-eqb one.id sheet.id (sym (eqb-true sheet.id one.id is))))))
-        sound.merges) is
+        (merges_same (orders_of named.book.sheets) (orders_of names) one own sound.merges)
+        (filter_same (orders_of named.book.sheets) (orders_of names) one own one.filter sound.filter) is
+      where
+        own : orders_of named.book.sheets one.id ≡ orders_of names one.id
+        own = same_lines one.id (false_from_ne_true (sheet.id == one.id)
+            (λ is. false≢true (sym apart ∙ eq-eqb one.id sheet.id (sym (eqb-true sheet.id one.id is)))))
 
     all_old : (ones : List PlaceSheet) (others : List NameSheet) → All (IsSheetSound book.sheets) ones
         → All (λ one. (one.id == sheet.id) ≡ false) ones → AllZip (SheetStandsFor named.book.sheets) ones others
@@ -306,6 +310,7 @@ module _ (empty : (rows cols row col : ℕ) → item_at (empty_table {T = Conten
           ap (option_map (content_named (orders_of names))) (sym (empty sheet.rows sheet.cols row col));
       nowhere_else = λ r c out. refl;
       merges = λ area. (λ none. none, λ none. none);
+      filter = refl;
     }
 
     pub added_stands : NearlyStands added (sheet_added at meant named.book)

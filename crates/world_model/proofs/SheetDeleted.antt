@@ -1,6 +1,6 @@
 -- A sheet that is deleted with all references to it, by places and by names.
 use Rattle.std.proofs.Common.{◌≡◌, ◌≢◌, ℕ, suc, ◌+◌, ◌*◌, ◌<◌, ◌≤◌, refl, sym, ap, subst, ◌∙◌, List, [], ◌∷◌, length, get_or, Bool, true, false, cond, not, arith, inl, inr}
-use Rattle.std.specs.Prelude.{IsSomeAnd, Option, Some, filter, map, ◌⊎◌, ◌==◌}
+use Rattle.std.specs.Prelude.{IfSome, IsSomeAnd, Option, Some, filter, map, ◌⊎◌, ◌==◌}
 use Rattle.std.specs.List.{All, AllZip, filter_map, find, list_all}
 use Rattle.std.specs.Option.{option_map_or}
 use Rattle.std.specs.Str.{str_eq_ignore_ascii_case}
@@ -31,7 +31,7 @@ use Rattle.world_model.specs.Protections.{name_protection_without, protection_na
 use Rattle.world_model.specs.Ranges.{name_ranges_elsewhere, range_named}
 use Rattle.world_model.specs.Sheet.{NameSheet, PlaceSheet, lines_of}
 use Rattle.world_model.specs.SheetChange.{LosesReferences, PlaceSheetDeleted, SomeLoseReferences, content_without, other_sheets}
-use Rattle.world_model.specs.Sound.{AreMergesOf, IsAreaWithin, IsContentWithin, IsOnSheet, IsPieceWithin, IsSheetSound, IsSound}
+use Rattle.world_model.specs.Sound.{AreMergesOf, IsAreaWithin, IsContentWithin, IsFilterOf, IsOnSheet, IsPieceWithin, IsSheetSound, IsSound}
 use Rattle.world_model.specs.StandsFor.{SheetStandsFor}
 use Rattle.world_model.proofs.Becoming.{EachBecomes, all_sound, becomes_keeps, becomes_stands, same_places, sheet_becomes, some_sound}
 use Rattle.world_model.proofs.Kept.{KeepsTitle, distinct_stay, size_within, still_found, titles_stay}
@@ -39,7 +39,7 @@ use Rattle.world_model.proofs.Lines.{KeepsLines, orders_stay_same}
 use Rattle.world_model.proofs.MetadataNamed.{AreWithin as AreItemsWithin, all_left_within as all_items_left_within, items_left}
 use Rattle.world_model.proofs.ProtectionsNamed.{AreWithin, all_left_within, protections_left}
 use Rattle.world_model.proofs.RangesNamed.{All-left, AreOnSheets, filter-named, range_same}
-use Rattle.world_model.proofs.StillStands.{lines_same, merges_same}
+use Rattle.world_model.proofs.StillStands.{filter_same, lines_same, merges_same}
 
 -- ---- another sheet is found as before
 
@@ -76,6 +76,7 @@ loses_is sheet one other loses = record {
   cols = loses.cols;
   items = loses.items;
   merges = loses.merges;
+  filter = loses.filter;
 }
 
 loses_keeps : (sheet : ℕ) (one other : PlaceSheet) → LosesReferences sheet one other → KeepsTitle one other
@@ -249,9 +250,10 @@ module _ (deleted : ℕ) (sheets : List NameSheet) where
       ∙ fun_ext (λ axis. ap (λ (found : Option NameSheet). option_map_or (λ one. lines_of one axis) found [])
       (find-others (λ (one : NameSheet). one.id) deleted other apart sheets))
 
-  -- a sheet that isn't deleted, and its merges
+  -- a sheet that isn't deleted, its merges and its filter
   abbrev IsLeft : PlaceSheet → Type 0
-  IsLeft one = ((one.id == deleted) ≡ false) × AreMergesOf one one.merges
+  IsLeft one =
+      ((one.id == deleted) ≡ false) × (AreMergesOf one one.merges × IfSome one.filter (IsFilterOf one))
 
   left_stands : (one after : PlaceSheet) (names : NameSheet) → IsLeft one → SheetStandsFor sheets one names
       → LosesReferences deleted one after → SheetStandsFor left after (without_references deleted names)
@@ -259,7 +261,8 @@ module _ (deleted : ℕ) (sheets : List NameSheet) where
       becomes_stands (content_without deleted) (name_content_without deleted) sheets left
       (content_named_without deleted (orders_of sheets) (orders_of left) same_lines) one after names stands
       (loses_is deleted one after loses)
-      (merges_same (orders_of sheets) (orders_of left) one (sym (same_lines one.id is.0)) is.1)
+      (merges_same (orders_of sheets) (orders_of left) one (sym (same_lines one.id is.0)) is.1.0)
+      (filter_same (orders_of sheets) (orders_of left) one (sym (same_lines one.id is.0)) one.filter is.1.1)
 
   -- the ranges that are left name the lines that they named
   pub ranges_left : (ranges : List NamedRange)
@@ -306,7 +309,7 @@ module _ (deleted : ℕ) (sheets : List NameSheet) where
   pub are_left : (ones : List PlaceSheet) → All (IsSheetSound ones) ones → All IsLeft (other_sheets deleted ones)
   are_left ones sound =
       All-left (λ one. not (one.id == deleted)) (IsSheetSound ones) IsLeft
-      (λ one elsewhere is. (not-true (one.id == deleted) elsewhere, is.merges)) ones sound
+      (λ one elsewhere is. (not-true (one.id == deleted) elsewhere, (is.merges, is.filter))) ones sound
 
 pub deleted_changes : (before after : PlaceBook) (sheet : ℕ) → IsSound after → PlaceSheetDeleted sheet before after
     → AreChanges (BookChange.SheetDeleted sheet ∷ []) before after

@@ -20,14 +20,15 @@ use Rattle.world_model.specs.Book.{PlaceBook}
 use Rattle.world_model.specs.BookChange.{AreChanges, BookChange, Named, NamedStandsFor, marked_hidden, on_sheet, titled}
 use Rattle.world_model.specs.Content.{content_named}
 use Rattle.world_model.specs.Counts.{grid_places}
+use Rattle.world_model.specs.Filters.{filter_named}
 use Rattle.world_model.specs.Metadata.{item_named}
 use Rattle.world_model.specs.Protections.{protection_named}
 use Rattle.world_model.specs.Ranges.{range_named}
 use Rattle.world_model.specs.Sheet.{NameSheet, PlaceSheet, lines_of}
 use Rattle.world_model.specs.SheetChange.{on_place_sheet, place_marked_hidden, place_titled}
-use Rattle.world_model.specs.Sound.{AreMergesOf, IsContentWithin, IsLineCount, IsOnSheet, IsSheetSound, IsSound, most_places, most_sheets, place_sheet_with}
+use Rattle.world_model.specs.Sound.{AreMergesOf, IsContentWithin, IsFilterOf, IsLineCount, IsOnSheet, IsSheetSound, IsSound, most_places, most_sheets, place_sheet_with}
 use Rattle.world_model.specs.StandsFor.{SheetStandsFor}
-use Rattle.world_model.proofs.Kept.{merges_fit}
+use Rattle.world_model.proofs.Kept.{filter_fits, merges_fit}
 use Rattle.world_model.proofs.Lines.{KeepsLines, orders_stay_same}
 use Rattle.world_model.proofs.MetadataNamed.{AreWithin as AreItemsWithin, items_stay}
 use Rattle.world_model.proofs.ProtectionsNamed.{AreWithin, protections_stay}
@@ -80,8 +81,9 @@ module _ (change : PlaceSheet → PlaceSheet) (keeps : KeepsTable change) where
     area_stays area on = found_changed (λ table. AreaWithin area table.rows table.cols) area.sheet sheets on
 
     table_sound : (one other : PlaceSheet) → other.id ≡ one.id → other.table ≡ one.table → 0 < length other.title
-        → AreMergesOf one other.merges → IsSheetSound sheets one → IsSheetSound (map change sheets) other
-    table_sound one other id same titled merges sound = record {
+        → AreMergesOf one other.merges → IfSome other.filter (IsFilterOf one) → IsSheetSound sheets one
+        → IsSheetSound (map change sheets) other
+    table_sound one other id same titled merges filter sound = record {
       titled = titled;
       rows = subst (λ (table : Table Content). IsLineCount Rows table.rows) (sym same) sound.rows;
       cols = subst (λ (table : Table Content). IsLineCount Columns table.cols) (sym same) sound.cols;
@@ -91,6 +93,8 @@ module _ (change : PlaceSheet → PlaceSheet) (keeps : KeepsTable change) where
           (λ row col. held_within sheets (map change sheets) area_stays (item_at one.table row col) (sound.within row col));
       merges = merges_fit one other other.merges id (ap (λ (table : Table Content). table.rows) same)
           (ap (λ (table : Table Content). table.cols) same) merges;
+      filter = filter_fits one other other.filter id (ap (λ (table : Table Content). table.rows) same)
+          (ap (λ (table : Table Content). table.cols) same) filter;
     }
 
   places_kept : (sheets : List PlaceSheet) → grid_places (map change sheets) ≡ grid_places sheets
@@ -101,14 +105,16 @@ module _ (change : PlaceSheet → PlaceSheet) (keeps : KeepsTable change) where
       ∙ ap (λ n. s.table.rows * s.table.cols + n) (places_kept ss)
       ∙ sym (sum_by-cons (λ (sheet : PlaceSheet). sheet.table.rows * sheet.table.cols) s ss)
 
-  -- the sheets are sound if no two titles are one, each has one and can have its merges, and one is shown
+  -- the sheets are sound if no two titles are one, each has one and can have its merges and its filter, and one is
+  -- shown
   pub changed_sound : (book after : PlaceBook) → after.sheets ≡ map change book.sheets → after.ranges ≡ book.ranges
       → after.protections ≡ book.protections → after.metadata ≡ book.metadata → IsSound book
       → All (λ sheet. 0 < length (change sheet).title) book.sheets
       → AllPairs (λ one other. str_eq_ignore_ascii_case (change one).title (change other).title ≡ false) book.sheets
       → list_all (λ sheet. sheet.hidden) (map change book.sheets) ≡ false
-      → All (λ sheet. AreMergesOf sheet (change sheet).merges) book.sheets → IsSound after
-  changed_sound book after made same same' same'' sound titled apart visible merges = record {
+      → All (λ sheet. AreMergesOf sheet (change sheet).merges) book.sheets
+      → All (λ sheet. IfSome (change sheet).filter (IsFilterOf sheet)) book.sheets → IsSound after
+  changed_sound book after made same same' same'' sound titled apart visible merges filters = record {
     distinct = subst (λ sheets. AllPairs (λ (one other : PlaceSheet). one.id ≢ other.id) sheets) (sym made)
         (λ i j d below there.
         let inside : j < length book.sheets = subst (λ n. j < n) (length-map book.sheets change) there in
@@ -132,7 +138,7 @@ module _ (change : PlaceSheet → PlaceSheet) (keeps : KeepsTable change) where
         (All-map (IsSheetSound (map change book.sheets)) change book.sheets
         (λ k d there. table_sound book.sheets (get_or book.sheets k d) (change (get_or book.sheets k d))
         (keeps.id (get_or book.sheets k d)) (keeps.table (get_or book.sheets k d)) (titled k d there) (merges k d there)
-        (sound.sheets k d there)));
+        (filters k d there) (sound.sheets k d there)));
     few_sheets = subst (λ sheets. length sheets ≤ most_sheets) (sym made)
         (subst (λ n. n ≤ most_sheets) (sym (length-map book.sheets change)) sound.few_sheets);
     few_places = subst (λ sheets. grid_places sheets ≤ most_places) (sym made)
@@ -149,19 +155,80 @@ module _ (change : PlaceSheet → PlaceSheet) (keeps : KeepsTable change) where
         (items_stay book.sheets (map change book.sheets) (area_stays book.sheets) book.metadata sound.metadata));
   }
 
--- a sheet that may be changed keeps its merges
-chosen_merges : (change : PlaceSheet → PlaceSheet) → ((sheet : PlaceSheet) → (change sheet).merges ≡ sheet.merges)
-    → (b : Bool) (sheet : PlaceSheet) → (cond b (change sheet) sheet).merges ≡ sheet.merges
-chosen_merges change keeps true sheet = keeps sheet
-chosen_merges change keeps false sheet = refl
+-- a sheet that may be changed keeps a part that the change keeps
+module _ {A : Type 0} (part : PlaceSheet → A) (change : PlaceSheet → PlaceSheet)
+    (keeps : (sheet : PlaceSheet) → part (change sheet) ≡ part sheet) where
+  pub chosen_part : (b : Bool) (sheet : PlaceSheet) → part (cond b (change sheet) sheet) ≡ part sheet
+  chosen_part true sheet = keeps sheet
+  chosen_part false sheet = refl
 
-merges_stay : (id : ℕ) (change : PlaceSheet → PlaceSheet)
+-- its merges
+pub merges_stay : (id : ℕ) (change : PlaceSheet → PlaceSheet)
     → ((sheet : PlaceSheet) → (change sheet).merges ≡ sheet.merges)
     → (sheets placed : List PlaceSheet) → All (IsSheetSound placed) sheets
     → All (λ sheet. AreMergesOf sheet (cond (sheet.id == id) (change sheet) sheet).merges) sheets
 merges_stay id change keeps sheets placed sound k d there =
     let sheet = get_or sheets k d in
-    subst (AreMergesOf sheet) (sym (chosen_merges change keeps (sheet.id == id) sheet)) (sound k d there).merges
+    subst (AreMergesOf sheet) (sym (chosen_part (λ one. one.merges) change keeps (sheet.id == id) sheet))
+    (sound k d there).merges
+
+-- and its filter
+pub filters_stay : (id : ℕ) (change : PlaceSheet → PlaceSheet)
+    → ((sheet : PlaceSheet) → (change sheet).filter ≡ sheet.filter)
+    → (sheets placed : List PlaceSheet) → All (IsSheetSound placed) sheets
+    → All (λ sheet. IfSome (cond (sheet.id == id) (change sheet) sheet).filter (IsFilterOf sheet)) sheets
+filters_stay id change keeps sheets placed sound k d there =
+    let sheet = get_or sheets k d in
+    subst (λ filter. IfSome filter (IsFilterOf sheet))
+    (sym (chosen_part (λ one. one.filter) change keeps (sheet.id == id) sheet)) (sound k d there).filter
+
+-- ---- other merges, or another filter
+
+-- a sheet that is changed keeps its title and its mark, too
+pub record KeepsMarks (change : PlaceSheet → PlaceSheet) : Type 0 where
+  pub title : (sheet : PlaceSheet) → (change sheet).title ≡ sheet.title
+  pub hidden : (sheet : PlaceSheet) → (change sheet).hidden ≡ sheet.hidden
+
+module _ (id : ℕ) (change : PlaceSheet → PlaceSheet) (table : KeepsTable change) (marks : KeepsMarks change) where
+  abbrev chosen : PlaceSheet → PlaceSheet
+  chosen sheet = cond (sheet.id == id) (change sheet) sheet
+
+  same_title : (sheet : PlaceSheet) → (chosen sheet).title ≡ sheet.title
+  same_title sheet = chosen_part (λ one. one.title) change marks.title (sheet.id == id) sheet
+
+  same_mark : (sheet : PlaceSheet) → (chosen sheet).hidden ≡ sheet.hidden
+  same_mark sheet = chosen_part (λ one. one.hidden) change marks.hidden (sheet.id == id) sheet
+
+  still_hidden : (sheets : List PlaceSheet)
+      → list_all (λ sheet. sheet.hidden) (map chosen sheets) ≡ list_all (λ sheet. sheet.hidden) sheets
+  still_hidden [] = refl
+  still_hidden (s ∷ ss) =
+      ap (λ b. b && list_all (λ (sheet : PlaceSheet). sheet.hidden) (map chosen ss)) (same_mark s)
+      ∙ ap (λ b. s.hidden && b) (still_hidden ss)
+
+  -- the spreadsheet is sound where the sheets can have their merges and filters
+  pub marks_kept_sound : (book : PlaceBook) → IsSound book
+      → All (λ sheet. AreMergesOf sheet (chosen sheet).merges) book.sheets
+      → All (λ sheet. IfSome (chosen sheet).filter (IsFilterOf sheet)) book.sheets
+      → IsSound (on_place_sheet id change book)
+  marks_kept_sound book sound merges filters =
+      changed_sound chosen (chosen_keeps id change table) book (on_place_sheet id change book) refl refl refl refl sound
+      (λ k d there. subst (λ title. 0 < length title) (sym (same_title (get_or book.sheets k d)))
+      (sound.sheets k d there).titled)
+      (λ i j d below there.
+      let one = get_or book.sheets i d in
+      let other = get_or book.sheets j d in
+      ap (λ title. str_eq_ignore_ascii_case title (chosen other).title) (same_title one)
+      ∙ ap (str_eq_ignore_ascii_case one.title) (same_title other)
+      ∙ sound.titles i j d below there)
+      (still_hidden book.sheets ∙ sound.visible) merges filters
+
+-- what holds of the sheet that is found by its id holds of the one that is changed
+pub chosen_has : {A : Type 0} (part : PlaceSheet → A) (P : PlaceSheet → A → Type 0) (change : PlaceSheet → PlaceSheet)
+    (b : Bool) (sheet : PlaceSheet) → (b ≡ true → P sheet (part (change sheet))) → P sheet (part sheet)
+    → P sheet (part (cond b (change sheet) sheet))
+chosen_has part P change true sheet new old = new refl
+chosen_has part P change false sheet new old = old
 
 -- ---- another title
 
@@ -218,6 +285,7 @@ module _ (id : ℕ) (title : List ℕ) where
       (free i d inside) (free j d there))
       (all_hidden book.sheets ∙ sound.visible)
       (merges_stay id (place_titled title) (λ sheet. refl) book.sheets book.sheets sound.sheets)
+      (filters_stay id (place_titled title) (λ sheet. refl) book.sheets book.sheets sound.sheets)
 
 -- ---- another mark
 
@@ -248,6 +316,7 @@ module _ (id : ℕ) (hidden : Bool) where
       ∙ ap (str_eq_ignore_ascii_case one.title) (title_kept (other.id == id) other)
       ∙ sound.titles i j d below there)
       visible (merges_stay id (place_marked_hidden hidden) (λ sheet. refl) book.sheets book.sheets sound.sheets)
+      (filters_stay id (place_marked_hidden hidden) (λ sheet. refl) book.sheets book.sheets sound.sheets)
 
 -- ---- and stands for the one by names
 
@@ -295,6 +364,8 @@ module _ (id : ℕ) (by_names : NameSheet → NameSheet) (by_places : PlaceSheet
         (λ row col. ap (λ orders. option_map (content_named orders) (item_at (on_places s).table row col))
         (sym (orders_stay_same on_names on_keeps sheets)))
         (ap (λ orders. map (area_named orders) (on_places s).merges) (sym (orders_stay_same on_names on_keeps sheets)))
+        (ap (λ orders. option_map (filter_named orders) (on_places s).filter)
+        (sym (orders_stay_same on_names on_keeps sheets)))
         (one_stands (s.id == id) (n.id == id) sheets s n (ap (λ m. m == id) all.0.id) follows all.0),
     each_stands sheets follows ss ns all.1,
   )
@@ -357,6 +428,7 @@ titled_follows title sheets sheet names stands = record {
   cells = stands.cells;
   nowhere_else = stands.nowhere_else;
   merges = stands.merges;
+  filter = stands.filter;
 }
 
 hidden_follows : (hidden : Bool) (sheets : List NameSheet) (sheet : PlaceSheet) (names : NameSheet)
@@ -373,6 +445,7 @@ hidden_follows hidden sheets sheet names stands = record {
   cells = stands.cells;
   nowhere_else = stands.nowhere_else;
   merges = stands.merges;
+  filter = stands.filter;
 }
 
 pub titled_changes : (book : PlaceBook) (id : ℕ) (title : List ℕ) → IsSound (on_place_sheet id (place_titled title) book)

@@ -1,11 +1,14 @@
 -- What always holds of a spreadsheet holds after a change of lines.
 use Rattle.std.proofs.Common.{◌≡◌, ◌≢◌, ℕ, ◌<◌, ◌≤◌, zero, suc, refl, sym, ap, subst, ◌∙◌, List, [], ◌∷◌, cond, Bool, true, false, length, get_or, arith}
-use Rattle.std.specs.Prelude.{Option, None, Some, IfSome, IsSomeAnd, is_some, map, ◌==◌}
+use Rattle.std.specs.Prelude.{Option, None, Some, IfSome, IsSomeAnd, is_some, map, option_and_then, ◌==◌}
 use Rattle.std.specs.List.{All, AllPairs, AllZip, filter_map}
 use Rattle.std.specs.Option.{option_map, option_map_or}
 use Rattle.std.proofs.lemmas.Bool.{eqb-true, eq-eqb, false≢true}
 use Rattle.std.proofs.lemmas.List.Elements.{All-contains, AllZip-get_or, Contains-get_or}
 use Rattle.std.proofs.lemmas.Option.{IfSome_then}
+use Rattle.basic_filter.specs.Following.{criteria_followed, criterion_followed, filter_followed}
+use Rattle.basic_filter.specs.declared.types.Criterion.{Criterion}
+use Rattle.basic_filter.specs.declared.types.Filter.{Filter}
 use Rattle.grid_range.specs.Area.{AreaWithin, band_on, with_band}
 use Rattle.grid_range.specs.Band.{Within}
 use Rattle.grid_range.specs.Change.{Fits, count_after}
@@ -35,10 +38,10 @@ use Rattle.world_model.specs.Book.{PlaceBook}
 use Rattle.world_model.specs.Counts.{grid_places}
 use Rattle.world_model.specs.PlaceChange.{SheetChanged, BookChanged, content_followed}
 use Rattle.world_model.specs.Sheet.{PlaceSheet}
-use Rattle.world_model.specs.Sound.{AreMergesOf, IsSheetSound, IsSound, IsLineCount, HasNotation, IsContentWithin, IsOnSheet, IsPieceWithin, IsAreaWithin, most_places, most_sheets, place_sheet_with}
+use Rattle.world_model.specs.Sound.{AreMergesOf, IsFilterOf, IsSheetSound, IsSound, IsLineCount, HasNotation, IsContentWithin, IsOnSheet, IsPieceWithin, IsAreaWithin, most_places, most_sheets, place_sheet_with}
 use Rattle.world_model.proofs.Areas.{other_axis}
 use Rattle.world_model.proofs.Forms.{notation_kept}
-use Rattle.world_model.proofs.Kept.{KeepsTitle, merges_kept, only_one, found_both, found_too, still_found, visible_stays, distinct_stay, titles_stay, there_before, same_length}
+use Rattle.world_model.proofs.Kept.{KeepsTitle, filter_kept, merges_kept, only_one, found_both, found_too, still_found, visible_stays, distinct_stay, titles_stay, there_before, same_length}
 use Rattle.world_model.proofs.MovedTables.{row_came, col_came, same_size, size_moved, holds_where_moved}
 use Rattle.world_model.proofs.Orders.{on_both}
 use Rattle.world_model.proofs.MetadataNamed.{AreWithin as AreItemsWithin, all_followed_within as all_items_followed_within}
@@ -129,6 +132,28 @@ if_both : {A : Type 0} (P Q : A → Type 0) (found : Option A) → IfSome found 
     → IfSome found (λ one. P one × Q one)
 if_both P Q None p q = tt
 if_both P Q (Some one) p q = (p, q)
+
+-- a column that a criterion follows is one of the columns afterwards
+module _ (below : PlacesStayBelow) (change : Change) (count : ℕ) (fits : Fits change count) where
+  criterion_below : (criterion : Criterion) → criterion.column < count
+      → IfSome (criterion_followed change criterion) (λ one. one.column < count_after change count)
+  criterion_below criterion there =
+      mapped_holds (λ column. record criterion { column = column }) (λ one. one.column < count_after change count)
+      (place_of change criterion.column) (below change count criterion.column fits there)
+
+  criteria_below : (axis : Axis) (criteria : List Criterion) (before after : Table Content)
+      → lines_on axis before.rows before.cols ≡ count → lines_on axis after.rows after.cols ≡ count_after change count
+      → lines_on (other_axis axis) after.rows after.cols ≡ lines_on (other_axis axis) before.rows before.cols
+      → All (λ criterion. criterion.column < before.cols) criteria
+      → All (λ criterion. criterion.column < after.cols) (criteria_followed axis change criteria)
+  criteria_below Rows criteria before after long size across there =
+      subst (λ n. All (λ (criterion : Criterion). criterion.column < n) criteria) (sym across) there
+  criteria_below Columns criteria before after long size across there =
+      subst (λ n. All (λ (criterion : Criterion). criterion.column < n) (criteria_followed Columns change criteria))
+      (sym size)
+      (All-filter_map (criterion_followed change) (λ one. one.column < count_after change count) criteria
+      (λ k d inside. criterion_below (get_or criteria k d)
+      (subst (λ n. (get_or criteria k d).column < n) long (there k d inside))))
 
 goes_keeps : (id : ℕ) (axis : Axis) (count : ℕ) (change : Change) (one other : PlaceSheet)
     → SheetChanged id axis count change one other → KeepsTitle one other
@@ -334,26 +359,31 @@ module _ (within : TracksStayWithin) (below : PlacesStayBelow) (stay : FollowedS
     abbrev IsOwnArea : Area → Type 0
     IsOwnArea area = (area.sheet ≡ other.id) × AreaWithin area other.table.rows other.table.cols
 
-    own_area : one.id ≡ id → (area : Area) → CameFrom axis count change one.merges area → IsOwnArea area
-    own_area same area came =
-        let merge = came.merge in
-        let here = All-contains (λ m. (m.sheet ≡ one.id) × AreaWithin m one.table.rows one.table.cols) one.merges merge
-        sound.merges.1 came.listed in
-        let bands = bands_within axis merge one.table here.1 in
+    -- an area of it that follows is of it afterwards
+    area_moved : one.id ≡ id → (area : Area) → (area.sheet ≡ one.id) × AreaWithin area one.table.rows one.table.cols
+        → IfSome (area_followed area.sheet axis count change area) IsOwnArea
+    area_moved same area here =
+        let bands = bands_within axis area one.table here.1 in
         let sizes = size_here one other goes same in
-        let tracked = IfSome_then (track_of (band_on axis merge) count change)
-        (within (band_on axis merge) count change fits (subst (Within (band_on axis merge)) (own same) bands.here))
+        let tracked = IfSome_then (track_of (band_on axis area) count change)
+        (within (band_on axis area) count change fits (subst (Within (band_on axis area)) (own same) bands.here))
         (λ band held.
-        let both = with_lines_within axis merge band other.table (record {
+        let both = with_lines_within axis area band other.table (record {
           here = subst (Within band) (sym (sizes.0 ∙ ap (count_after change) (own same))) held;
-          there = subst (Within (band_on (other_axis axis) merge)) (sym sizes.1) bands.there;
+          there = subst (Within (band_on (other_axis axis) area)) (sym sizes.1) bands.there;
         }) in
         (both.0 ∙ here.0 ∙ sym goes.id, both.1)) in
+        some_of_either IsOwnArea (area.sheet == area.sheet)
+        (option_map (with_band axis area) (track_of (band_on axis area) count change)) (Some area)
+        (λ is. mapped_holds (with_band axis area) IsOwnArea (track_of (band_on axis area) count change) tracked)
+        (λ is. absurd (false≢true (sym is ∙ eq-eqb area.sheet area.sheet refl)))
+
+    own_area : one.id ≡ id → (area : Area) → CameFrom axis count change one.merges area → IsOwnArea area
+    own_area same area came =
         subst (λ found. IfSome found IsOwnArea) came.followed
-        (some_of_either IsOwnArea (merge.sheet == merge.sheet)
-        (option_map (with_band axis merge) (track_of (band_on axis merge) count change)) (Some merge)
-        (λ is. mapped_holds (with_band axis merge) IsOwnArea (track_of (band_on axis merge) count change) tracked)
-        (λ is. absurd (false≢true (sym is ∙ eq-eqb merge.sheet merge.sheet refl))))
+        (area_moved same came.merge
+        (All-contains (λ m. (m.sheet ≡ one.id) × AreaWithin m one.table.rows one.table.cols) one.merges came.merge
+        sound.merges.1 came.listed))
 
     merges_moved : (b : Bool) → (one.id == id) ≡ b → AreMergesOf other other.merges
     merges_moved true is =
@@ -369,6 +399,34 @@ module _ (within : TracksStayWithin) (below : PlacesStayBelow) (stay : FollowedS
         let stays : goes.moved ≡ one.table = goes.stays apart in
         merges_kept one other goes.id (goes.followed.rows ∙ ap (λ (table : Table Content). table.rows) stays)
         (goes.followed.cols ∙ ap (λ (table : Table Content). table.cols) stays) (goes.merges_stay apart) sound.merges
+
+    -- its filter is, too, and of columns that it has, unless it is lost
+    filter_of : one.id ≡ id → (found : Option Filter) → IfSome found (IsFilterOf one)
+        → IfSome (option_and_then (filter_followed axis count change) found) (IsFilterOf other)
+    filter_of same None is = tt
+    filter_of same (Some filter) is =
+        let sizes = size_here one other goes same in
+        mapped_holds (λ area. record { area = area; criteria = criteria_followed axis change filter.criteria })
+        (IsFilterOf other) (area_followed filter.area.sheet axis count change filter.area)
+        (IfSome_then (area_followed filter.area.sheet axis count change filter.area)
+        (area_moved same filter.area (is.own, is.within))
+        (λ area held. record {
+          own = held.0;
+          within = held.1;
+          columns = criteria_below below change count fits axis filter.criteria one.table other.table (own same)
+              (sizes.0 ∙ ap (count_after change) (own same)) sizes.1 is.columns;
+        }))
+
+    filter_stays : (b : Bool) → (one.id == id) ≡ b → IfSome other.filter (IsFilterOf other)
+    filter_stays true is =
+        let same = eqb-true one.id id is in
+        subst (λ found. IfSome found (IsFilterOf other)) (sym (goes.filter_follows same))
+        (filter_of same one.filter sound.filter)
+    filter_stays false is =
+        let apart : one.id ≢ id = λ same. false≢true (sym is ∙ eq-eqb one.id id same) in
+        let stays : goes.moved ≡ one.table = goes.stays apart in
+        filter_kept one other goes.id (goes.followed.rows ∙ ap (λ (table : Table Content). table.rows) stays)
+        (goes.followed.cols ∙ ap (λ (table : Table Content). table.cols) stays) (goes.filter_stays apart) sound.filter
 
     -- it has as many lines as a sheet can have
     lines_stay : (b : Bool) → (one.id == id) ≡ b → (on : Axis)
@@ -402,6 +460,7 @@ module _ (within : TracksStayWithin) (below : PlacesStayBelow) (stay : FollowedS
           subst (λ held. IfSome held (IsContentWithin afters)) (sym (goes.followed.items row col))
           (held_stays (item_at goes.moved row col) (moved_within (one.id == id) refl row col));
       merges = merges_moved (one.id == id) refl;
+      filter = filter_stays (one.id == id) refl;
     }
 
   sheets_stay : All (IsSheetSound befores) befores → All (IsSheetSound afters) afters

@@ -1,9 +1,12 @@
--- A sheet stands for the same one among other sheets, as long as its references and merges are of the same lines.
+-- A sheet stands for the same one among other sheets, as long as its references, merges and filter are of the same
+-- lines.
 use Rattle.std.proofs.Common.{◌≡◌, ℕ, suc, refl, sym, ap, subst, ◌∙◌, List, [], ◌∷◌, get_or, arith}
 use Rattle.std.specs.Prelude.{◌↔◌, Contains, IfSome, None, Option, Some, map}
 use Rattle.std.specs.List.{All}
 use Rattle.std.specs.Option.{option_map}
+use Rattle.basic_filter.specs.declared.types.Filter.{Filter}
 use Rattle.grid_range.specs.declared.area.Area.{Area}
+use Rattle.grid_range.specs.declared.axis.Axis.{Axis}
 use Rattle.grid_range.specs.declared.axis.Axis.TheVariants.{Rows, Columns}
 use Rattle.cell_store.specs.Table.{item_at}
 use Rattle.ref_rewrite.specs.declared.cell_content.Content.{Content}
@@ -13,8 +16,9 @@ use Rattle.ref_rewrite.specs.declared.pieces.Piece.TheVariants as piece
 use Rattle.world_model.specs.Area.{NameArea, Orders, area_named, band_named}
 use Rattle.world_model.specs.Book.{orders_of}
 use Rattle.world_model.specs.Content.{NameContent, NamePiece, content_named, piece_named}
+use Rattle.world_model.specs.Filters.{NameFilter, criterion_named, filter_named}
 use Rattle.world_model.specs.Sheet.{NameSheet, PlaceSheet}
-use Rattle.world_model.specs.Sound.{AreMergesOf, IsContentWithin, IsOnSheet, IsPieceWithin}
+use Rattle.world_model.specs.Sound.{AreMergesOf, IsContentWithin, IsFilterOf, IsOnSheet, IsPieceWithin}
 use Rattle.world_model.specs.StandsFor.{SheetStandsFor}
 
 pub map_same : {A B : Type 0} (f g : A → B) (xs : List A) → All (λ x. f x ≡ g x) xs → map f xs ≡ map g xs
@@ -40,6 +44,24 @@ merges_same orders orders' sheet same are =
     map_same (area_named orders) (area_named orders') sheet.merges
     (λ k d there. lines_same orders orders' (get_or sheet.merges k d)
     (ap orders (are.1 k d there).0 ∙ same ∙ ap orders' (sym (are.1 k d there).0)))
+
+-- and so does its filter
+abbrev filter_by : Filter → (Axis → List ℕ) → NameFilter
+filter_by filter lines = record {
+  area = record {
+    sheet = filter.area.sheet;
+    rows = band_named (lines Rows) filter.area.rows;
+    cols = band_named (lines Columns) filter.area.cols;
+  };
+  criteria = map (criterion_named (lines Columns)) filter.criteria;
+}
+
+pub filter_same : (orders orders' : Orders) (sheet : PlaceSheet) → orders sheet.id ≡ orders' sheet.id
+    → (found : Option Filter) → IfSome found (IsFilterOf sheet)
+    → option_map (filter_named orders) found ≡ option_map (filter_named orders') found
+filter_same orders orders' sheet same None is = refl
+filter_same orders orders' sheet same (Some filter) is =
+    ap (λ lines. Some (filter_by filter lines)) (ap orders is.own ∙ same ∙ ap orders' (sym is.own))
 
 -- merges that name the same lines stand for the same ones
 pub merges_stand : (orders orders' : Orders) (before after : List Area) (names names' : List NameArea) → names' ≡ names
@@ -80,13 +102,15 @@ module _ (sheets : List PlaceSheet) (orders orders' : Orders)
   held_same None within = refl
   held_same (Some one) within = ap Some (content_same one within)
 
--- what a sheet stands for depends on the others by what its contents and merges are by names alone
+-- what a sheet stands for depends on the others by what its contents, merges and filter are by names alone
 pub still_stands : (sheets sheets' : List NameSheet) (sheet : PlaceSheet) (names : NameSheet)
     → ((row col : ℕ) → option_map (content_named (orders_of sheets)) (item_at sheet.table row col)
     ≡ option_map (content_named (orders_of sheets')) (item_at sheet.table row col))
     → map (area_named (orders_of sheets)) sheet.merges ≡ map (area_named (orders_of sheets')) sheet.merges
+    → option_map (filter_named (orders_of sheets)) sheet.filter
+    ≡ option_map (filter_named (orders_of sheets')) sheet.filter
     → SheetStandsFor sheets sheet names → SheetStandsFor sheets' sheet names
-still_stands sheets sheets' sheet names same merges stands = record {
+still_stands sheets sheets' sheet names same merges filter stands = record {
   id = stands.id;
   title = stands.title;
   hidden = stands.hidden;
@@ -98,4 +122,5 @@ still_stands sheets sheets' sheet names same merges stands = record {
   nowhere_else = stands.nowhere_else;
   merges = merges_stand (orders_of sheets) (orders_of sheets') sheet.merges sheet.merges names.merges names.merges refl
       merges stands.merges;
+  filter = stands.filter ∙ filter;
 }

@@ -9,6 +9,7 @@ use Rattle.grid_range.specs.Order.{IsOrder}
 use Rattle.cell_store.specs.Table.{item_at}
 use Rattle.ref_rewrite.specs.declared.cell_content.Content.{Content}
 use Rattle.world_model.specs.Content.{NameContent, content_named}
+use Rattle.world_model.specs.Filters.{filter_named}
 use Rattle.world_model.specs.Metadata.{item_named}
 use Rattle.world_model.specs.Protections.{protection_named}
 use Rattle.world_model.specs.Ranges.{range_named}
@@ -44,6 +45,7 @@ none_in id (s ∷ ss) = (
     cols = refl;
     items = λ row col. chosen_same (s.id == id) (item_at s.table row col);
     merges = refl;
+    filter = refl;
   },
   none_in id ss,
 )
@@ -87,6 +89,7 @@ module _ (id row col : ℕ) (content : Option Content) (updates : Updates) where
             ∙ one_more (before.id == id) (row' == row && col' == col) content (updates row' col')
             (item_at before.table row' col');
         merges = same.merges ∙ so_far.merges;
+        filter = same.filter ∙ so_far.filter;
       }
 
   all_in : (befores betweens : List PlaceSheet) → AllZip (SheetUpdated id updates) befores betweens
@@ -165,6 +168,7 @@ module _ (id : ℕ) (updates updates' : Updates) where
         (unwrap_or (updates' row col) (item_at before.table row col)) (item_at before.table row col)
         (λ own. same own row col);
     merges = is.merges;
+    filter = is.filter;
   }
 
   all_same : (befores afters : List PlaceSheet) → All (λ sheet. (sheet.id == id) ≡ true → MakesSame sheet) befores
@@ -364,6 +368,9 @@ module _ (sheets : List NameSheet) (id : ℕ) (updates : Updates) where
         (after names).merges (after_same names).merges
         (ap (λ orders. map (area_named orders) before.merges) (sym same_orders)
         ∙ ap (map (area_named (orders_of (map after sheets)))) (sym updated.merges)) stands.merges;
+    filter = (after_same names).filter ∙ stands.filter
+        ∙ ap (λ orders. option_map (filter_named orders) before.filter) (sym same_orders)
+        ∙ ap (option_map (filter_named (orders_of (map after sheets)))) (sym updated.filter);
   }
 
   sheets_follow : (befores afters : List PlaceSheet) (names : List NameSheet)

@@ -13,6 +13,7 @@ use Rattle.grid_range.specs.Area.{by_rows}
 use Rattle.cell_store.specs.Table.{HasPlace, item_at}
 use Rattle.ref_rewrite.specs.declared.cell_content.Content.{Content}
 use Rattle.world_model.specs.Content.{NameContent, content_named}
+use Rattle.world_model.specs.Filters.{filter_named}
 use Rattle.world_model.specs.Metadata.{item_named}
 use Rattle.world_model.specs.Protections.{protection_named}
 use Rattle.world_model.specs.Ranges.{range_named}
@@ -64,6 +65,7 @@ pub record SameNames (one other : NameSheet) : Type 0 where
   pub rows : one.rows ≡ other.rows
   pub cols : one.cols ≡ other.cols
   pub merges : one.merges ≡ other.merges
+  pub filter : one.filter ≡ other.filter
 
 pub written_is_same : (b : Bool) (names : NameSheet) (cells : ℕ → ℕ → Option NameContent)
     → SameNames (cond b (record names { cells = cells }) names) names
@@ -74,6 +76,7 @@ written_is_same true names cells = record {
   rows = refl;
   cols = refl;
   merges = refl;
+  filter = refl;
 }
 written_is_same false names cells = record {
   id = refl;
@@ -82,6 +85,7 @@ written_is_same false names cells = record {
   rows = refl;
   cols = refl;
   merges = refl;
+  filter = refl;
 }
 
 pub same_lines : (one other : NameSheet) (axis : Axis) → SameNames one other → lines_of one axis ≡ lines_of other axis
@@ -205,6 +209,9 @@ module _ (sheets : List NameSheet) (id row col r c : ℕ) (content : Option Cont
           names.merges (after names).merges (after_same names).merges
           (ap (λ orders. map (area_named orders) sheet.merges) (sym same_orders)
           ∙ ap (map (area_named (orders_of (map after sheets)))) (sym (put_same sheet).merges)) stands.merges;
+      filter = (after_same names).filter ∙ stands.filter
+          ∙ ap (λ orders. option_map (filter_named orders) sheet.filter) (sym same_orders)
+          ∙ ap (option_map (filter_named (orders_of (map after sheets)))) (sym (put_same sheet).filter);
     }
 
     sheets_follow : (some : List PlaceSheet) (names : List NameSheet) → AllZip (SheetStandsFor sheets) some names

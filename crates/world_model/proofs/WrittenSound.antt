@@ -19,7 +19,7 @@ use Rattle.world_model.specs.Counts.{grid_places}
 use Rattle.world_model.specs.Sheet.{PlaceSheet}
 use Rattle.world_model.specs.Sound.{IsSheetSound, IsSound, IsLineCount, IsContentWithin, IsOnSheet, IsPieceWithin, most_places, most_sheets, place_sheet_with}
 use Rattle.world_model.specs.Writing.{table_written, sheet_put, book_put}
-use Rattle.world_model.proofs.Kept.{KeepsTitle, merges_kept, still_found, only_one, visible_stays, distinct_stay, titles_stay, there_before, same_length}
+use Rattle.world_model.proofs.Kept.{KeepsTitle, filter_kept, merges_kept, still_found, only_one, visible_stays, distinct_stay, titles_stay, there_before, same_length}
 use Rattle.world_model.proofs.MetadataNamed.{items_stay}
 use Rattle.world_model.proofs.ProtectionsNamed.{protections_stay}
 use Rattle.world_model.proofs.Puts.{SameSheet, put_is_same, item_written, item_chosen, same_place}
@@ -140,6 +140,8 @@ module _ (id row col : ℕ) (item : Option Content) where
             (item_at sheet.table row' col') within (sound.within row' col')));
         merges = merges_kept sheet (put sheet) (put_same sheet).id (put_same sheet).rows (put_same sheet).cols
             (put_same sheet).merges sound.merges;
+        filter = filter_kept sheet (put sheet) (put_same sheet).id (put_same sheet).rows (put_same sheet).cols
+            (put_same sheet).filter sound.filter;
       }
 
   -- the law

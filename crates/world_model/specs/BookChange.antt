@@ -1,13 +1,14 @@
 -- What requests make of a spreadsheet, by the names of its lines (Google Sheets API v4 reference, Request): cells are
 -- updated, lines of a sheet are inserted, deleted or moved, a sheet is added, deleted, or gets another title, another
--- mark or other merges, a named range is added, changed or deleted, words of formulas become another one, and the
--- spreadsheet gets other protected ranges or other metadata. A line that is inserted, or that a new sheet has, gets the
--- next name, which no line ever had. A change is told where it can be made: its sheet is there, its places are, a change
--- of lines fits and tears no merge, and merges are such as the sheet can have.
-use Rattle.std.specs.Prelude.{◌≡◌, ℕ, Bool, ◌+◌, ◌++◌, ◌==◌, List, [], ◌∷◌, map, filter, take, drop, not, None, if◌then◌else◌}
+-- mark, other merges or another filter, a named range is added, changed or deleted, words of formulas become another
+-- one, and the spreadsheet gets other protected ranges or other metadata. A line that is inserted, or that a new sheet
+-- has, gets the next name, which no line ever had. A change is told where it can be made: its sheet is there, its
+-- places are, a change of lines fits and tears no merge, and merges and a filter are such as the sheet can have.
+use Rattle.std.specs.Prelude.{◌≡◌, ℕ, Bool, ◌+◌, ◌++◌, ◌==◌, List, [], ◌∷◌, map, filter, take, drop, not, Option, None, if◌then◌else◌}
 use Rattle.std.specs.List.{filter_map, fold, range_with_len}
 use Rattle.std.specs.Option.{option_map}
 use Rattle.std.specs.Str.{bytes_eq, str_eq_ignore_ascii_case}
+use Rattle.basic_filter.specs.declared.types.Filter.{Filter}
 use Rattle.dev_metadata.specs.declared.types.Item.{Item}
 use Rattle.grid_range.specs.Change.{inserted_lines, order_change}
 use Rattle.grid_range.specs.declared.area.Area.{Area}
@@ -18,6 +19,7 @@ use Rattle.protection.specs.declared.range.Protection.{Protection}
 use Rattle.world_model.specs.Area.{NameArea, area_named}
 use Rattle.world_model.specs.Book.{NameBook, PlaceBook, orders_of}
 use Rattle.world_model.specs.Content.{NameContent, NamePiece}
+use Rattle.world_model.specs.Filters.{NameFilter, filter_named}
 use Rattle.world_model.specs.LineChange.{book_changed}
 use Rattle.world_model.specs.Metadata.{NameItem, item_named, name_items_elsewhere}
 use Rattle.world_model.specs.Protections.{NameProtection, name_protection_without, protection_named}
@@ -36,7 +38,7 @@ pub record NewSheet : Type 0 where
   pub cols : ℕ
 
 -- one change of a spreadsheet; sheets and named ranges are known by their ids, and a sheet is added before the one at a
--- place, or last; ranges, merges, protections and metadata are told by the places of their lines
+-- place, or last; ranges, merges, filters, protections and metadata are told by the places of their lines
 pub data BookChange : Type 0 where
   CellsUpdated : (sheet : ℕ) (updates : Updates) → BookChange
   LinesChanged : (sheet : ℕ) (axis : Axis) (change : Change) → BookChange
@@ -51,6 +53,7 @@ pub data BookChange : Type 0 where
   MergesSet : (sheet : ℕ) (merges : List Area) → BookChange
   ProtectionsSet : (protections : List Protection) → BookChange
   MetadataSet : (items : List Item) → BookChange
+  FilterSet : (sheet : ℕ) (given : Option Filter) → BookChange
 
 -- a spreadsheet by the names of its lines, and the name that the next new line gets
 pub record Named : Type 0 where
@@ -72,6 +75,7 @@ new_sheet next sheet = record {
   cols = range_with_len (next + sheet.rows) sheet.cols;
   cells = λ row col. None;
   merges = [];
+  filter = None;
 }
 
 abbrev pub sheet_added : ℕ → NameSheet → NameBook → NameBook
@@ -126,6 +130,15 @@ merged merges sheet = record sheet { merges = merges }
 -- the merges of the sheet are these and no others
 abbrev pub merges_set : ℕ → List NameArea → NameBook → NameBook
 merges_set id merges book = on_sheet id (merged merges) book
+
+-- ---- a sheet gets another filter
+
+abbrev pub filtered : Option NameFilter → NameSheet → NameSheet
+filtered given sheet = record sheet { filter = given }
+
+-- the sheet has this filter, or none
+abbrev pub filter_set : ℕ → Option NameFilter → NameBook → NameBook
+filter_set id given book = on_sheet id (filtered given) book
 
 -- ---- a named range is added, changed or deleted
 
@@ -212,6 +225,8 @@ changed_by named (BookChange.ProtectionsSet protections) = record named {
 }
 changed_by named (BookChange.MetadataSet items) =
     record named { book = metadata_set (map (item_named (orders_of named.book.sheets)) items) named.book }
+changed_by named (BookChange.FilterSet sheet given) =
+    record named { book = filter_set sheet (option_map (filter_named (orders_of named.book.sheets)) given) named.book }
 
 -- one change after another
 abbrev pub changed_by_all : Named → List BookChange → Named

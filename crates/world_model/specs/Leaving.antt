@@ -1,7 +1,7 @@
 -- Cells that a change of a spreadsheet leaves keep what was entered into them (Google Sheets API v4 reference,
 -- CellData, userEnteredValue): only its references follow their lines, or are lost with these or with their sheet, and
--- its words are renamed. A change of lines, of a title, of a mark, of a named range, of words, of merges, of protected
--- ranges or of metadata leaves each cell that stays.
+-- its words are renamed. A change of lines, of a title, of a mark, of a named range, of words, of merges, of a filter,
+-- of protected ranges or of metadata leaves each cell that stays.
 use Rattle.std.specs.Prelude.{◌≡◌, ◌≢◌, ℕ, List, [], ◌∷◌, Option, None, Contains, IfSome, IsSomeAnd, option_and_then, ⊤}
 use Rattle.std.specs.Option.{option_map}
 use Rattle.std.specs.List.{range_with_len}
@@ -9,7 +9,7 @@ use Rattle.grid_range.specs.Change.{inserted_lines, order_change}
 use Rattle.world_model.specs.Book.{NameBook, orders_of, sheet_with}
 use Rattle.world_model.specs.BookChange.{BookChange, Named, changed_by, changed_by_all, name_content_renamed, name_content_without}
 use Rattle.world_model.specs.BookChange.BookChange.{CellsUpdated, LinesChanged, SheetAdded, SheetDeleted, SheetTitled, SheetHidden}
-use Rattle.world_model.specs.BookChange.BookChange.{RangeAdded, RangeChanged, RangeDeleted, WordsRenamed, MergesSet, ProtectionsSet, MetadataSet}
+use Rattle.world_model.specs.BookChange.BookChange.{RangeAdded, RangeChanged, RangeDeleted, WordsRenamed, MergesSet, ProtectionsSet, MetadataSet, FilterSet}
 use Rattle.world_model.specs.Content.{NameContent}
 use Rattle.world_model.specs.LineChange.{line_change, name_content_followed}
 use Rattle.world_model.specs.Updating.{update_named}
@@ -39,6 +39,7 @@ Leaves (WordsRenamed old new) book id row col = ⊤
 Leaves (MergesSet sheet merges) book id row col = ⊤
 Leaves (ProtectionsSet protections) book id row col = ⊤
 Leaves (MetadataSet items) book id row col = ⊤
+Leaves (FilterSet sheet filter) book id row col = ⊤
 
 -- what becomes of a content that stays where it is
 abbrev pub content_kept : Named → BookChange → NameContent → NameContent
@@ -56,6 +57,7 @@ content_kept named (RangeDeleted range) content = content
 content_kept named (MergesSet sheet merges) content = content
 content_kept named (ProtectionsSet protections) content = content
 content_kept named (MetadataSet items) content = content
+content_kept named (FilterSet sheet filter) content = content
 content_kept named (WordsRenamed old new) content = name_content_renamed old new content
 
 -- each of the changes leaves the cell, which is there after it

@@ -3,6 +3,7 @@ pub mod Content
 pub mod Ranges
 pub mod Protections
 pub mod Metadata
+pub mod Filters
 pub mod Sheet
 pub mod Counts
 pub mod Book
@@ -26,3 +27,4 @@ pub mod Leaving
 pub mod Protected
 pub mod ProtectionLaws
 pub mod MetadataLaws
+pub mod FilterLaws

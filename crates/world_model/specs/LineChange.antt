@@ -1,7 +1,7 @@
 -- What a spreadsheet becomes when lines of a sheet are inserted, deleted or moved, by the names of lines:
 -- insertDimension, deleteDimension and moveDimension of the Google Sheets API v4. Cells keep their names, and the
 -- cells of lines that went are gone; each reference to the sheet, each named range, each protected range and each item
--- of metadata of it, and each of its merges follows its lines.
+-- of metadata of it, each of its merges and its basic filter follows its lines.
 use Rattle.std.specs.Prelude.{ℕ, Bool, false, List, length, map, not, Option, None, Some, option_and_then, nat_lt, ◌==◌, ◌&&◌, ◌||◌, if◌then◌else◌}
 use Rattle.std.specs.List.{filter_map}
 use Rattle.std.specs.Option.{option_map, option_map_or}
@@ -15,6 +15,7 @@ use Rattle.grid_range.specs.declared.axis.Axis.TheVariants.{Rows, Columns}
 use Rattle.world_model.specs.Area.{NameArea, name_band_on, with_name_band}
 use Rattle.world_model.specs.Book.{NameBook, orders_of}
 use Rattle.world_model.specs.Content.{NameRef, NamePiece, NameContent}
+use Rattle.world_model.specs.Filters.{NameCriterion, NameFilter}
 use Rattle.world_model.specs.Metadata.{NameItem, NameSpot}
 use Rattle.world_model.specs.Protections.{NameProtection}
 use Rattle.world_model.specs.Ranges.{NameRange}
@@ -91,6 +92,22 @@ name_merge_followed to merge =
     option_and_then (λ area. if has_many_names area.rows || has_many_names area.cols then Some area else None)
     (name_area_followed to merge)
 
+-- a criterion stays with its column while the sheet has that, and goes with it
+abbrev pub name_criterion_followed : LineChange → ℕ → NameCriterion → Option NameCriterion
+name_criterion_followed to sheet criterion =
+    if is_changed to.sheet to.axis sheet Columns && not (is_among to.order criterion.column) then None
+    else Some criterion
+
+-- a filter follows with its area, and is lost with it
+abbrev pub name_filter_followed : LineChange → NameFilter → Option NameFilter
+name_filter_followed to filter =
+    option_map
+    (λ area. record {
+      area = area;
+      criteria = filter_map (name_criterion_followed to filter.area.sheet) filter.criteria;
+    })
+    (name_area_followed to filter.area)
+
 -- the sheet with other lines on the axis
 abbrev pub with_lines : Axis → List ℕ → NameSheet → NameSheet
 with_lines Rows order sheet = record sheet { rows = order }
@@ -103,12 +120,15 @@ cells_followed to sheet row col =
     then option_map (name_content_followed to) (sheet.cells row col)
     else None
 
--- its cells follow, and so do its merges
+-- its cells follow, and so do its merges and its filter
 abbrev pub with_all_followed : LineChange → NameSheet → NameSheet
-with_all_followed to sheet =
-    record sheet { cells = cells_followed to sheet; merges = filter_map (name_merge_followed to) sheet.merges }
+with_all_followed to sheet = record sheet {
+  cells = cells_followed to sheet;
+  merges = filter_map (name_merge_followed to) sheet.merges;
+  filter = option_and_then (name_filter_followed to) sheet.filter;
+}
 
--- the sheet that is changed has the new order, and the cells and merges of all sheets follow
+-- the sheet that is changed has the new order, and the cells, merges and filters of all sheets follow
 abbrev pub sheet_followed : LineChange → NameSheet → NameSheet
 sheet_followed to sheet =
     with_all_followed to (if sheet.id == to.sheet then with_lines to.axis to.order sheet else sheet)

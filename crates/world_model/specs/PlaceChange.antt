@@ -1,10 +1,12 @@
 -- A change of the lines of a sheet by places, which is what a program does: items go with their lines, and the
--- references of formulas, the named ranges, the protected ranges, the metadata and the merges follow by their numbers.
-use Rattle.std.specs.Prelude.{◌≡◌, ◌≢◌, ℕ, map}
+-- references of formulas, the named ranges, the protected ranges, the metadata, the merges and the basic filter follow
+-- by their numbers.
+use Rattle.std.specs.Prelude.{◌≡◌, ◌≢◌, ℕ, map, option_and_then}
 use Rattle.std.specs.List.{AllZip, filter_map}
 use Rattle.std.specs.Option.{option_map}
 use Rattle.grid_range.specs.declared.axis.Axis.{Axis}
 use Rattle.grid_range.specs.declared.change.Change.{Change}
+use Rattle.basic_filter.specs.Following.{filter_followed}
 use Rattle.cell_store.specs.Moved.{GoesWithLines}
 use Rattle.cell_store.specs.Table.{Table, item_at}
 use Rattle.dev_metadata.specs.Following.{item_followed}
@@ -34,8 +36,9 @@ pub record FollowsInPlace (sheet : ℕ) (axis : Axis) (count : ℕ) (change : Ch
   pub items : (row col : ℕ) → item_at after row col
       ≡ option_map (content_followed sheet axis count change) (item_at before row col)
 
--- the items of the sheet that is changed go with their lines, and then each item follows in its place; its merges, each
--- of which a move leaves whole, become those that they are followed to; another sheet keeps its own
+-- the items of the sheet that is changed go with their lines, and then each item follows in its place; its merges,
+-- each of which a move leaves whole, become those that they are followed to, and its filter follows or is lost; another
+-- sheet keeps its own
 pub record SheetChanged (changed : ℕ) (axis : Axis) (count : ℕ) (change : Change) (before after : PlaceSheet) : Type 0 where
   pub id : after.id ≡ before.id
   pub title : after.title ≡ before.title
@@ -47,6 +50,9 @@ pub record SheetChanged (changed : ℕ) (axis : Axis) (count : ℕ) (change : Ch
   pub whole : before.id ≡ changed → KeepsAll axis count change before.merges
   pub merges_follow : before.id ≡ changed → ListsJust (CameFrom axis count change before.merges) after.merges
   pub merges_stay : before.id ≢ changed → after.merges ≡ before.merges
+  pub filter_follows : before.id ≡ changed
+      → after.filter ≡ option_and_then (filter_followed axis count change) before.filter
+  pub filter_stays : before.id ≢ changed → after.filter ≡ before.filter
 
 -- the sheet with the id, which has `count` lines on the axis, is changed, and each sheet, each range, each protection
 -- and each item of metadata follows

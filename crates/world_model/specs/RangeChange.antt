@@ -49,6 +49,7 @@ pub record WordsRenamedIn (old new : List ℕ) (before after : PlaceSheet) : Typ
   pub items : (row col : ℕ) → item_at after.table row col
       ≡ option_map (content_renamed old new) (item_at before.table row col)
   pub merges : after.merges ≡ before.merges
+  pub filter : after.filter ≡ before.filter
 
 pub record PlaceWordsRenamed (old new : List ℕ) (before after : PlaceBook) : Type 0 where
   pub id : after.id ≡ before.id

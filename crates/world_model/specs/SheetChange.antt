@@ -1,9 +1,10 @@
--- What a spreadsheet becomes by places when a sheet is added, is deleted, or gets another title, another mark or other
--- merges, which is what a program does: addSheet, deleteSheet, updateSheetProperties, mergeCells and unmergeCells of
--- the Google Sheets API v4.
-use Rattle.std.specs.Prelude.{◌≡◌, ◌⊎◌, ℕ, Bool, ◌++◌, ◌==◌, List, [], ◌∷◌, map, filter, take, drop, not, if◌then◌else◌}
+-- What a spreadsheet becomes by places when a sheet is added, is deleted, or gets another title, another mark, other
+-- merges or another filter, which is what a program does: addSheet, deleteSheet, updateSheetProperties, mergeCells,
+-- unmergeCells, setBasicFilter and clearBasicFilter of the Google Sheets API v4.
+use Rattle.std.specs.Prelude.{◌≡◌, ◌⊎◌, ℕ, Bool, ◌++◌, ◌==◌, List, [], ◌∷◌, map, filter, take, drop, not, Option, None, if◌then◌else◌}
 use Rattle.std.specs.List.{AllZip, filter_map}
 use Rattle.std.specs.Option.{option_map}
+use Rattle.basic_filter.specs.declared.types.Filter.{Filter}
 use Rattle.cell_store.specs.Table.{empty_table, item_at}
 use Rattle.dev_metadata.specs.Following.{items_elsewhere}
 use Rattle.grid_range.specs.declared.area.Area.{Area}
@@ -28,6 +29,7 @@ new_place_sheet sheet = record {
   hidden = sheet.hidden;
   table = empty_table sheet.rows sheet.cols;
   merges = [];
+  filter = None;
 }
 
 abbrev pub place_sheet_added : ℕ → PlaceSheet → PlaceBook → PlaceBook
@@ -53,6 +55,7 @@ pub record LosesReferences (sheet : ℕ) (before after : PlaceSheet) : Type 0 wh
   pub items : (row col : ℕ) → item_at after.table row col
       ≡ option_map (content_without sheet) (item_at before.table row col)
   pub merges : after.merges ≡ before.merges
+  pub filter : after.filter ≡ before.filter
 
 abbrev pub other_sheets : ℕ → List PlaceSheet → List PlaceSheet
 other_sheets id sheets = filter (λ sheet. not (sheet.id == id)) sheets
@@ -97,3 +100,12 @@ place_merged merges sheet = record sheet { merges = merges }
 -- the merges of the sheet are these and no others
 abbrev pub place_merges_set : ℕ → List Area → PlaceBook → PlaceBook
 place_merges_set id merges book = on_place_sheet id (place_merged merges) book
+
+-- ---- a sheet gets another filter
+
+abbrev pub place_filtered : Option Filter → PlaceSheet → PlaceSheet
+place_filtered given sheet = record sheet { filter = given }
+
+-- the sheet has this filter, or none
+abbrev pub place_filter_set : ℕ → Option Filter → PlaceBook → PlaceBook
+place_filter_set id given book = on_place_sheet id (place_filtered given) book

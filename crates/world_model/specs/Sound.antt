@@ -3,11 +3,13 @@
 -- that this has, and of a form that A1 notation has. Each named range is on a sheet that is there, too, and of lines
 -- that this has; so is the area of each protected range, and each range that it leaves unprotected. Each item of
 -- metadata that lies on a sheet or a line lies on one that is there. The merges of a sheet lie in it, and none overlaps
--- another. The sheets and their places are within the limits.
+-- another; the area of its filter lies in it, and each criterion is of one of its columns. The sheets and their places
+-- are within the limits.
 use Rattle.std.specs.Prelude.{◌≡◌, ◌≢◌, ◌<◌, ◌≤◌, ℕ, false, List, length, Option, ◌==◌, IsSomeAnd, IfSome, ⊤}
 use Rattle.std.specs.List.{All, AllPairs, find, list_all}
 use Rattle.std.specs.Option.{IsSome}
 use Rattle.std.specs.Str.{str_eq_ignore_ascii_case}
+use Rattle.basic_filter.specs.declared.types.Filter.{Filter}
 use Rattle.cell_store.specs.Moved.{lines_on}
 use Rattle.dev_metadata.specs.declared.types.Item.{Item}
 use Rattle.dev_metadata.specs.declared.types.Spot.{Spot}
@@ -83,6 +85,13 @@ abbrev pub AreMergesOf : PlaceSheet → List Area → Type 0
 AreMergesOf sheet merges = AreMerges merges
     × All (λ merge. (merge.sheet ≡ sheet.id) × AreaWithin merge sheet.table.rows sheet.table.cols) merges
 
+-- the sheet can have this filter: its area is of the sheet, and of lines that this has, and each criterion is of a
+-- column of the sheet, in the area or not
+pub record IsFilterOf (sheet : PlaceSheet) (filter : Filter) : Type 0 where
+  pub own : filter.area.sheet ≡ sheet.id
+  pub within : AreaWithin filter.area sheet.table.rows sheet.table.cols
+  pub columns : All (λ criterion. criterion.column < sheet.table.cols) filter.criteria
+
 -- how many rows, and how many columns, a sheet can have (Google Drive help, files you can store: a sheet's last
 -- column is ZZZ; the bound on rows is this project's)
 abbrev pub most_on : Axis → ℕ
@@ -102,6 +111,7 @@ abbrev pub most_places : ℕ
 most_places = 10000000
 
 -- the sheet has a title, a row and a column, each item stands in it, its references are within, and so are its merges
+-- and its filter
 pub record IsSheetSound (sheets : List PlaceSheet) (sheet : PlaceSheet) : Type 0 where
   pub titled : 0 < length sheet.title
   pub rows : IsLineCount Rows sheet.table.rows
@@ -109,6 +119,7 @@ pub record IsSheetSound (sheets : List PlaceSheet) (sheet : PlaceSheet) : Type 0
   pub inside : HasItemsInside sheet.table
   pub within : (row col : ℕ) → IfSome (item_at sheet.table row col) (IsContentWithin sheets)
   pub merges : AreMergesOf sheet sheet.merges
+  pub filter : IfSome sheet.filter (IsFilterOf sheet)
 
 -- titles are one ignoring ASCII case
 pub record IsSound (book : PlaceBook) : Type 0 where

@@ -7,6 +7,7 @@ use Rattle.cell_store.specs.Table.{item_at}
 use Rattle.world_model.specs.Area.{NameArea, area_named}
 use Rattle.world_model.specs.Book.{NameBook, PlaceBook, orders_of}
 use Rattle.world_model.specs.Content.{content_named}
+use Rattle.world_model.specs.Filters.{filter_named}
 use Rattle.world_model.specs.Metadata.{item_named}
 use Rattle.world_model.specs.Protections.{protection_named}
 use Rattle.world_model.specs.Ranges.{range_named}
@@ -15,7 +16,7 @@ use Rattle.world_model.specs.Sound.{IsSound}
 
 -- both have one id, title, mark and size, no line has two names of an order, the item at a place is, with its
 -- references by names, what is stored in the cell of the lines at that place, no other cell has anything, and both have
--- the same merges, whatever their order
+-- the same merges, whatever their order, and the same filter
 pub record SheetStandsFor (sheets : List NameSheet) (sheet : PlaceSheet) (names : NameSheet) : Type 0 where
   pub id : sheet.id ≡ names.id
   pub title : sheet.title ≡ names.title
@@ -29,6 +30,7 @@ pub record SheetStandsFor (sheets : List NameSheet) (sheet : PlaceSheet) (names 
   pub nowhere_else : (r c : ℕ) → ¬ (Contains names.rows r × Contains names.cols c) → names.cells r c ≡ None
   pub merges : (area : NameArea)
       → Contains names.merges area ↔ Contains (map (area_named (orders_of sheets)) sheet.merges) area
+  pub filter : names.filter ≡ option_map (filter_named (orders_of sheets)) sheet.filter
 
 -- what is kept by places is sound, and both are one spreadsheet, sheet by sheet, range by range, protection by
 -- protection and item of metadata by item of metadata

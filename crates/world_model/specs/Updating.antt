@@ -59,6 +59,7 @@ pub record SheetUpdated (sheet : ℕ) (updates : Updates) (before after : PlaceS
   pub cols : after.table.cols ≡ before.table.cols
   pub items : (row col : ℕ) → item_at after.table row col ≡ item_updated sheet updates before row col
   pub merges : after.merges ≡ before.merges
+  pub filter : after.filter ≡ before.filter
 
 pub record BookUpdated (sheet : ℕ) (updates : Updates) (before after : PlaceBook) : Type 0 where
   pub id : after.id ≡ before.id

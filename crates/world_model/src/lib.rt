@@ -3,6 +3,7 @@
 #![tactic(auto)]
 
 mod changing;
+mod filters;
 mod laws;
 mod merges;
 mod metadata;
@@ -12,6 +13,7 @@ mod sheets;
 mod staying;
 
 pub use changing::{changes_apart, changes_in_turn, line_changes_are_changes, updates_are_changes};
+pub use filters::{criteria_follow_columns, filter_is_set};
 pub use laws::{
     changes_follow, changes_stay_sound, filled_within_places, formulas_counted, ids_find,
     replacements_follow, stands_for_apart, stands_for_some, updates_are_writes, updates_follow,

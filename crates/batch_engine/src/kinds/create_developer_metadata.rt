@@ -1,12 +1,16 @@
-ghost use Rattle.std.specs.Prelude.{◌≡◌, ◌<◌, ◌+◌, [], length, nat_lt, IfOk, unwrap_or};
+ghost use Rattle.std.specs.Prelude.{◌≡◌, ◌<◌, ◌+◌, [], None, length, nat_lt, IfOk, unwrap_or};
+ghost use Rattle.cell_value.specs.Ids.{IsLeastUnused, IsNewId, is_taken};
+ghost use Rattle.dev_metadata.specs.Listed.{has_id};
 ghost use Rattle.dev_metadata.specs.SightKind.{sight_given};
+ghost use Rattle.dimension_ops.specs.Broken.{first_broken};
+ghost use Rattle.dimension_ops.specs.MetadataRequests.{MetadataBecomes};
 ghost use Rattle.dimension_ops.specs.Rules.{IsUnlessNoMemory};
-ghost use Rattle.batch_engine.specs.CreateDeveloperMetadata.{IsCreateDeveloperMetadata, IsPutIn, item_made};
+ghost use Rattle.batch_engine.specs.CreateDeveloperMetadata.{IsCreateDeveloperMetadata, item_made, metadata_created_broken, with_item};
 ghost use Rattle.batch_engine.specs.Members.{IsDoneTo};
 ghost use Rattle.batch_engine.specs.Metadata.{most_metadata, spot_of};
 ghost use Rattle.world_model.specs.Sound.{IsSpotWithin};
 
-use crate::metadata::{broken_by_locations, refusal_of, spot_of};
+use crate::metadata::{broken_by_locations, spot_of};
 use cell_value::{Duplicate, NoMemory, Text};
 use dev_metadata::{Item, Sight, SightKind};
 use dimension_ops::{Book, Limit, Rule, RuleOr};
@@ -17,8 +21,7 @@ use std::alloc::Global;
 /// How many items of metadata a spreadsheet can have.
 const MOST_METADATA: u64 = 10_000;
 
-/// Creates an item of metadata, and replies it. That its id is taken is told before that there are too many, so the
-/// item is put in first. To more than a `u32` counts none is added, as for want of memory; no request makes so many.
+/// Creates an item of metadata, and replies it.
 pub(crate) fn create_developer_metadata(
     alloc: Global,
     book: &mut Book,
@@ -28,20 +31,42 @@ pub(crate) fn create_developer_metadata(
     ensures { IsUnlessNoMemory (IsDoneTo (IsCreateDeveloperMetadata project.now asked.now book.old)
         book.old book.new) result }
 {
-    if let Some(rule) = broken_by_locations(book, &[asked.location]) {
+    if let Some(rule) = broken(book, asked) {
         return Err(RuleOr::Rule(rule));
     }
-    let count = book.metadata().count();
-    if count >= u64::from(u32::MAX) {
-        return Err(RuleOr::NoMemory);
-    }
     let id = created(alloc, book, project, asked)?;
-    if is_full(count) {
-        return Err(RuleOr::Rule(Rule::PastLimit(Limit::Metadata)));
-    }
     Ok(Reply::CreateDeveloperMetadata {
         developer_metadata: item_of(alloc, project, asked, id)?,
     })
+}
+
+/// The first rule that is broken, if one is.
+fn broken(book: &Book, asked: &NewMetadata) -> Option<Rule>
+    ensures broken { result ≡ first_broken (metadata_created_broken asked.now book.now) }
+    ensures within { result ≡ None → IsSpotWithin book.now.sheets (spot_of asked.now.location) }
+    ensures room { result ≡ None → length book.now.metadata < 4294967295 }
+{
+    if let Some(rule) = broken_by_locations(book, &[asked.location]) {
+        return Some(rule);
+    }
+    if is_taken(book, asked.metadata_id) {
+        return Some(Rule::IdTaken);
+    }
+    let count = book.metadata().count();
+    if is_full(count) {
+        return Some(Rule::PastLimit(Limit::Metadata));
+    }
+    None
+}
+
+/// Whether an item has the id that is asked for, whether the project sees it or not.
+fn is_taken(book: &Book, id: Option<u32>) -> bool
+    ensures { result ≡ is_taken (has_id book.now.metadata) id }
+{
+    match id {
+        Some(id) => book.metadata().has_id(id),
+        None => false,
+    }
 }
 
 /// Whether a spreadsheet with so many items of metadata can't have one more.
@@ -57,10 +82,12 @@ fn created(
     book: &mut Book,
     project: &str,
     asked: &NewMetadata,
-) -> Result<u32, RuleOr>
+) -> Result<u32, NoMemory>
     requires within { IsSpotWithin book.old.sheets (spot_of asked.now.location) }
     requires room { length book.old.metadata < 4294967295 }
-    ensures { IsUnlessNoMemory (IsPutIn project.now asked.now book.old book.new) result }
+    ensures id { IfOk result (IsNewId (IsLeastUnused (has_id book.old.metadata)) asked.now.metadata_id) }
+    ensures put { IfOk result (λ id. MetadataBecomes
+        (with_item (item_made project.now asked.now id) book.old.metadata) book.old book.new) }
 {
     let key = asked.metadata_key.duplicate()?;
     let value = value_of(alloc, asked)?;
@@ -68,7 +95,7 @@ fn created(
     let spot = spot_of(&asked.location);
     match book.create_item(asked.metadata_id, key, value, spot, sight) {
         Ok(id) => Ok(id),
-        Err(fault) => Err(refusal_of(fault)),
+        Err(_) => Err(NoMemory),
     }
 }
 

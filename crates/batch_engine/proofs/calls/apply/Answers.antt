@@ -1,10 +1,10 @@
-use Rattle.std.proofs.Common.{◌≡◌, ap, sym, subst, ◌∙◌}
-use Rattle.std.specs.Prelude.{IfOk}
+use Rattle.std.proofs.Common.{ap, sym, subst, ◌∙◌}
+use Rattle.std.specs.Prelude.{IfOk, false, unwrap_or}
 use Rattle.std.specs.Option.{IsSome}
 use Rattle.dimension_ops.specs.World.{book_with}
 use Rattle.batch_engine.specs.Calls.{AreNext, IsAnswered, IsAppendOf, IsApplied, IsBatchOf, IsClearManyOf, IsInstalled, IsWriteManyOf, told_as}
-use Rattle.batch_engine.specs.Looks.{looked}
-use Rattle.batch_engine.proofs.Installed.{if_ok, made_applied, making_judged, item_applied, item_judged, read_applied, read_filtered_applied, read_judged, search_applied}
+use Rattle.batch_engine.specs.Looks.{IsSpreadsheetShown}
+use Rattle.batch_engine.proofs.Installed.{if_ok, made_applied, making_judged, read_applied, read_judged, item_applied, item_judged, read_filtered_applied, search_applied}
 use Rattle.batch_engine.proofs.Installed.{applied_change, change_there, look_applied, write_there, write_applied, clear_there, clear_applied, lone_applied, lone_there}
 use Rattle.batch_engine.proofs.calls.apply.Goals as goal
 
@@ -123,14 +123,15 @@ returns-in_ok-batch-in-Batch c =
     c.in_ok-batch-in-Batch.field-0 applied.outcome applied.next
     (rw (c.as_slice-in-Batch.ensures, c.as_str-user-in-Batch.ensures, c.as_str-project.ensures) at c.in_ok-batch-in-Batch.ensures) installed) c.changed-in-Batch.ensures
 
-pub returns-in_ok-told-in-Get : goal.returns-in_ok-told-in-Get
-returns-in_ok-told-in-Get c =
+pub returns-in_ok-shown-in-Get : goal.returns-in_ok-shown-in-Get
+returns-in_ok-shown-in-Get c =
     look_applied c.args.world.now c.book_of-book-in-Get.result.now c.args.caller.now c.args.call.now c.unchanged-in-Get.result.outcome
     c.unchanged-in-Get.result.next c.unchanged-in-Get.ensures.next _ _ c.in-Get.is
     (rw c.as_str-in-Get.ensures at c.book_of-book-in-Get.ensures)
-    c.in_ok-told-in-Get.told (subst
-    (λ user. c.in_ok-told-in-Get.told ≡ looked user c.in-Get.include_grid_data c.book_of-book-in-Get.result.now)
-    c.as_str-in-Get-2.ensures c.in_ok-told-in-Get.ensures) c.unchanged-in-Get.ensures.outcome
+    c.in_ok-shown-in-Get.shown (subst
+    (λ user. IsSpreadsheetShown user (unwrap_or c.in-Get.include_grid_data false) c.book_of-book-in-Get.result.now
+    c.in_ok-shown-in-Get.shown)
+    c.as_str-in-Get-2.ensures c.in_ok-shown-in-Get.ensures) c.unchanged-in-Get.ensures.outcome
 
 pub returns-in_ok-told-in-Create : goal.returns-in_ok-told-in-Create
 returns-in_ok-told-in-Create c =

@@ -18,6 +18,7 @@ returns-then-keeps_places c = record {
   title = refl;
   hidden = refl;
   merges = refl;
+  filter = refl;
   followed = nothing_follows c.args.by.now.sheet c.args.by.now.axis c.args.by.now.count c.args.by.now.change.now
       (sym c.keeps_places.ensures ∙ c.if-keeps_places.true) (arc_value c.args.sheet).table c.requires.within;
 }
@@ -35,6 +36,7 @@ returns-then-is_empty c =
       title = refl;
       hidden = refl;
       merges = refl;
+      filter = refl;
       followed = unreferred c.args.by.now.sheet c.args.by.now.axis c.args.by.now.count c.args.by.now.change.now
           (arc_value c.args.sheet).table are;
     }

@@ -26,6 +26,8 @@ returns-then-keeps_places c = record {
   whole = λ _. c.in_ok-moved.ensures.whole;
   merges_follow = λ _. c.in_ok-moved.ensures.merges;
   merges_stay = λ other. absurd (other c.requires.own);
+  filter_follows = λ _. c.in_ok-moved.ensures.filter;
+  filter_stays = λ other. absurd (other c.requires.own);
   followed = nothing_follows c.args.by.now.sheet c.args.by.now.axis c.args.by.now.count c.args.by.now.change.now
       (sym c.keeps_places.ensures ∙ c.if-keeps_places.true) c.in_ok-moved.moved.table
       (moved_within c.args.by.now.sheet c.args.by.now.axis c.args.by.now.count c.args.by.now.change.now
@@ -44,5 +46,7 @@ returns c = record {
   merges_follow = λ _. subst (ListsJust (CameFrom c.args.by.now.axis c.args.by.now.count c.args.by.now.change.now
       c.args.sheet.merges)) (sym c.in_ok-follow.ensures.merges) c.in_ok-moved.ensures.merges;
   merges_stay = λ other. absurd (other c.requires.own);
+  filter_follows = λ _. c.in_ok-follow.ensures.filter ∙ c.in_ok-moved.ensures.filter;
+  filter_stays = λ other. absurd (other c.requires.own);
   followed = c.in_ok-follow.ensures.followed;
 }

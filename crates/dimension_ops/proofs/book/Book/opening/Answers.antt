@@ -1,5 +1,5 @@
 use Rattle.std.proofs.Common.{◌≡◌, ℕ, sym, ap, subst, ◌∙◌, List, [], ◌∷◌, ◌++◌}
-use Rattle.std.specs.Prelude.{map}
+use Rattle.std.specs.Prelude.{None, map}
 use Rattle.std.specs.Arc.{arc_value}
 use Rattle.std.proofs.Common.{false}
 use Rattle.cell_store.specs.Table.{empty_table}
@@ -11,7 +11,14 @@ use Rattle.dimension_ops.proofs.Opening.{opening_sound}
 use Rattle.dimension_ops.proofs.book.Book.opening.Goals as goal
 
 abbrev titled : List ℕ → PlaceSheet
-titled title = record { id = 0; title = title; hidden = false; table = empty_table 1000 26; merges = [] }
+titled title = record {
+  id = 0;
+  title = title;
+  hidden = false;
+  table = empty_table 1000 26;
+  merges = [];
+  filter = None;
+}
 
 pub invariant_of-result : goal.invariant_of-result
 invariant_of-result c =

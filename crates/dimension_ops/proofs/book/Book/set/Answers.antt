@@ -8,7 +8,7 @@ use Rattle.world_model.specs.SheetChange.{on_place_sheet}
 use Rattle.world_model.specs.Sound.{IsSound, place_sheet_with}
 use Rattle.dimension_ops.specs.Parts.{with_part}
 use Rattle.dimension_ops.specs.declared.part.Part.{Part}
-use Rattle.dimension_ops.specs.declared.part.Part.TheVariants.{Title, Hidden, Merges}
+use Rattle.dimension_ops.specs.declared.part.Part.TheVariants.{Title, Hidden, Merges, BasicFilter}
 use Rattle.dimension_ops.proofs.Finding.{there_seen}
 use Rattle.dimension_ops.proofs.Marking.{has_id, has_place, ids_kept, kept_book, place_found, seen_changed}
 use Rattle.dimension_ops.proofs.Putting.{seen_kept}
@@ -19,6 +19,7 @@ keeps_id : (part : Part) (sheet : PlaceSheet) → (with_part part sheet).id ≡ 
 keeps_id (Title title) sheet = refl
 keeps_id (Hidden hidden) sheet = refl
 keeps_id (Merges merges) sheet = refl
+keeps_id (BasicFilter filter) sheet = refl
 
 pub index_mut-requires : goal.index_mut-requires
 index_mut-requires c =

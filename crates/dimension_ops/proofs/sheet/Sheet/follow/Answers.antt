@@ -12,6 +12,7 @@ returns c = record {
   title = ap (λ (sheet : PlaceSheet). sheet.title) c.self.view_is;
   hidden = ap (λ (sheet : PlaceSheet). sheet.hidden) c.self.view_is;
   merges = ap (λ (sheet : PlaceSheet). sheet.merges) c.self.view_is;
+  filter = ap (λ (sheet : PlaceSheet). sheet.filter) c.self.view_is;
   followed = subst (λ (sheet : PlaceSheet). FollowsInPlace c.args.by.now.sheet c.args.by.now.axis c.args.by.now.count
       c.args.by.now.change.now sheet.table c.follow_places.new.cells.table) c.self.view_is
       (subst (FollowsInPlace c.args.by.now.sheet c.args.by.now.axis c.args.by.now.count c.args.by.now.change.now
@@ -27,7 +28,6 @@ invariant_of-self c = (
   c.self.invariant.0 ∙ sym c.follow_places.ensures.formulas.count,
   kept_marked c.self.inside.cells.table c.follow_places.new.cells.table c.self.inside.marks.table c.follow_places.ensures.formulas
       c.self.invariant.1,
-  c.self.invariant.2,
 )
 
 pub invariant_of-self-2 : goal.invariant_of-self-2
@@ -35,5 +35,4 @@ invariant_of-self-2 c = (
   c.self.invariant.0 ∙ sym c.follow_places.ensures.formulas.count,
   kept_marked c.self.inside.cells.table c.follow_places.new.cells.table c.self.inside.marks.table c.follow_places.ensures.formulas
       c.self.invariant.1,
-  c.self.invariant.2,
 )

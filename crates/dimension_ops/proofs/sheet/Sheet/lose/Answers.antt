@@ -17,6 +17,7 @@ returns c =
       title = ap (λ (sheet : PlaceSheet). sheet.title) c.self.view_is;
       hidden = ap (λ (sheet : PlaceSheet). sheet.hidden) c.self.view_is;
       merges = ap (λ (sheet : PlaceSheet). sheet.merges) c.self.view_is;
+      filter = ap (λ (sheet : PlaceSheet). sheet.filter) c.self.view_is;
       rows = ap (λ table. table.rows) c.in_ok-lose_places.ensures.lost
           ∙ rows_stay c.args.sheet c.self.inside.cells.table c.args.places.now are
           ∙ ap (λ (sheet : PlaceSheet). sheet.table.rows) c.self.view_is;
@@ -35,7 +36,6 @@ invariant_of-self c = (
   c.self.invariant.0 ∙ sym c.lose_places.ensures.formulas.count,
   kept_marked c.self.inside.cells.table c.lose_places.new.cells.table c.self.inside.marks.table c.lose_places.ensures.formulas
       c.self.invariant.1,
-  c.self.invariant.2,
 )
 
 pub invariant_of-self-2 : goal.invariant_of-self-2
@@ -43,5 +43,4 @@ invariant_of-self-2 c = (
   c.self.invariant.0 ∙ sym c.lose_places.ensures.formulas.count,
   kept_marked c.self.inside.cells.table c.lose_places.new.cells.table c.self.inside.marks.table c.lose_places.ensures.formulas
       c.self.invariant.1,
-  c.self.invariant.2,
 )

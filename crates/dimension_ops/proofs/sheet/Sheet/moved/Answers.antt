@@ -1,9 +1,10 @@
 use Rattle.std.proofs.Common.{◌≡◌, sym, ap, subst, ◌∙◌}
+use Rattle.std.specs.Prelude.{IfSome}
 use Rattle.cell_store.specs.Moved.{lines_on}
 use Rattle.merge_ranges.specs.Following.{AreWithin}
 use Rattle.world_model.specs.Sheet.{PlaceSheet}
 use Rattle.dimension_ops.specs.Lines.{keeps_places}
-use Rattle.dimension_ops.specs.References.{TearsNone}
+use Rattle.dimension_ops.specs.References.{CanFollow, TearsNone}
 use Rattle.dimension_ops.proofs.Marked.{moved_marked}
 use Rattle.dimension_ops.proofs.Unmoved.{count_stays}
 use Rattle.dimension_ops.proofs.sheet.Sheet.moved.Goals as goal
@@ -17,6 +18,11 @@ pub merges_followed-requires-clause-untorn : goal.merges_followed-requires-claus
 merges_followed-requires-clause-untorn c =
     subst (λ (sheet : PlaceSheet). TearsNone c.args.by.now.axis c.args.by.now.count c.args.by.now.change.now sheet.merges)
     (sym c.self.view_is) c.requires.ready.untorn
+
+pub filter_followed-filter-requires-clause-ready : goal.filter_followed-filter-requires-clause-ready
+filter_followed-filter-requires-clause-ready c =
+    subst (λ (sheet : PlaceSheet). IfSome sheet.filter (CanFollow c.args.by.now.axis c.args.by.now.count))
+    (sym c.self.view_is) c.requires.ready.filter
 
 pub counted_again-requires : goal.counted_again-requires
 counted_again-requires c =
@@ -40,5 +46,4 @@ invariant_of-result c = (
   moved_marked c.args.by.now.axis c.args.by.now.change.now c.self.inside.cells.table c.change.new.self.table
       c.self.inside.marks.table c.change-2.new.self.table c.in_ok-change.ensures.moved c.in_ok-change-2.ensures.moved
       c.self.invariant.1,
-  c.self.invariant.2,
 )

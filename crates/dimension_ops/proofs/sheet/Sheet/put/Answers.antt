@@ -8,7 +8,6 @@ pub invariant_of-self : goal.invariant_of-self
 invariant_of-self c = (
   c.self.invariant.0,
   c.put_mark.ensures.others c.self.inside.cells.table c.self.invariant.1,
-  c.self.invariant.2,
 )
 
 pub invariant_of-self-in_err-old : goal.invariant_of-self-in_err-old
@@ -16,7 +15,6 @@ invariant_of-self-in_err-old c = (
   c.self.invariant.0 ∙ sym (ap formulas_in c.in_err-old.ensures.unchanged),
   subst (λ table. AreMarked table c.put_mark.new.marks.table) (sym c.in_err-old.ensures.unchanged)
       (c.put_mark.ensures.others c.self.inside.cells.table c.self.invariant.1),
-  c.self.invariant.2,
 )
 
 pub invariant_of-self-2 : goal.invariant_of-self-2
@@ -40,5 +38,4 @@ invariant_of-self-2 c =
           (written_marked table after c.put_mark.new.marks.table c.args.row c.args.column c.args.content put
           (λ some. c.in_ok-put_mark.ensures.marked (omega (arith, some, c.formulas_at-added.ensures)))
           (c.put_mark.ensures.others table c.self.invariant.1)),
-      c.self.invariant.2,
     )

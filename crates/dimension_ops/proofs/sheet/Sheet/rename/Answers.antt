@@ -20,6 +20,7 @@ returns c =
       title = ap (λ (sheet : PlaceSheet). sheet.title) c.self.view_is;
       hidden = ap (λ (sheet : PlaceSheet). sheet.hidden) c.self.view_is;
       merges = ap (λ (sheet : PlaceSheet). sheet.merges) c.self.view_is;
+      filter = ap (λ (sheet : PlaceSheet). sheet.filter) c.self.view_is;
       rows = ap (λ table. table.rows) c.in_ok-rename_places.ensures.renamed
           ∙ rows_stay becomes (has_word c.args.old.now) stays c.self.inside.cells.table c.args.places.now are
           ∙ ap (λ (sheet : PlaceSheet). sheet.table.rows) c.self.view_is;
@@ -38,7 +39,6 @@ invariant_of-self c = (
   c.self.invariant.0 ∙ sym c.rename_places.ensures.formulas.count,
   kept_marked c.self.inside.cells.table c.rename_places.new.cells.table c.self.inside.marks.table
       c.rename_places.ensures.formulas c.self.invariant.1,
-  c.self.invariant.2,
 )
 
 pub invariant_of-self-2 : goal.invariant_of-self-2
@@ -46,5 +46,4 @@ invariant_of-self-2 c = (
   c.self.invariant.0 ∙ sym c.rename_places.ensures.formulas.count,
   kept_marked c.self.inside.cells.table c.rename_places.new.cells.table c.self.inside.marks.table
       c.rename_places.ensures.formulas c.self.invariant.1,
-  c.self.invariant.2,
 )
