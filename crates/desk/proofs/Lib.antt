@@ -1,5 +1,9 @@
 pub mod Readings
+pub mod Splits
 pub mod Lists
+pub mod Journals
+pub mod Accepts
+pub mod Openings
 pub mod States
 pub mod Replies
 pub mod Places

@@ -19,12 +19,12 @@ parts_same (p ∷ a) (q ∷ b) x y long same =
     let rest = parts_same a b x y (omega (arith, long)) (ap (λ (l : List ℕ). drop 1 l) same) in
     (ap (λ (h : ℕ). h ∷ a) (ap (λ (l : List ℕ). get_or l 0 0) same) ∙ ap (λ (l : List ℕ). q ∷ l) rest.0, rest.1)
 
-field_front : (a b x y : List ℕ) → field_text a ++ x ≡ field_text b ++ y → (a ≡ b) × (x ≡ y)
+pub field_front : (a b x y : List ℕ) → field_text a ++ x ≡ field_text b ++ y → (a ≡ b) × (x ≡ y)
 field_front a b x y same =
     let front = four_front (length a) (length b) (a ++ x) (b ++ y) same in
     parts_same a b x y front.0 front.1
 
-text_before : (entry : Entry) (x : List ℕ)
+pub text_before : (entry : Entry) (x : List ℕ)
     → entry_text entry ++ x ≡ four entry.caller ++ (field_text entry.user ++ (field_text entry.project
     ++ (field_text entry.target ++ (field_text entry.body ++ x))))
 text_before entry x =

@@ -1,5 +1,5 @@
 -- What a state keeps, after a call that is refused, kept or marked.
-use Rattle.std.proofs.Common.{◌≡◌, ◌≢◌, inl, ℕ, ◌+◌, ◌<◌, ◌≤◌, true, false, List, [], ◌∷◌, ◌++◌, length, sym, ap, subst, ◌∙◌, arith, min, length-append}
+use Rattle.std.proofs.Common.{◌≡◌, ◌≢◌, inl, refl, ℕ, ◌+◌, ◌<◌, ◌≤◌, true, false, List, [], ◌∷◌, ◌++◌, length, sym, ap, subst, ◌∙◌, arith, min, length-append}
 use Rattle.std.specs.Prelude.{Option, Some, None, IfSome, nat_eq}
 use Rattle.std.specs.Option.{option_map}
 use Rattle.std.proofs.lemmas.Bool.{lt-ltb, le-ltb}
@@ -9,15 +9,16 @@ use Rattle.desk.specs.declared.entry.Entry.{Entry}
 use Rattle.desk.specs.declared.entry.Ask.{Ask}
 use Rattle.desk.specs.declared.entry.Noted.{Noted}
 use Rattle.desk.specs.declared.entry.Noted.TheVariants as noted
-use Rattle.desk.specs.Journal.{entry_text, journal_text, FieldsFit}
+use Rattle.desk.specs.Journal.{entry_text, journal_text, FieldsFit, IsJournalOf}
 use Rattle.desk.specs.Keeping.{with_piece, IsTornPut}
 use Rattle.desk.specs.Noting.{piece_of, is_first, place_of, IsTornBehind, IsKept, IsMarked, IsNoted}
 use Rattle.desk.specs.declared.noting.Noting.{Noting}
 use Rattle.desk.specs.declared.noting.Noting.TheVariants as noting
 use Rattle.desk.specs.Steps.{entry_of, is_full}
-use Rattle.desk.specs.Points.{entries_of, last_counted, marked_last, IsJournal, Keeps, IsSound}
+use Rattle.desk.specs.Points.{entries_of, last_counted, marked_last, AreOneMore, Keeps, IsSound}
 use Rattle.desk.specs.Entries.{entries_entry, entries_mark}
-use Rattle.desk.proofs.Lists.{counted_entry, counted_mark, journal_length, few_entries, put_keeps, marked_more, torn_keeps, entry_length, size_same}
+use Rattle.desk.proofs.Lists.{counted_entry, counted_mark, journal_length, few_entries, marked_more, entry_length, size_same}
+use Rattle.desk.proofs.Journals.{Fits, just_journal, put_keeps, torn_keeps}
 
 -- ---- the world, the counts and what is kept
 
@@ -65,7 +66,12 @@ module _ {W : Type 0} (stands : W → List Entry → Type 0) where
     where
       whole_keeps : (k : Option (List ℕ)) → IfSome k (λ b. b ≡ journal_text (entries_of list')) → Keeps k list'
       whole_keeps None whole = tt
-      whole_keeps (Some b) whole = λ _. inl whole
+      whole_keeps (Some b) whole = (
+        entries_of list',
+        [],
+        subst (λ (l : List ℕ). IsJournalOf l (entries_of list') []) (sym whole) (just_journal (entries_of list')),
+        inl refl,
+      )
 
   -- where a mark was added
   pub sound_mark : (world : W) (list list' : List Noted) (entries bytes limit opened failures failures' : ℕ)
@@ -86,10 +92,10 @@ module _ {W : Type 0} (stands : W → List Entry → Type 0) where
         failures_is = sym put.after_is ∙ sym (counted_mark opened list e before after)
             ∙ ap (last_counted opened) (sym put.list_is);
         keeps = subst (λ (l : List Noted). Keeps kept' l) (sym put.list_is)
-            (subst (λ (es : List Entry). IfSome kept' (λ bytes. es ≢ [] → IsJournal es
-            (marked_last [] (list ++ noted.Mark e before after ∷ [])) bytes)) (sym (entries_mark list e before after))
-            (subst (λ (marks : List Entry). IfSome kept' (λ bytes. entries_of list ≢ [] → IsJournal (entries_of list)
-            marks bytes)) (sym (marked_more [] list e before after))
+            (subst (λ (es : List Entry). IfSome kept' (Fits es (marked_last [] (list ++ noted.Mark e before after ∷ []))))
+            (sym (entries_mark list e before after))
+            (subst (λ (marks : List Entry). IfSome kept' (Fits (entries_of list) marks))
+            (sym (marked_more [] list e before after))
             (torn_keeps kept kept' (entries_of list) (marked_last [] list) e sound.keeps
             (subst (λ (p : List ℕ). IsTornPut kept kept' (place_of (entries_of list)) p) piece_is
             (subst (λ (n : ℕ). IsTornPut kept kept' n piece) at_is put.kept_is)))));

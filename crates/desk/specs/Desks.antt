@@ -14,6 +14,10 @@ list_at desk = list_of (opened_with desk.lock)
 abbrev pub pair_at : {E K W A : Type 0} → Desk E K W A → ℕ × ℕ
 pair_at desk = pair_of (opened_with desk.lock)
 
+-- the keeper at the opening
+abbrev pub keeper_at : {E K W A : Type 0} → Desk E K W A → K
+keeper_at desk = (opened_with desk.lock).keeper
+
 -- how many numbers of passes there are
 abbrev pub callers_at : {E K W A : Type 0} → Desk E K W A → ℕ
 callers_at desk = callers_of desk.lock

@@ -28,9 +28,13 @@ abbrev pub entries_text : List Entry → List ℕ
 entries_text [] = []
 entries_text (entry ∷ entries) = entry_text entry ++ entries_text entries
 
+-- the eight bytes that a journal begins with
+abbrev pub heading : List ℕ
+heading = codes "SHEETJ01"
+
 -- the journal of a history
 abbrev pub journal_text : List Entry → List ℕ
-journal_text entries = codes "SHEETJ01" ++ entries_text entries
+journal_text entries = heading ++ entries_text entries
 
 -- no whole entry stands at the beginning
 abbrev pub IsTorn : List ℕ → Type 0
@@ -40,6 +44,12 @@ IsTorn rest = (entry : Entry) (behind : List ℕ) → rest ≢ entry_text entry 
 pub record IsReading (bytes : List ℕ) (entries : List Entry) (rest : List ℕ) : Type 0 where
   pub parts : bytes ≡ entries_text entries ++ rest
   pub torn : IsTorn rest
+
+-- The bytes are a journal of these entries, with a torn rest behind them. No bytes, or a beginning of the eight, are a
+-- journal without entries.
+pub data IsJournalOf (bytes : List ℕ) (entries : List Entry) (rest : List ℕ) : Type 0 where
+  cut_short : (behind : List ℕ) → heading ≡ bytes ++ behind → entries ≡ [] → rest ≡ [] → IsJournalOf bytes entries rest
+  whole : (body : List ℕ) → bytes ≡ heading ++ body → IsReading body entries rest → IsJournalOf bytes entries rest
 
 -- a list of bytes has at most one reading
 abbrev pub HasOneReading : Type 0

@@ -1,4 +1,6 @@
 pub mod Journal
+pub mod Histories
+pub mod Opening
 pub mod Steps
 pub mod Points
 pub mod Entries

@@ -1,5 +1,5 @@
 -- What comes of the put of an accepted call's piece.
-use Rattle.std.specs.Prelude.{◌≡◌, ℕ, List, [], ◌∷◌, ◌++◌, length, Option, Bool, true, false, if◌then◌else◌, codes}
+use Rattle.std.specs.Prelude.{◌≡◌, ℕ, List, [], ◌∷◌, ◌++◌, length, Option, Bool, true, false, if◌then◌else◌}
 use Rattle.std.specs.Option.{option_map}
 use Rattle.cell_value.specs.FaultCount.{Rose}
 use Rattle.desk.specs.declared.entry.Entry.{Entry}
@@ -9,7 +9,7 @@ use Rattle.desk.specs.declared.entry.Noted.TheVariants as noted
 use Rattle.desk.specs.declared.noting.Noting.{Noting}
 use Rattle.desk.specs.declared.noting.Noting.TheVariants as noting
 use Rattle.desk.specs.declared.noting.Prepared.{Prepared}
-use Rattle.desk.specs.Journal.{entry_text, journal_text}
+use Rattle.desk.specs.Journal.{heading, entry_text, journal_text}
 use Rattle.desk.specs.Keeping.{with_piece, IsTornPut}
 use Rattle.desk.specs.Steps.{entry_of, unavailable_body}
 
@@ -38,7 +38,7 @@ IsNoted entry at piece list list' kept kept' failures failures' (noting.Marked b
 
 -- the piece of an entry: the first one begins with the journal's eight bytes
 abbrev pub piece_of : Bool → Entry → List ℕ
-piece_of first entry = if first then codes "SHEETJ01" ++ entry_text entry else entry_text entry
+piece_of first entry = if first then heading ++ entry_text entry else entry_text entry
 
 -- whether the next piece is the first, and where it goes
 abbrev pub is_first : List Entry → Bool

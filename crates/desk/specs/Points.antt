@@ -1,5 +1,5 @@
 -- The list that a desk tells, and what a call is at a point of it.
-use Rattle.std.specs.Prelude.{◌≡◌, ◌≢◌, ◌⊎◌, ℕ, ◌≤◌, ◌<◌, Bool, true, List, [], ◌∷◌, ◌++◌, All, length, take, drop, Option, Some, None, IfSome, if◌then◌else◌}
+use Rattle.std.specs.Prelude.{◌≡◌, ◌⊎◌, ℕ, ◌≤◌, ◌<◌, Bool, true, List, [], ◌∷◌, ◌++◌, All, length, take, drop, Option, Some, None, IfSome, if◌then◌else◌}
 use Rattle.std.specs.List.{Contains}
 use Rattle.cell_value.specs.FaultCount.{Rose}
 use Rattle.history_lock.specs.History.{StartsWith, NoneOf, AreSilent}
@@ -11,7 +11,7 @@ use Rattle.desk.specs.declared.entry.Ask.{Ask}
 use Rattle.desk.specs.declared.entry.Reply.{Reply}
 use Rattle.desk.specs.declared.entry.Noted.{Noted}
 use Rattle.desk.specs.declared.entry.Noted.TheVariants as noted
-use Rattle.desk.specs.Journal.{journal_text, entry_text}
+use Rattle.desk.specs.Journal.{journal_text, IsJournalOf}
 use Rattle.desk.specs.Keeping.{StaysSteady}
 use Rattle.desk.specs.Steps.{Outcome, entry_of, StepsTo, unavailable_body}
 
@@ -69,17 +69,21 @@ marked_last marks [] = marks
 marked_last marks (noted.Entry entry ∷ items) = marked_last [] items
 marked_last marks (noted.Mark entry before after ∷ items) = marked_last (marks ++ entry ∷ []) items
 
--- the journal of the entries, or that and a beginning of the piece of one entry more, which has one of these marks
-abbrev pub IsJournal : List Entry → List Entry → List ℕ → Type 0
-IsJournal entries marks bytes =
-    (bytes ≡ journal_text entries)
-    ⊎ ((entry : Entry) × (count : ℕ) × Contains marks entry
-    × (bytes ≡ journal_text entries ++ take count (entry_text entry)))
+-- the entries are those of the history, or these and one more, which has one of these marks
+abbrev pub AreOneMore : List Entry → List Entry → List Entry → Type 0
+AreOneMore history marks entries =
+    (entries ≡ history) ⊎ ((entry : Entry) × Contains marks entry × (entries ≡ history ++ entry ∷ []))
 
--- where there is an entry, the bytes that are kept are the journal of the entries, but for the torn piece of a mark
--- behind the last one
+-- the bytes are the journal of the list's entries, or of these and one entry more, which has a mark behind the last; a
+-- torn rest may stand behind them
+abbrev pub IsJournalFor : List Noted → List ℕ → Type 0
+IsJournalFor list bytes =
+    (entries : List Entry) × (rest : List ℕ) × IsJournalOf bytes entries rest
+    × AreOneMore (entries_of list) (marked_last [] list) entries
+
+-- the bytes that are kept are such a journal
 abbrev pub Keeps : Option (List ℕ) → List Noted → Type 0
-Keeps kept list = IfSome kept (λ bytes. entries_of list ≢ [] → IsJournal (entries_of list) (marked_last [] list) bytes)
+Keeps kept list = IfSome kept (IsJournalFor list)
 
 -- ---- a call at a point
 

@@ -48,6 +48,11 @@ abbrev pub HasOneCount : (List Entry → ℕ → Type 0) → Type 0
 HasOneCount cells =
     (entries : List Entry) (count other : ℕ) → cells entries count → cells entries other → count ≡ other
 
+-- a history has one text that tells what its calls made
+abbrev pub HasOneDump : (List Entry → List ℕ → Type 0) → Type 0
+HasOneDump dumps =
+    (entries : List Entry) (text other : List ℕ) → dumps entries text → dumps entries other → text ≡ other
+
 -- each outcome is one that an engine answers
 abbrev pub AreServed : (List Entry → Ask → Outcome → Type 0) → Type 0
 AreServed plain =

@@ -1,12 +1,14 @@
 ghost use Rattle.std.specs.Prelude.{◌≡◌, ◌≢◌, ◌≤◌, ◌<◌, ◌+◌, ◌++◌, ℕ, List, [], ◌∷◌, length, drop, Some, None, IfOk};
-ghost use Rattle.std.specs.Prelude.{IfErr, IfSome, max, ◌⊎◌};
+ghost use Rattle.std.specs.Prelude.{IfErr, IfSome, IsTrue, max, ◌⊎◌};
+ghost use Rattle.cell_value.specs.FaultCount.{Rose};
 ghost use Rattle.history_lock.specs.History.{StartsWith, NoneOf, longer};
 ghost use Rattle.history_lock.specs.declared.view.Drawing.TheVariants.{Alone, Shared, Never};
 ghost use Rattle.history_lock.specs.Passes.{seen_by, number_of, given_by, count_of, drawing_of, met_by};
 ghost use Rattle.desk.specs.declared.entry.Noted.{Noted};
 ghost use Rattle.desk.specs.Points.{IsCallAt, IsClosed, AreCountsOf, caller_of};
+ghost use Rattle.desk.specs.Opening.{HasOpened, HasOnlyLoaded, HasLongJournal, HasBadJournal};
 
-use crate::{Ask, Engine, History, Keeper, Noted, Reply, State};
+use crate::{Ask, Engine, History, Keeper, Noted, OpenFault, Reply, State};
 use cell_value::NoMemory;
 use history_lock::{Lock, Spent, Told};
 use std::alloc::Global;
@@ -41,35 +43,53 @@ pub struct Desk<E: Engine, K: Keeper> {
 }
 
 impl<E: Engine, K: Keeper> Desk<E, K> {
-    ghost use Rattle.desk.specs.Desks.{IsPass, pair_at, list_at, callers_at};
+    ghost use Rattle.desk.specs.Desks.{IsPass, pair_at, list_at, keeper_at, callers_at};
 
-    /// A desk for this many callers, with an empty history, and the pass of number 0, which alone draws numbers.
-    /// Nothing is loaded of what the keeper has; the first put begins at its first byte.
+    /// A desk for this many callers, with the history whose journal the keeper has, and the pass of number 0, which has
+    /// seen it and alone draws numbers. The journal may have `limit` bytes. The entries that it has may be from any
+    /// caller.
     ///
     /// # Errors
     ///
-    /// [`NoMemory`], with the keeper, where memory runs out.
+    /// With the keeper: [`OpenFault::KeeperFault`] only where its count of faults rose in this call;
+    /// [`OpenFault::JournalLong`] where it has more than `limit` bytes; [`OpenFault::BadJournal`] as
+    /// [`crate::read_journal`] has [`crate::JournalFault::Bad`]; [`OpenFault::NoMemory`] where memory runs out.
     pub fn open(
         alloc: Global,
         keeper: K,
         limit: u64,
         callers: u32,
-    ) -> Result<(Desk<E, K>, Pass), (NoMemory, K)>
+    ) -> Result<(Desk<E, K>, Pass), (OpenFault, K)>
         requires limit { limit ≤ 1073741824 }
         requires callers { 0 < callers }
-        ensures pass { IfOk result (λ made. IsPass made.0 made.1 × (seen_by made.1 ≡ []) × (number_of made.1 ≡ 0)) }
-        ensures list { IfOk result (λ made. list_at made.0 ≡ []) }
-        ensures pair { IfOk result (λ made. pair_at made.0 ≡ (limit, K.failures keeper)) }
+        ensures pass { IfOk result (λ made. IsPass made.0 made.1 × (seen_by made.1 ≡ list_at made.0)
+            × (number_of made.1 ≡ 0)) }
+        ensures opened { IfOk result (λ made. HasOpened E.plain limit (K.kept keeper) (list_at made.0)) }
+        ensures pair { IfOk result (λ made. pair_at made.0 ≡ (limit, K.failures (keeper_at made.0))) }
+        ensures loaded { IfOk result (λ made. HasOnlyLoaded K.kept K.failures K.steady keeper (keeper_at made.0)) }
         ensures callers { IfOk result (λ made. callers_at made.0 ≡ callers) }
         ensures drawn { IfOk result (λ made. (count_of made.1 ≡ 1) × (given_by made.1 ≡ None)) }
         ensures alone { IfOk result (λ made. drawing_of made.1 ≡ Alone) }
         ensures met { IfOk result (λ made. met_by made.1 ≡ []) }
-        ensures err { IfErr result (λ failed. failed.1 ≡ keeper) }
+        ensures back { IfErr result (λ failed. HasOnlyLoaded K.kept K.failures K.steady keeper failed.1) }
+        ensures cause { IfErr result (λ failed. failed.0 ≡ OpenFault.KeeperFault
+            → Rose (K.failures keeper) (K.failures failed.1)) }
+        ensures steady { IfErr result (λ failed. IsTrue (K.steady keeper) → failed.0 ≢ OpenFault.KeeperFault) }
+        ensures long { IfErr result (λ failed. failed.0 ≡ OpenFault.JournalLong
+            → HasLongJournal limit (K.kept keeper)) }
+        ensures bad { IfErr result (λ failed. (number : ℕ) → failed.0 ≡ OpenFault.BadJournal number
+            → HasBadJournal E.plain limit (K.kept keeper) number) }
+
+        // Where no byte is kept there is no entry, and that is no fault.
+        ensures empty { K.kept keeper ≡ Some [] → IfOk result (λ made. list_at made.0 ≡ []) }
+        ensures not_long { K.kept keeper ≡ Some [] → IfErr result (λ failed. failed.0 ≢ OpenFault.JournalLong) }
+        ensures not_bad { K.kept keeper ≡ Some [] → IfErr result (λ failed. (number : ℕ)
+            → failed.0 ≢ OpenFault.BadJournal number) }
     {
         let state = State::open(alloc, keeper, limit)?;
         match Lock::open(alloc, state, callers) {
             Ok((lock, pass)) => Ok((Desk { alloc, lock }, pass)),
-            Err((state, none)) => Err((none, state.into_keeper())),
+            Err((state, NoMemory)) => Err((OpenFault::NoMemory, state.into_keeper())),
         }
     }
 
@@ -184,9 +204,8 @@ impl<E: Engine, K: Keeper> Desk<E, K> {
     /// Waits for the turn, and gives the history and the keeper. The entries are those of a list that begins with all
     /// that the pass has seen, and has no further call of the pass, nor of one that it took in. Where the pass alone
     /// draws numbers, those since the opening are from callers below the count that it knows. The keeper has failed as
-    /// often as its last mark tells. Where there is an entry the keeper has the journal of them all; behind it may
-    /// stand a part of the piece of one more that was answered 503, where that came behind the last. It takes no
-    /// memory.
+    /// often as its last mark tells, and has the journal of the entries, or of these and one more that was answered 503
+    /// behind the last. It takes no memory.
     pub fn close<R: Wait>(self, rt: &R, pass: Pass) -> (History<E>, K)
         requires { IsPass self pass }
         ensures { IsClosed (list_at self) (pair_at self).1 (callers_at self) pass result.0 (K.failures result.1)

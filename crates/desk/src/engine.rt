@@ -19,7 +19,7 @@ pub struct Answered<W> {
 pub trait Engine {
     ghost use Rattle.desk.specs.declared.entry.Entry.{Entry};
     ghost use Rattle.desk.specs.declared.entry.Ask.{Ask};
-    ghost use Rattle.desk.specs.Steps.{Outcome, Answers, HasOneOutcome, HasOneCount, AreServed};
+    ghost use Rattle.desk.specs.Steps.{Outcome, Answers, HasOneOutcome, HasOneCount, HasOneDump, AreServed};
 
     /// What the calls of a history made.
     type World: Drop;
@@ -38,6 +38,9 @@ pub trait Engine {
 
     /// How many cells a world has that stands for a history.
     ghost cells: { List Entry → ℕ → Type 0 };
+
+    /// A text tells what the calls of a history made.
+    ghost dumps: { List Entry → List ℕ → Type 0 };
 
     /// The world of the beginning.
     ///
@@ -74,6 +77,14 @@ pub trait Engine {
     fn count_cells(world: &Self::World) -> u64
         ensures { (entries : List Entry) → stands world.now entries → cells entries result };
 
+    /// A text that tells all of the world.
+    ///
+    /// # Errors
+    ///
+    /// [`NoMemory`] where memory runs out.
+    fn dump(alloc: Global, world: &Self::World) -> Result<Bytes, NoMemory>
+        ensures { (entries : List Entry) → stands world.now entries → IfOk result (dumps entries) };
+
     /// The law that an ask has one outcome behind a history. It does nothing when it runs.
     fn one_outcome()
         ensures { HasOneOutcome plain };
@@ -81,6 +92,10 @@ pub trait Engine {
     /// The law that a history makes one number of cells. It does nothing when it runs.
     fn one_count()
         ensures { HasOneCount cells };
+
+    /// The law that a history has one text that tells what its calls made. It does nothing when it runs.
+    fn one_dump()
+        ensures { HasOneDump dumps };
 
     /// The law that a status is 200, 400, 401, 403 or 404, and that what is accepted is answered 200, and has a user and
     /// no content coding. It does nothing when it runs.

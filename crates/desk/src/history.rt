@@ -1,7 +1,9 @@
-ghost use Rattle.std.specs.Prelude.{◌≡◌, length};
+ghost use Rattle.std.specs.Prelude.{◌≡◌, length, IfOk};
 ghost use Rattle.desk.specs.Journal.{journal_text};
 
 use crate::{Engine, Noted};
+use cell_value::{Bytes, NoMemory};
+use std::alloc::Global;
 use std::marker::Model;
 
 /// A history that is closed: its entries, and the world that stands for them. Contracts see the entries.
@@ -60,5 +62,15 @@ impl<E: Engine> History<E> {
             cells: E::count_cells(&self.world),
             bytes: self.bytes,
         }
+    }
+    /// A text that tells what its calls made: that of the world after them.
+    ///
+    /// # Errors
+    ///
+    /// [`NoMemory`] where memory runs out.
+    pub fn dump(&self, alloc: Global) -> Result<Bytes, NoMemory>
+        ensures { IfOk result (E.dumps self.now) }
+    {
+        E::dump(alloc, &self.world)
     }
 }

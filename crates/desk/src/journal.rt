@@ -5,6 +5,9 @@ use crate::Entry;
 use cell_value::{Bytes, NoMemory};
 use std::alloc::Global;
 
+/// The eight bytes that a journal begins with.
+pub(crate) const HEADING: &[u8] = b"SHEETJ01";
+
 /// The bytes of an entry in a journal: the caller in four bytes, most significant first, then user, project, target
 /// and body, each as its length in four such bytes and its bytes. Each field has fewer than 2^32 bytes.
 ///

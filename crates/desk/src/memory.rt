@@ -35,6 +35,13 @@ impl SteadyKeeper {
     {
         self.kept.as_slice()
     }
+
+    /// The bytes that it has, in the memory that they have.
+    pub fn into_bytes(self) -> Vec<u8>
+        ensures { result.items ≡ self }
+    {
+        self.kept
+    }
 }
 
 // Makes bytes their first `at` bytes and a piece behind them, or leaves them where memory runs out.
@@ -116,6 +123,19 @@ impl MemoryKeeper {
         ensures { result.now ≡ self.now.bytes }
     {
         self.keeper.bytes()
+    }
+
+    /// The bytes that it has, in the memory that they have.
+    pub fn into_bytes(self) -> Vec<u8>
+        ensures { result.items ≡ self.bytes }
+    {
+        let MemoryKeeper {
+            keeper,
+            failing: _,
+            puts: _,
+            faults: _,
+        } = self;
+        keeper.into_bytes()
     }
 }
 

@@ -6,7 +6,7 @@ ghost use Rattle.desk.specs.Journal.{entry_text, FieldsFit};
 ghost use Rattle.desk.specs.Keeping.{StaysSteady};
 ghost use Rattle.desk.specs.Noting.{IsNoted, IsPrepared};
 
-use crate::journal::put_entry;
+use crate::journal::{HEADING, put_entry};
 use crate::{Ask, Entry, Keeper, Noted, PutFault};
 use cell_value::{Bytes, Duplicate, NoMemory, Text};
 use std::alloc::Global;
@@ -59,7 +59,7 @@ pub(crate) fn prepare(
     let entry = make_entry(alloc, caller, ask)?;
     let mut piece = Bytes::of(Vec::new(alloc));
     if first {
-        piece.extend_from_slice(b"SHEETJ01")?;
+        piece.extend_from_slice(HEADING)?;
     }
     put_entry(&mut piece, &entry)?;
     Ok(Prepared {

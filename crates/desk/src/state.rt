@@ -1,14 +1,17 @@
-ghost use Rattle.std.specs.Prelude.{◌≡◌, ℕ, ◌<◌, ◌≤◌, true, [], ◌∷◌, ◌++◌, length, IfOk, IfSome, IfErr, OnErr, None};
+ghost use Rattle.std.specs.Prelude.{◌≡◌, ◌≢◌, ℕ, ◌<◌, ◌≤◌, true, [], ◌∷◌, ◌++◌, length, map, IfOk, IfSome, IfErr, OnErr};
+ghost use Rattle.std.specs.Prelude.{None, Some, Err, IsTrue};
 ghost use Rattle.cell_value.specs.FaultCount.{Rose};
 ghost use Rattle.desk.specs.Journal.{journal_text};
 ghost use Rattle.desk.specs.Noting.{IsTornBehind};
 ghost use Rattle.desk.specs.Steps.{entry_of, full_body};
 ghost use Rattle.desk.specs.Points.{Telling, IsSound, Happens, IsAnswered, IsCounted, AreCountsOf, IsUnmade, Keeps};
 ghost use Rattle.desk.specs.Points.{entries_of, last_counted};
+ghost use Rattle.desk.specs.Opening.{HasOpened, HasOnlyLoaded, HasLongJournal, HasBadJournal};
 
 use crate::engine::Answered;
 use crate::noting::{Noting, Prepared, entry_size, prepare, put_noted};
-use crate::{Ask, Engine, History, Keeper, Noted, Reply};
+use crate::replay::{Replay, replay_journal};
+use crate::{Ask, Engine, History, Keeper, Noted, OpenFault, Reply};
 use cell_value::{Bytes, NoMemory};
 use std::alloc::Global;
 use std::marker::Model;
@@ -20,8 +23,8 @@ pub const LONGEST_JOURNAL: u64 = 1_073_741_824;
 /// with the keeper's count of faults at the opening, and the keeper.
 ///
 /// The world stands for the entries of the list. The keeper's count of faults is that of the last mark, or, where there
-/// is none, the one of the opening. Where there is an entry, the bytes that are kept are the journal of all, or end
-/// with a beginning of the piece of a mark behind the last.
+/// is none, the one of the opening. The bytes that are kept are the journal of the entries, or of these and one more,
+/// which has a mark behind the last.
 pub struct State<E: Engine, K: Keeper> {
     alloc: Global,
     keeper: K,
@@ -44,29 +47,47 @@ impl<E: Engine, K: Keeper> Model for State<E, K> {
 }
 
 impl<E: Engine, K: Keeper> State<E, K> {
-    /// A state with an empty history. Nothing is loaded of what the keeper has; the first put begins at its first byte.
+    /// A state with the history whose journal the keeper has, of at most `limit` bytes. No bytes, or a beginning of the
+    /// journal's eight, are a journal without entries, and a torn rest behind the last entry is none.
     ///
     /// # Errors
     ///
-    /// [`NoMemory`], with the keeper, where memory runs out.
-    pub fn open(alloc: Global, keeper: K, limit: u64) -> Result<State<E, K>, (NoMemory, K)>
+    /// With the keeper: [`OpenFault::KeeperFault`] only where its count of faults rose in this call;
+    /// [`OpenFault::JournalLong`] where it has more than `limit` bytes; [`OpenFault::BadJournal`] as
+    /// [`crate::read_journal`] has [`crate::JournalFault::Bad`]; [`OpenFault::NoMemory`] where memory runs out.
+    pub fn open(alloc: Global, mut keeper: K, limit: u64) -> Result<State<E, K>, (OpenFault, K)>
         requires { limit ≤ 1073741824 }
-        ensures list { IfOk result (λ state. state.list ≡ []) }
-        ensures pair { IfOk result (λ state. state.pair ≡ (limit, K.failures keeper)) }
-        ensures keeper { IfOk result (λ state. state.keeper ≡ keeper) }
-        ensures err { IfErr result (λ failed. failed.1 ≡ keeper) }
+        ensures opened { IfOk result (λ state. HasOpened E.plain limit (K.kept keeper) state.list) }
+        ensures pair { IfOk result (λ state. state.pair ≡ (limit, K.failures state.keeper)) }
+        ensures loaded { IfOk result (λ state. HasOnlyLoaded K.kept K.failures K.steady keeper state.keeper) }
+        ensures back { IfErr result (λ failed. HasOnlyLoaded K.kept K.failures K.steady keeper failed.1) }
+        ensures cause { IfErr result (λ failed. failed.0 ≡ OpenFault.KeeperFault
+            → Rose (K.failures keeper) (K.failures failed.1)) }
+        ensures steady { IfErr result (λ failed. IsTrue (K.steady keeper) → failed.0 ≢ OpenFault.KeeperFault) }
+        ensures long { IfErr result (λ failed. failed.0 ≡ OpenFault.JournalLong
+            → HasLongJournal limit (K.kept keeper)) }
+        ensures bad { IfErr result (λ failed. (number : ℕ) → failed.0 ≡ OpenFault.BadJournal number
+            → HasBadJournal E.plain limit (K.kept keeper) number) }
+
+        // Where no byte is kept there is no entry, and that is no fault.
+        ensures empty { K.kept keeper ≡ Some [] → IfOk result (λ state. state.list ≡ []) }
+        ensures not_long { K.kept keeper ≡ Some [] → IfErr result (λ failed. failed.0 ≢ OpenFault.JournalLong) }
+        ensures not_bad { K.kept keeper ≡ Some [] → IfErr result (λ failed. (number : ℕ)
+            → failed.0 ≢ OpenFault.BadJournal number) }
     {
-        match E::opening(alloc) {
-            Err(none) => Err((none, keeper)),
-            Ok(world) => {
+        match load_history::<E, K>(alloc, &mut keeper, limit) {
+            Err(fault) => Err((fault, keeper)),
+            Ok(replay) => {
+                let entries = replay.count();
                 let opened = keeper.faults();
+                let (world, list, bytes) = replay.into_parts();
                 Ok(State {
                     alloc,
                     keeper,
                     world,
-                    list: Vec::new(alloc),
-                    entries: 0,
-                    bytes: 8,
+                    list,
+                    entries,
+                    bytes,
                     limit,
                     opened,
                 })
@@ -263,6 +284,29 @@ impl<E: Engine, K: Keeper> State<E, K> {
             }),
         }
     }
+}
+
+// Loads the journal that the keeper has, of at most `limit` bytes, and makes its calls again.
+fn load_history<E: Engine, K: Keeper>(
+    alloc: Global,
+    keeper: &mut K,
+    limit: u64,
+) -> Result<Replay<E>, OpenFault>
+    requires { limit ≤ 1073741824 }
+    ensures opened { IfOk result (λ replay. HasOpened E.plain limit (K.kept keeper.old) (map Noted.Entry replay)) }
+    ensures loaded { HasOnlyLoaded K.kept K.failures K.steady keeper.old keeper.new }
+    ensures cause { result ≡ Err OpenFault.KeeperFault → Rose (K.failures keeper.old) (K.failures keeper.new) }
+    ensures long { result ≡ Err OpenFault.JournalLong → HasLongJournal limit (K.kept keeper.old) }
+    ensures bad { (number : ℕ) → result ≡ Err (OpenFault.BadJournal number)
+        → HasBadJournal E.plain limit (K.kept keeper.old) number }
+{
+    let mut bytes = Bytes::of(Vec::new(alloc));
+    keeper.load(limit + 1, &mut bytes)?;
+    let bytes = bytes.as_slice();
+    if bytes.len() as u64 > limit {
+        return Err(OpenFault::JournalLong);
+    }
+    Ok(replay_journal(alloc, bytes)?)
 }
 
 // The body of 429.

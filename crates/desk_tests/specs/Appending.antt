@@ -44,3 +44,7 @@ Stands bytes entries = bytes ≡ bodies entries
 
 abbrev pub Cells : List Entry → ℕ → Type 0
 Cells entries count = count ≡ length (bodies entries)
+
+-- they are the text, too
+abbrev pub Dumps : List Entry → List ℕ → Type 0
+Dumps entries text = text ≡ bodies entries

@@ -8,7 +8,7 @@ use std::alloc::Global;
 pub enum Appends {}
 
 impl Engine for Appends {
-    ghost use Rattle.desk_tests.specs.Appending.{Plain, Stands, Cells, Reads};
+    ghost use Rattle.desk_tests.specs.Appending.{Plain, Stands, Cells, Dumps, Reads};
 
     type World = Bytes;
 
@@ -22,6 +22,8 @@ impl Engine for Appends {
     ghost stands = { Stands };
 
     ghost cells = { Cells };
+
+    ghost dumps = { Dumps };
 
     fn opening(alloc: Global) -> Result<Bytes, NoMemory> {
         Ok(Bytes::of(Vec::new(alloc)))
@@ -59,9 +61,15 @@ impl Engine for Appends {
         world.as_slice().len() as u64
     }
 
+    fn dump(_alloc: Global, world: &Bytes) -> Result<Bytes, NoMemory> {
+        world.duplicate()
+    }
+
     fn one_outcome() {}
 
     fn one_count() {}
+
+    fn one_dump() {}
 
     fn served_outcomes() {}
 }

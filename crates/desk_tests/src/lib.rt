@@ -4,5 +4,7 @@
 mod appends;
 #[cfg(test)]
 mod calls;
+#[cfg(test)]
+mod openings;
 
 pub use appends::Appends;

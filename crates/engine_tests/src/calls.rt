@@ -156,3 +156,65 @@ fn a_write_that_is_not_kept_is_none(rt: HostRuntime) -> Result<(), Fail> {
     assert!(rt; first && second && third && fourth && history.summary().accepted == 2);
     Ok(())
 }
+
+/// The spreadsheet behind the write, line by line.
+static WRITTEN: &[u8] = b"\
+{\"properties\":{\"title\":\"book1\"},\"sheets\":[\
+{\"properties\":{\"gridProperties\":{\"columnCount\":26,\"rowCount\":1000},\
+\"index\":0,\"sheetId\":0,\"sheetType\":\"GRID\",\"title\":\"Sheet1\"}}],\"spreadsheetId\":\"book1\"}\n\
+{\"majorDimension\":\"ROWS\",\"range\":\"Sheet1!A1:Z1000\",\"values\":[[1,\"x\"],[true]]}\n";
+
+#[test]
+fn a_history_tells_what_its_call_made(rt: HostRuntime) -> Result<(), Fail> {
+    let alloc = rt.alloc();
+    let keeper = SteadyKeeper::new(Vec::new(alloc));
+    let Ok((desk, pass)) = Desk::<Sheets, SteadyKeeper>::open(alloc, keeper, 1000, 1) else {
+        panic!(rt; "a desk is opened")
+    };
+    let (pass, good) = turn(&rt, alloc, &desk, pass, &WRITE);
+    let (history, _) = desk.close(&rt, pass);
+    assert!(rt; good && history.dump(alloc)?.as_slice() == WRITTEN);
+    Ok(())
+}
+
+static ADD_SHEET: Row = Row {
+    line: "POST /v4/spreadsheets/book1:batchUpdate",
+    body: b"{\"requests\":[{\"addSheet\":{\"properties\":{\"title\":\"Jon's data\"}}}]}",
+    status: 200,
+    said: b"{\"replies\":[{\"addSheet\":{\"properties\":\
+{\"gridProperties\":{\"columnCount\":26,\"rowCount\":1000},\
+\"index\":1,\"sheetId\":1,\"sheetType\":\"GRID\",\"title\":\"Jon's data\"}}}],\"spreadsheetId\":\"book1\"}",
+};
+
+static ENTER: Row = Row {
+    line: "PUT /v4/spreadsheets/book1/values/%27Jon%27%27s%20data%27%21B2?valueInputOption=USER_ENTERED",
+    body: b"{\"values\":[[\"=Sheet1!A1+1\"]]}",
+    status: 200,
+    said: b"{\"spreadsheetId\":\"book1\",\"updatedCells\":1,\"updatedColumns\":1,\
+\"updatedRange\":\"'Jon''s data'!B2\",\"updatedRows\":1}",
+};
+
+/// The same with a second sheet, whose title has a quote, and with a formula in it.
+static ENTERED: &[u8] = b"\
+{\"properties\":{\"title\":\"book1\"},\"sheets\":[\
+{\"properties\":{\"gridProperties\":{\"columnCount\":26,\"rowCount\":1000},\
+\"index\":0,\"sheetId\":0,\"sheetType\":\"GRID\",\"title\":\"Sheet1\"}},\
+{\"properties\":{\"gridProperties\":{\"columnCount\":26,\"rowCount\":1000},\
+\"index\":1,\"sheetId\":1,\"sheetType\":\"GRID\",\"title\":\"Jon's data\"}}],\"spreadsheetId\":\"book1\"}\n\
+{\"majorDimension\":\"ROWS\",\"range\":\"Sheet1!A1:Z1000\",\"values\":[[1,\"x\"],[true]]}\n\
+{\"majorDimension\":\"ROWS\",\"range\":\"'Jon''s data'!A1:Z1000\",\"values\":[[],[\"\",\"=Sheet1!A1+1\"]]}\n";
+
+#[test]
+fn a_history_tells_each_sheet_and_its_formulas(rt: HostRuntime) -> Result<(), Fail> {
+    let alloc = rt.alloc();
+    let keeper = SteadyKeeper::new(Vec::new(alloc));
+    let Ok((desk, pass)) = Desk::<Sheets, SteadyKeeper>::open(alloc, keeper, 1000, 1) else {
+        panic!(rt; "a desk is opened")
+    };
+    let (pass, first) = turn(&rt, alloc, &desk, pass, &WRITE);
+    let (pass, second) = turn(&rt, alloc, &desk, pass, &ADD_SHEET);
+    let (pass, third) = turn(&rt, alloc, &desk, pass, &ENTER);
+    let (history, _) = desk.close(&rt, pass);
+    assert!(rt; first && second && third && history.dump(alloc)?.as_slice() == ENTERED);
+    Ok(())
+}

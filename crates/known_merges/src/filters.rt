@@ -1725,6 +1725,206 @@ pub static FILTERS_OF_SHEETS: [Exchange; 9] = [
     ),
 ];
 
+/// Filters of a protected sheet, set and cleared by one who may not edit its cells.
+pub static FILTERS_BY_OTHERS: [Exchange; 3] = [
+    (
+        &[
+            (
+                "PUT /v4/spreadsheets/book1/values/A1:A2?valueInputOption=RAW",
+                "Authorization: Bearer owner\r\nContent-Length: 24\r\n",
+                "{\"values\":[[\"n\"],[\"x\"]]}",
+            ),
+            (
+                "POST /v4/spreadsheets/book1:batchUpdate",
+                "Authorization: Bearer owner\r\nContent-Length: 107\r\n",
+                "{\"requests\":[{\"addProtectedRange\":{\"protectedRange\":{\"editors\":{\"users\":[\"ann\"]},\"range\":{\"sheetId\":0}}}}]}",
+            ),
+            (
+                "POST /v4/spreadsheets/book1:batchUpdate",
+                "Authorization: Bearer bob\r\nContent-Length: 170\r\n",
+                "{\"requests\":[{\"setBasicFilter\":{\"filter\":{\"criteria\":{\"0\":{\"hiddenValues\":[\"x\"]}},\"range\":{\"endColumnIndex\":1,\"endRowIndex\":2,\"startColumnIndex\":0,\"startRowIndex\":0}}}}]}",
+            ),
+        ],
+        OK,
+        "",
+        "{\"replies\":[{}],\"spreadsheetId\":\"book1\"}",
+    ),
+    (
+        &[
+            (
+                "PUT /v4/spreadsheets/book1/values/A1:A2?valueInputOption=RAW",
+                "Authorization: Bearer owner\r\nContent-Length: 24\r\n",
+                "{\"values\":[[\"n\"],[\"x\"]]}",
+            ),
+            (
+                "POST /v4/spreadsheets/book1:batchUpdate",
+                "Authorization: Bearer owner\r\nContent-Length: 107\r\n",
+                "{\"requests\":[{\"addProtectedRange\":{\"protectedRange\":{\"editors\":{\"users\":[\"ann\"]},\"range\":{\"sheetId\":0}}}}]}",
+            ),
+            (
+                "POST /v4/spreadsheets/book1:batchUpdate",
+                "Authorization: Bearer bob\r\nContent-Length: 170\r\n",
+                "{\"requests\":[{\"setBasicFilter\":{\"filter\":{\"criteria\":{\"0\":{\"hiddenValues\":[\"x\"]}},\"range\":{\"endColumnIndex\":1,\"endRowIndex\":2,\"startColumnIndex\":0,\"startRowIndex\":0}}}}]}",
+            ),
+            (
+                "GET /v4/spreadsheets/book1?includeGridData=true",
+                "Authorization: Bearer bob\r\n",
+                "",
+            ),
+        ],
+        OK,
+        "",
+        "{\"properties\":{\"title\":\"book1\"},\"sheets\":[{\"basicFilter\":{\"criteria\":{\"0\":{\"hiddenValues\":[\"x\"]}},\"range\":{\"endColumnIndex\":1,\"endRowIndex\":2,\"sheetId\":0,\"startColumnIndex\":0,\"startRowIndex\":0}},\"data\":[{\"rowMetadata\":[{},{\"hiddenByFilter\":true}]}],\"properties\":{\"gridProperties\":{\"columnCount\":26,\"rowCount\":1000},\"index\":0,\"sheetId\":0,\"sheetType\":\"GRID\",\"title\":\"Sheet1\"},\"protectedRanges\":[{\"protectedRangeId\":1,\"range\":{\"sheetId\":0},\"requestingUserCanEdit\":false}]}],\"spreadsheetId\":\"book1\"}",
+    ),
+    (
+        &[
+            (
+                "PUT /v4/spreadsheets/book1/values/A1:A2?valueInputOption=RAW",
+                "Authorization: Bearer owner\r\nContent-Length: 24\r\n",
+                "{\"values\":[[\"n\"],[\"x\"]]}",
+            ),
+            (
+                "POST /v4/spreadsheets/book1:batchUpdate",
+                "Authorization: Bearer owner\r\nContent-Length: 107\r\n",
+                "{\"requests\":[{\"addProtectedRange\":{\"protectedRange\":{\"editors\":{\"users\":[\"ann\"]},\"range\":{\"sheetId\":0}}}}]}",
+            ),
+            (
+                "POST /v4/spreadsheets/book1:batchUpdate",
+                "Authorization: Bearer bob\r\nContent-Length: 170\r\n",
+                "{\"requests\":[{\"setBasicFilter\":{\"filter\":{\"criteria\":{\"0\":{\"hiddenValues\":[\"x\"]}},\"range\":{\"endColumnIndex\":1,\"endRowIndex\":2,\"startColumnIndex\":0,\"startRowIndex\":0}}}}]}",
+            ),
+            (
+                "POST /v4/spreadsheets/book1:batchUpdate",
+                "Authorization: Bearer bob\r\nContent-Length: 49\r\n",
+                "{\"requests\":[{\"clearBasicFilter\":{\"sheetId\":0}}]}",
+            ),
+            (
+                "GET /v4/spreadsheets/book1?includeGridData=true",
+                "Authorization: Bearer bob\r\n",
+                "",
+            ),
+        ],
+        OK,
+        "",
+        "{\"properties\":{\"title\":\"book1\"},\"sheets\":[{\"data\":[{\"rowMetadata\":[]}],\"properties\":{\"gridProperties\":{\"columnCount\":26,\"rowCount\":1000},\"index\":0,\"sheetId\":0,\"sheetType\":\"GRID\",\"title\":\"Sheet1\"},\"protectedRanges\":[{\"protectedRangeId\":1,\"range\":{\"sheetId\":0},\"requestingUserCanEdit\":false}]}],\"spreadsheetId\":\"book1\"}",
+    ),
+];
+
+/// Filters with a null for a criterion, beside errors, with keys whose order by bytes isn't that of the numbers, of a sheet
+/// that gets another title, and with a criterion past the grid.
+pub static MORE_FILTERS: [Exchange; 6] = [
+    (
+        &[
+            (
+                "PUT /v4/spreadsheets/book1/values/A1:A2?valueInputOption=RAW",
+                "Content-Length: 24\r\n",
+                "{\"values\":[[\"n\"],[\"x\"]]}",
+            ),
+            (
+                "POST /v4/spreadsheets/book1:batchUpdate",
+                "Content-Length: 152\r\n",
+                "{\"requests\":[{\"setBasicFilter\":{\"filter\":{\"criteria\":{\"0\":null},\"range\":{\"endColumnIndex\":1,\"endRowIndex\":2,\"startColumnIndex\":0,\"startRowIndex\":0}}}}]}",
+            ),
+            ("GET /v4/spreadsheets/book1?includeGridData=true", "", ""),
+        ],
+        OK,
+        "",
+        "{\"properties\":{\"title\":\"book1\"},\"sheets\":[{\"basicFilter\":{\"range\":{\"endColumnIndex\":1,\"endRowIndex\":2,\"sheetId\":0,\"startColumnIndex\":0,\"startRowIndex\":0}},\"data\":[{\"rowMetadata\":[]}],\"properties\":{\"gridProperties\":{\"columnCount\":26,\"rowCount\":1000},\"index\":0,\"sheetId\":0,\"sheetType\":\"GRID\",\"title\":\"Sheet1\"}}],\"spreadsheetId\":\"book1\"}",
+    ),
+    (
+        &[
+            (
+                "PUT /v4/spreadsheets/book1/values/A1:A2?valueInputOption=RAW",
+                "Content-Length: 24\r\n",
+                "{\"values\":[[\"n\"],[\"x\"]]}",
+            ),
+            (
+                "POST /v4/spreadsheets/book1:batchUpdate",
+                "Content-Length: 189\r\n",
+                "{\"requests\":[{\"setBasicFilter\":{\"filter\":{\"criteria\":{\"0\":{\"hiddenValues\":[\"x\"]},\"00\":null,\"7\":null},\"range\":{\"endColumnIndex\":1,\"endRowIndex\":2,\"startColumnIndex\":0,\"startRowIndex\":0}}}}]}",
+            ),
+            ("GET /v4/spreadsheets/book1?includeGridData=true", "", ""),
+        ],
+        OK,
+        "",
+        "{\"properties\":{\"title\":\"book1\"},\"sheets\":[{\"basicFilter\":{\"criteria\":{\"0\":{\"hiddenValues\":[\"x\"]}},\"range\":{\"endColumnIndex\":1,\"endRowIndex\":2,\"sheetId\":0,\"startColumnIndex\":0,\"startRowIndex\":0}},\"data\":[{\"rowMetadata\":[{},{\"hiddenByFilter\":true}]}],\"properties\":{\"gridProperties\":{\"columnCount\":26,\"rowCount\":1000},\"index\":0,\"sheetId\":0,\"sheetType\":\"GRID\",\"title\":\"Sheet1\"}}],\"spreadsheetId\":\"book1\"}",
+    ),
+    (
+        &[
+            (
+                "PUT /v4/spreadsheets/book1/values/A1:A3?valueInputOption=USER_ENTERED",
+                "Content-Length: 31\r\n",
+                "{\"values\":[[\"n\"],[4],[\"=1/0\"]]}",
+            ),
+            (
+                "POST /v4/spreadsheets/book1:batchUpdate",
+                "Content-Length: 222\r\n",
+                "{\"requests\":[{\"setBasicFilter\":{\"filter\":{\"criteria\":{\"0\":{\"condition\":{\"type\":\"NUMBER_NOT_EQ\",\"values\":[{\"userEnteredValue\":\"5\"}]}}},\"range\":{\"endColumnIndex\":1,\"endRowIndex\":3,\"startColumnIndex\":0,\"startRowIndex\":0}}}}]}",
+            ),
+            ("GET /v4/spreadsheets/book1?includeGridData=true", "", ""),
+        ],
+        OK,
+        "",
+        "{\"properties\":{\"title\":\"book1\"},\"sheets\":[{\"basicFilter\":{\"criteria\":{\"0\":{\"condition\":{\"type\":\"NUMBER_NOT_EQ\",\"values\":[{\"userEnteredValue\":\"5\"}]}}},\"range\":{\"endColumnIndex\":1,\"endRowIndex\":3,\"sheetId\":0,\"startColumnIndex\":0,\"startRowIndex\":0}},\"data\":[{\"rowMetadata\":[{},{},{\"hiddenByFilter\":true}]}],\"properties\":{\"gridProperties\":{\"columnCount\":26,\"rowCount\":1000},\"index\":0,\"sheetId\":0,\"sheetType\":\"GRID\",\"title\":\"Sheet1\"}}],\"spreadsheetId\":\"book1\"}",
+    ),
+    (
+        &[
+            (
+                "PUT /v4/spreadsheets/book1/values/J1:J2?valueInputOption=RAW",
+                "Content-Length: 24\r\n",
+                "{\"values\":[[\"n\"],[\"q\"]]}",
+            ),
+            (
+                "POST /v4/spreadsheets/book1:batchUpdate",
+                "Content-Length: 198\r\n",
+                "{\"requests\":[{\"setBasicFilter\":{\"filter\":{\"criteria\":{\"2\":{\"hiddenValues\":[\"x\"]},\"9\":{\"hiddenValues\":[\"q\"]}},\"range\":{\"endColumnIndex\":10,\"endRowIndex\":2,\"startColumnIndex\":0,\"startRowIndex\":0}}}}]}",
+            ),
+            (
+                "POST /v4/spreadsheets/book1:batchUpdate",
+                "Content-Length: 96\r\n",
+                "{\"requests\":[{\"insertDimension\":{\"range\":{\"dimension\":\"COLUMNS\",\"endIndex\":1,\"startIndex\":0}}}]}",
+            ),
+            ("GET /v4/spreadsheets/book1?includeGridData=true", "", ""),
+        ],
+        OK,
+        "",
+        "{\"properties\":{\"title\":\"book1\"},\"sheets\":[{\"basicFilter\":{\"criteria\":{\"10\":{\"hiddenValues\":[\"q\"]},\"3\":{\"hiddenValues\":[\"x\"]}},\"range\":{\"endColumnIndex\":11,\"endRowIndex\":2,\"sheetId\":0,\"startColumnIndex\":1,\"startRowIndex\":0}},\"data\":[{\"rowMetadata\":[{},{\"hiddenByFilter\":true}]}],\"properties\":{\"gridProperties\":{\"columnCount\":27,\"rowCount\":1000},\"index\":0,\"sheetId\":0,\"sheetType\":\"GRID\",\"title\":\"Sheet1\"}}],\"spreadsheetId\":\"book1\"}",
+    ),
+    (
+        &[
+            (
+                "PUT /v4/spreadsheets/book1/values/A1:A2?valueInputOption=RAW",
+                "Content-Length: 24\r\n",
+                "{\"values\":[[\"n\"],[\"x\"]]}",
+            ),
+            (
+                "POST /v4/spreadsheets/book1:batchUpdate",
+                "Content-Length: 170\r\n",
+                "{\"requests\":[{\"setBasicFilter\":{\"filter\":{\"criteria\":{\"0\":{\"hiddenValues\":[\"x\"]}},\"range\":{\"endColumnIndex\":1,\"endRowIndex\":2,\"startColumnIndex\":0,\"startRowIndex\":0}}}}]}",
+            ),
+            (
+                "POST /v4/spreadsheets/book1:batchUpdate",
+                "Content-Length: 92\r\n",
+                "{\"requests\":[{\"updateSheetProperties\":{\"fields\":\"title\",\"properties\":{\"title\":\"My data\"}}}]}",
+            ),
+            ("GET /v4/spreadsheets/book1?includeGridData=true", "", ""),
+        ],
+        OK,
+        "",
+        "{\"properties\":{\"title\":\"book1\"},\"sheets\":[{\"basicFilter\":{\"criteria\":{\"0\":{\"hiddenValues\":[\"x\"]}},\"range\":{\"endColumnIndex\":1,\"endRowIndex\":2,\"sheetId\":0,\"startColumnIndex\":0,\"startRowIndex\":0}},\"data\":[{\"rowMetadata\":[{},{\"hiddenByFilter\":true}]}],\"properties\":{\"gridProperties\":{\"columnCount\":26,\"rowCount\":1000},\"index\":0,\"sheetId\":0,\"sheetType\":\"GRID\",\"title\":\"My data\"}}],\"spreadsheetId\":\"book1\"}",
+    ),
+    (
+        &[(
+            "POST /v4/spreadsheets/book1:batchUpdate",
+            "Content-Length: 152\r\n",
+            "{\"requests\":[{\"setBasicFilter\":{\"filter\":{\"criteria\":{\"27\":{}},\"range\":{\"endColumnIndex\":30,\"endRowIndex\":3,\"startColumnIndex\":0,\"startRowIndex\":0}}}}]}",
+        )],
+        BAD_REQUEST,
+        "",
+        "{\"error\":{\"code\":400,\"message\":\"requests[0]: OutsideGrid\",\"status\":\"INVALID_ARGUMENT\"}}",
+    ),
+];
+
 /// Filters that break a rule, the first one in their order.
 pub static BROKEN_FILTERS: [Exchange; 13] = [
     (

@@ -1,4 +1,5 @@
 use cell_value::Items;
+use folder::MemoryFolder;
 use sheets_http::MemorySink;
 use std::alloc::Global;
 use std::fmt::Debug;
@@ -44,4 +45,9 @@ pub(crate) fn calls(alloc: Global, number: u64) -> Items<u64> {
         let _ = calls.push(number);
     }
     Items::of(calls)
+}
+
+/// A folder without a file.
+pub(crate) fn no_files(alloc: Global) -> MemoryFolder {
+    MemoryFolder::new(Items::of(Vec::new(alloc)), Items::of(Vec::new(alloc)))
 }

@@ -1,4 +1,4 @@
-use crate::common::{Ran, calls, check, words_of};
+use crate::common::{Ran, calls, check, no_files, words_of};
 use cell_value::Bytes;
 use connections::one_reply;
 use conversation::cut_off_laws;
@@ -61,6 +61,7 @@ fn run<R: AllocGlobal + Threads + Wait + Sync>(
         &mut input,
         &mut output,
         &mut faults,
+        &mut no_files(alloc),
         &mut doors,
     );
     Ran {
@@ -605,6 +606,13 @@ fn sets_filters(rt: HostRuntime) {
 }
 
 #[test]
+fn keeps_filters_by_their_keys(rt: HostRuntime) {
+    for row in &filters::MORE_FILTERS {
+        check(&rt, &row.3, is_answered(&rt, row));
+    }
+}
+
+#[test]
 fn asks_for_numbers(rt: HostRuntime) {
     for row in &filters::NUMBER_CONDITIONS {
         check(&rt, &row.3, is_answered(&rt, row));
@@ -664,6 +672,13 @@ fn follows_columns_of_filters(rt: HostRuntime) {
 fn keeps_filters_of_sheets(rt: HostRuntime) {
     for row in &filters::FILTERS_OF_SHEETS {
         check(&rt, &row.3, is_answered(&rt, row));
+    }
+}
+
+#[test]
+fn lets_others_set_filters(rt: HostRuntime) {
+    for row in &filters::FILTERS_BY_OTHERS {
+        check(&rt, &row.3, is_answered_to(&rt, row, ""));
     }
 }
 

@@ -1,5 +1,4 @@
-//! The tests of the program: conversations, connections, how it ends where a read or a write fails, the words of its
-//! command line, and the reads and writes of the system, its sockets among them.
+//! The tests of the program's conversations, and of how it ends where a read or a write fails.
 //!
 //! The time in which a test is proved grows faster than its length: a test goes over a table, which is a
 //! static so that the test doesn't build it, and what it calls for a row answers without `?`. Where memory
@@ -10,11 +9,3 @@
 mod common;
 #[cfg(test)]
 mod conversations;
-#[cfg(test)]
-mod serve;
-#[cfg(test)]
-mod system;
-#[cfg(test)]
-mod tcp;
-#[cfg(test)]
-mod words;

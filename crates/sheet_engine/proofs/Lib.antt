@@ -4,3 +4,5 @@ pub mod Accepted
 pub mod Serving
 pub mod Answering
 pub mod Once
+pub mod Quoting
+pub mod Dumping

@@ -1,7 +1,7 @@
 -- An ask has one outcome behind a history, and a history makes one world.
-use Rattle.std.proofs.Common.{◌≡◌, ◌≢◌, ℕ, refl, sym, ap, subst, ◌∙◌, List, [], ◌∷◌, Result, Ok, Err}
+use Rattle.std.proofs.Common.{◌≡◌, ◌≢◌, ℕ, refl, sym, ap, subst, ◌∙◌, List, [], ◌∷◌, ◌++◌, Result, Ok, Err}
 use Rattle.std.proofs.Common.{Option, Some, None, MatchOption}
-use Rattle.std.specs.List.{All, AllZip}
+use Rattle.std.specs.List.{All, AllZip, concat}
 use Rattle.std.proofs.lemmas.Bool.{false≢true}
 use Rattle.std.proofs.lemmas.List.Elements.{All-cons, All-nil}
 use Rattle.world_model.specs.Book.{NameBook, PlaceBook}
@@ -22,11 +22,12 @@ use Rattle.sheets_json.specs.declared.call.Call.{Call}
 use Rattle.batch_engine.specs.Effects.{Effect, world_after}
 use Rattle.batch_engine.specs.Laws.{CallsAnsweredOnce}
 use Rattle.batch_engine.specs.declared.calls.Caller.{Caller}
-use Rattle.desk.specs.Steps.{HasOneCount, HasOneOutcome, Outcome}
+use Rattle.desk.specs.Steps.{HasOneCount, HasOneDump, HasOneOutcome, Outcome}
 use Rattle.desk.specs.declared.entry.Ask.{Ask}
 use Rattle.desk.specs.declared.entry.Entry.{Entry}
-use Rattle.sheet_engine.specs.Answers.{Ends, IsStep, as_fault, outcome_of}
+use Rattle.sheet_engine.specs.Answers.{Ends, IsStep, as_fault, body_of, outcome_of}
 use Rattle.sheet_engine.specs.Asks.{AsksFor, IsAsked, IsAskedBy, asked_for, caller_of, made_by, method_of, target_of}
+use Rattle.sheet_engine.specs.Dump.{AreLines, Dump, IsLine, dump_calls}
 use Rattle.sheet_engine.specs.Replay.{Cells, IsAnsweredOn, Plain, ReplaysFrom, ask_of}
 use Rattle.sheet_engine.specs.declared.fault.Fault.{Fault}
 use Rattle.sheet_engine.specs.declared.fault.Fault.TheVariants as fault
@@ -147,6 +148,32 @@ module _ (one_call : HasOneCall) (calls : CallsAnsweredOnce) (books : List Place
       is'.ends in
       (ap (λ a. outcome_of a told) same ∙ ap (outcome_of asked') ends.0, ends.1)
 
+  -- a call has one line, and so have calls, one after another
+  line_once : (made : Caller × Call) (line another : List ℕ) → IsLine books made line → IsLine books made another
+      → line ≡ another
+  line_once made line another is is' =
+      let same = calls.once made.0 made.1 books sound is.called.answer is'.called.answer is.effect is'.effect
+      is.called.answered is'.called.answered in
+      is.line_is
+      ∙ ap (λ told. body_of told ++ 10 ∷ []) (is.called.told_is ∙ ap as_fault same.0 ∙ sym is'.called.told_is)
+      ∙ sym is'.line_is
+
+  each_once : (made : List (Caller × Call)) (lines others : List (List ℕ)) → AllZip (IsLine books) made lines
+      → AllZip (IsLine books) made others → lines ≡ others
+  each_once [] [] [] is is' = refl
+  each_once [] [] (another ∷ others) is is' = absurd is'
+  each_once [] (line ∷ lines) others is is' = absurd is
+  each_once (one ∷ made) [] others is is' = absurd is
+  each_once (one ∷ made) (line ∷ lines) [] is is' = absurd is'
+  each_once (one ∷ made) (line ∷ lines) (another ∷ others) is is' =
+      ap (λ first. first ∷ lines) (line_once one line another is.0 is'.0)
+      ∙ ap (λ rest. another ∷ rest) (each_once made lines others is.1 is'.1)
+
+  lines_once : (made : List (Caller × Call)) (text another : List ℕ) → AreLines books made text
+      → AreLines books made another → text ≡ another
+  lines_once made text another is is' =
+      is.text_is ∙ ap concat (each_once made is.lines is'.lines is.each is'.each) ∙ sym is'.text_is
+
 -- ---- histories
 
 module _ (one_call : HasOneCall) (calls : CallsAnsweredOnce) (apart : StandsForApart) where
@@ -184,3 +211,14 @@ module _ (one_call : HasOneCall) (calls : CallsAnsweredOnce) (apart : StandsForA
       (subst (λ (w : NameWorld). AllZip BookStandsFor is.books w.books) same is.stands.seen.each)
       is'.stands.seen.each in
       is.count_is ∙ ap filled_in same_books ∙ sym is'.count_is
+
+  pub one_dump : HasOneDump Dump
+  one_dump entries text another is is' =
+      let same = replays_once opening_world entries is.stands.world is'.stands.world is.stands.replays
+      is'.stands.replays in
+      let same_books = books_once apart is.books is'.books is'.stands.world.books
+      (subst (λ (w : NameWorld). AllZip BookStandsFor is.books w.books) same is.stands.seen.each)
+      is'.stands.seen.each in
+      lines_once one_call calls is'.books (books_sound is'.books is'.stands.world.books is'.stands.seen.each)
+      (dump_calls is'.books) text another
+      (subst (λ books. AreLines books (dump_calls books) text) same_books is.are_lines) is'.are_lines

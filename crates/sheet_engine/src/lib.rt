@@ -3,6 +3,7 @@
 #![tactic(auto)]
 
 mod asking;
+mod dump;
 mod fault;
 mod sheets;
 mod step;

@@ -2,9 +2,10 @@ ghost use Rattle.std.specs.Prelude.{◌≡◌, IfOk};
 
 use crate::Reading;
 use crate::asking::read;
+use crate::dump::dump;
 use crate::step::{Stepped, body_of, status_of, step};
 use batch_engine::calls_answered_once;
-use cell_value::NoMemory;
+use cell_value::{Bytes, NoMemory};
 use desk::{Answered, Ask, Engine};
 use dimension_ops::{World, opening_stands};
 use sheets_http::one_call;
@@ -19,6 +20,7 @@ pub enum Sheets {}
 impl Engine for Sheets {
     ghost use Rattle.sheet_engine.specs.Replay.{Plain, Stands, Cells};
     ghost use Rattle.sheet_engine.specs.Asks.{IsRead};
+    ghost use Rattle.sheet_engine.specs.Dump.{Dump};
 
     type World = World;
 
@@ -31,6 +33,8 @@ impl Engine for Sheets {
     ghost stands = { Stands };
 
     ghost cells = { Cells };
+
+    ghost dumps = { Dump };
 
     fn opening(alloc: Global) -> Result<World, NoMemory> {
         opening_stands();
@@ -59,6 +63,10 @@ impl Engine for Sheets {
         world.filled()
     }
 
+    fn dump(alloc: Global, world: &World) -> Result<Bytes, NoMemory> {
+        dump(alloc, world)
+    }
+
     fn one_outcome() {
         one_call();
         calls_answered_once();
@@ -66,6 +74,12 @@ impl Engine for Sheets {
     }
 
     fn one_count() {
+        one_call();
+        calls_answered_once();
+        stands_for_apart();
+    }
+
+    fn one_dump() {
         one_call();
         calls_answered_once();
         stands_for_apart();

@@ -62,7 +62,16 @@ fn refused(fault: Fault) -> Stepped
 }
 
 /// Makes a call on the spreadsheets, which stay as they are.
-fn called(alloc: Global, world: &World, caller: &Caller, call: &Call) -> Result<Stepped, NoMemory>
+///
+/// # Errors
+///
+/// [`NoMemory`] where memory runs out.
+pub(crate) fn called(
+    alloc: Global,
+    world: &World,
+    caller: &Caller,
+    call: &Call,
+) -> Result<Stepped, NoMemory>
     requires { HasItsBook call.now world.now }
     ensures { IfOk result (λ step. Performs caller.now world.now call.now step.told step.next) }
 {

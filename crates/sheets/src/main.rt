@@ -1,7 +1,7 @@
-//! The program: the words, the input, the outputs and the sockets of the system, handed to `sheets_main`.
+//! The program: the words, the input, the outputs, the files and the sockets of the system, handed to `sheets_main`.
 #![tactic(auto)]
 
-use sheets_cli::{Input, Output, TcpDoors, sheets_main};
+use sheets_cli::{FileFolder, Input, Output, TcpDoors, sheets_main};
 use std::process::ExitCode;
 use std::{env, io};
 
@@ -20,6 +20,7 @@ fn main(rt: HostRuntime) -> ExitCode {
     let mut input = Input::new(rt.reader());
     let mut output = Output::output(io::writer(&stdout));
     let mut faults = Output::faults(io::writer(&stderr));
+    let mut folder = FileFolder::new(&rt);
     let mut doors = TcpDoors::new(&rt);
     let status = sheets_main(
         &rt,
@@ -27,6 +28,7 @@ fn main(rt: HostRuntime) -> ExitCode {
         &mut input,
         &mut output,
         &mut faults,
+        &mut folder,
         &mut doors,
     );
     ExitCode::from(status)

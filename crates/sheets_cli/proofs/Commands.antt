@@ -1,58 +1,111 @@
 -- The one command that words are.
-use Rattle.std.proofs.Common.{◌≡◌, ◌↔◌, ℕ, List, Option, None, Some, sym, ap, ◌∙◌}
-use Rattle.sheets_cli.specs.declared.words.Command.{Command}
-use Rattle.sheets_cli.specs.declared.words.Command.TheVariants.{Run, Serve}
-use Rattle.sheets_cli.specs.Words.{ReadsAs, ReadsAsServe, ReadsAsNone}
-use Rattle.sheets_cli.proofs.Given.{never, same_given}
+use Rattle.std.proofs.Common.{◌≡◌, ◌↔◌, ℕ, List, Option, None, Some, IsSome, Bor, inl, sym, ap, ◌∙◌}
+use Rattle.std.specs.Option.{option_map, option_copied}
+use Rattle.command_line.specs.declared.command.Command.{Command}
+use Rattle.command_line.specs.Words.{Meaning, run, serve, replay, workload, meaning, ReadsAs, ReadsAsNone}
+use Rattle.sheets_cli.specs.Program.{ReadsAsRun, ReadsAsServe, ReadsAsReplay, NamesJournal}
 
--- the words read as the command that was found, and as no other
+given : (a b : Meaning) → Some a ≡ Some b → a ≡ b
+given a b e = cc
+
+-- the words read said the command that was found, and said no other
 abbrev pub IsFound : Option Command → List (List ℕ) → Type 0
-IsFound found words = (command : Command) → (found ≡ Some command) ↔ ReadsAs command words
+IsFound found words = (command : Meaning) → (option_map meaning found ≡ Some command) ↔ ReadsAs command words
 
-pub none_found : (found : Option Command) (words : List (List ℕ)) → IsFound found words → found ≡ None
-    → ReadsAsNone words
-none_found found words is none = λ command reads. never command (sym none ∙ (is command).1 reads)
-
--- a command is no words that are none
-pub not_none : (found : Option Command) (words : List (List ℕ)) (command : Command) → IsFound found words
-    → found ≡ Some command → ReadsAsNone words → ⊥
-not_none found words command is some none = none command ((is command).0 some)
-
--- words are one command
-pub only : (found : Option Command) (words : List (List ℕ)) (command other : Command) → IsFound found words
-    → found ≡ Some command → ReadsAs other words → command ≡ other
-only found words command other is some reads = same_given command other (sym some ∙ (is other).1 reads)
-
-port_is : (port limit port' limit' : ℕ) → Serve port limit ≡ Serve port' limit' → port ≡ port'
-port_is port limit port' limit' e = cc
-
-limit_is : (port limit port' limit' : ℕ) → Serve port limit ≡ Serve port' limit' → limit ≡ limit'
-limit_is port limit port' limit' e = cc
-
-run_is_not : (port limit : ℕ) → Run ≡ Serve port limit → ⊥
-run_is_not port limit e = cc
-
-module _ (found : Option Command) (words : List (List ℕ)) (command : Command) (is : IsFound found words)
+module _ (found : Option Command) (words : List (List ℕ)) (is : IsFound found words) (command : Command)
     (some : found ≡ Some command) where
-  -- where it is `run`
-  pub reads_run : command ≡ Run → ReadsAs Run words
-  reads_run run = (is Run).0 (some ∙ ap Some run)
+  -- the words read said it
+  pub reads : ReadsAs (meaning command) words
+  reads = (is (meaning command)).0 (ap (option_map meaning) some)
 
-  pub run_alone : command ≡ Run → ReadsAsServe words → ⊥
-  run_alone run (port, limit, reads) =
-      run_is_not port limit (sym run ∙ only found words command (Serve port limit) is some reads)
+  -- and said nothing else
+  pub only : (other : Meaning) → ReadsAs other words → meaning command ≡ other
+  only other said = given (meaning command) other (sym (ap (option_map meaning) some) ∙ (is other).1 said)
 
-  module _ (port limit : ℕ) (serve : command ≡ Serve port limit) where
-    -- where it is `serve`
-    pub reads_serve : ReadsAsServe words
-    reads_serve = (port, limit, (is (Serve port limit)).0 (some ∙ ap Some serve))
+  -- so they are some command
+  pub some_command : ReadsAsNone words → ⊥
+  some_command none = none (meaning command) reads
 
-    pub serve_alone : ReadsAs Run words → ⊥
-    serve_alone reads = run_is_not port limit (sym (only found words command Run is some reads) ∙ serve)
+-- ---- commands differ
 
-    -- with that port and that number of connections
-    pub served_so : (port' limit' : ℕ) → ReadsAs (Serve port' limit') words → (port ≡ port') × (limit ≡ limit')
-    served_so port' limit' reads =
-        let same : Serve port limit ≡ Serve port' limit' =
-        sym serve ∙ only found words command (Serve port' limit') is some reads in
-        (port_is port limit port' limit' same, limit_is port limit port' limit' same)
+pub run_serve : (users users' journal : Option (List ℕ)) (port limit : ℕ) → run users ≡ serve port limit users' journal
+    → ⊥
+run_serve users users' journal port limit e = cc
+
+pub run_replay : (users : Option (List ℕ)) (journal : List ℕ) → run users ≡ replay journal → ⊥
+run_replay users journal e = cc
+
+pub run_workload : (users : Option (List ℕ)) (calls : ℕ) → run users ≡ workload calls → ⊥
+run_workload users calls e = cc
+
+pub serve_replay : (port limit : ℕ) (users journal : Option (List ℕ)) (name : List ℕ)
+    → serve port limit users journal ≡ replay name → ⊥
+serve_replay port limit users journal name e = cc
+
+pub serve_workload : (port limit : ℕ) (users journal : Option (List ℕ)) (calls : ℕ)
+    → serve port limit users journal ≡ workload calls → ⊥
+serve_workload port limit users journal calls e = cc
+
+pub replay_workload : (name : List ℕ) (calls : ℕ) → replay name ≡ workload calls → ⊥
+replay_workload name calls e = cc
+
+-- ---- and so do those of one kind
+
+pub same_users : (users users' : Option (List ℕ)) → run users ≡ run users' → users ≡ users'
+same_users users users' e = cc
+
+pub same_port : (port limit port' limit' : ℕ) (users journal users' journal' : Option (List ℕ))
+    → serve port limit users journal ≡ serve port' limit' users' journal' → port ≡ port'
+same_port port limit port' limit' users journal users' journal' e = cc
+
+pub same_limit : (port limit port' limit' : ℕ) (users journal users' journal' : Option (List ℕ))
+    → serve port limit users journal ≡ serve port' limit' users' journal' → limit ≡ limit'
+same_limit port limit port' limit' users journal users' journal' e = cc
+
+pub same_served : (port limit port' limit' : ℕ) (users journal users' journal' : Option (List ℕ))
+    → serve port limit users journal ≡ serve port' limit' users' journal' → users ≡ users'
+same_served port limit port' limit' users journal users' journal' e = cc
+
+pub same_journal : (port limit port' limit' : ℕ) (users journal users' journal' : Option (List ℕ))
+    → serve port limit users journal ≡ serve port' limit' users' journal' → journal ≡ journal'
+same_journal port limit port' limit' users journal users' journal' e = cc
+
+pub same_name : (name name' : List ℕ) → replay name ≡ replay name' → name ≡ name'
+same_name name name' e = cc
+
+pub same_calls : (calls calls' : ℕ) → workload calls ≡ workload calls' → calls ≡ calls'
+same_calls calls calls' e = cc
+
+-- ---- what words are not
+
+module _ (words : List (List ℕ)) (command : Meaning)
+    (only_is : (other : Meaning) → ReadsAs other words → command ≡ other) where
+  pub run_no_serve : (users : Option (List ℕ)) → command ≡ run users → ReadsAsServe words → ⊥
+  run_no_serve users is (port, limit, others, journal, said) =
+      run_serve users others journal port limit (sym is ∙ only_is (serve port limit others journal) said)
+
+  pub run_no_replay : (users : Option (List ℕ)) → command ≡ run users → ReadsAsReplay words → ⊥
+  run_no_replay users is (name, said) = run_replay users name (sym is ∙ only_is (replay name) said)
+
+  pub serve_no_run : (port limit : ℕ) (users journal : Option (List ℕ)) → command ≡ serve port limit users journal
+      → ReadsAsRun words → ⊥
+  serve_no_run port limit users journal is (others, said) =
+      run_serve others users journal port limit (sym (only_is (run others) said) ∙ is)
+
+  pub serve_no_replay : (port limit : ℕ) (users journal : Option (List ℕ)) → command ≡ serve port limit users journal
+      → ReadsAsReplay words → ⊥
+  serve_no_replay port limit users journal is (name, said) =
+      serve_replay port limit users journal name (sym is ∙ only_is (replay name) said)
+
+  pub replay_no_run : (name : List ℕ) → command ≡ replay name → ReadsAsRun words → ⊥
+  replay_no_run name is (users, said) = run_replay users name (sym (only_is (run users) said) ∙ is)
+
+  pub workload_no_run : (calls : ℕ) → command ≡ workload calls → ReadsAsRun words → ⊥
+  workload_no_run calls is (users, said) = run_workload users calls (sym (only_is (run users) said) ∙ is)
+
+-- a server that has a journal names it
+pub names_journal : (words : List (List ℕ)) (port limit : ℕ) (users : Option (List ℕ))
+    (journal : Option (Bor (List ℕ))) → IsSome journal → ReadsAs (serve port limit users (option_copied journal)) words
+    → NamesJournal words
+names_journal words port limit users None some said = cc
+names_journal words port limit users (Some name) some said = inl (port, limit, users, name.now, said)

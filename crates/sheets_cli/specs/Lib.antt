@@ -1,5 +1,4 @@
+pub mod Files
 pub mod Program
-pub mod Serving
 pub mod Standard
 pub mod Tcp
-pub mod Words

@@ -1,15 +1,12 @@
-//! The commands of the program.
+//! The program: its words are a command, which is done over the devices that it is given; and the devices of the system.
 #![tactic(auto)]
 
+mod files;
 mod program;
-mod report;
-mod serve;
 mod standard;
 mod tcp;
-mod words;
 
-pub use program::{MOST, USAGE, sheets_main};
-pub use serve::CALLERS;
+pub use files::{FileFolder, FileKeeper};
+pub use program::sheets_main;
 pub use standard::{Input, Output};
 pub use tcp::{TcpDoors, TcpFaults, TcpLink};
-pub use words::{Command, command_of};

@@ -22,6 +22,13 @@ impl<R> Input<R> {
     {
         Input { reader, faults: 0 }
     }
+
+    /// How often it has failed.
+    pub(crate) fn faults(&self) -> u64
+        ensures { result ≡ input_faults self.now }
+    {
+        self.faults
+    }
 }
 
 impl<R: Read> Source for Input<R> {

@@ -1,125 +1,188 @@
-use Rattle.std.proofs.Common.{sym, ◌∙◌}
-use Rattle.cell_value.specs.FaultCount.{Rose}
-use Rattle.sheets_cli.specs.declared.program.TheConstants.{MOST}
-use Rattle.sheets_cli.specs.declared.words.Command.TheVariants.{Run, Serve}
-use Rattle.sheets_cli.proofs.Statuses.{exactly_as, never_usage, cut_where, long_where}
-use Rattle.sheets_cli.proofs.Commands.{none_found, not_none, reads_run, run_alone, reads_serve, serve_alone, served_so}
+use Rattle.std.proofs.Common.{◌≡◌, Option, Some, inl, inr, refl, sym, ap, subst, ◌∙◌}
+use Rattle.std.specs.Option.{option_copied}
+use Rattle.command_line.specs.declared.command.Command.{Command}
+use Rattle.command_line.specs.declared.command.Command.TheVariants.{Run, Serve, Replay, Workload}
+use Rattle.command_line.specs.Words.{Meaning, run, serve, replay, workload}
+use Rattle.sheets_cli.specs.Program.{IsAskedBy}
+use Rattle.sheets_cli.proofs.Commands.{reads, only, run_serve, run_replay, run_workload, serve_replay, serve_workload}
+use Rattle.sheets_cli.proofs.Commands.{replay_workload, same_users, same_port, same_limit, same_served, same_journal}
+use Rattle.sheets_cli.proofs.Commands.{same_name, same_calls, run_no_serve, run_no_replay, serve_no_run}
+use Rattle.sheets_cli.proofs.Commands.{serve_no_replay, replay_no_run, workload_no_run, names_journal}
 use Rattle.sheets_cli.proofs.program.sheets_main.Goals as goal
 
 -- ---- no command
 
-pub returns-in_default-clause-run : goal.returns-in_default-clause-run
-returns-in_default-clause-run g c = λ reads.
-    absurd (none_found c.command_of.result _ c.command_of.ensures c.in_default.is Run reads)
+pub returns-in-None-clause-usage : goal.returns-in-None-clause-usage
+returns-in-None-clause-usage g c = (λ two. c.command_of.ensures.none.0 c.in-None.is, λ none. refl)
 
-pub returns-in_default-clause-exactly : goal.returns-in_default-clause-exactly
-returns-in_default-clause-exactly g c = λ reads.
-    absurd (none_found c.command_of.result _ c.command_of.ensures c.in_default.is Run reads)
+pub returns-in-None-clause-asked : goal.returns-in-None-clause-asked
+returns-in-None-clause-asked g c = λ command said. absurd (c.command_of.ensures.none.0 c.in-None.is command said)
 
-pub returns-in_default-clause-serve : goal.returns-in_default-clause-serve
-returns-in_default-clause-serve g c = λ port limit reads.
-    absurd (none_found c.command_of.result _ c.command_of.ensures c.in_default.is (Serve port limit) reads)
+pub returns-in-None-clause-run : goal.returns-in-None-clause-run
+returns-in-None-clause-run g c = λ users said. absurd (c.command_of.ensures.none.0 c.in-None.is (run users) said)
+
+pub returns-in-None-clause-exactly : goal.returns-in-None-clause-exactly
+returns-in-None-clause-exactly g c = λ said. absurd (c.command_of.ensures.none.0 c.in-None.is (run said.0) said.1)
+
+pub returns-in-None-clause-serve : goal.returns-in-None-clause-serve
+returns-in-None-clause-serve g c = λ port limit users journal said.
+    absurd (c.command_of.ensures.none.0 c.in-None.is (serve port limit users journal) said)
+
+pub returns-in-None-clause-replay : goal.returns-in-None-clause-replay
+returns-in-None-clause-replay g c = λ name said. absurd (c.command_of.ensures.none.0 c.in-None.is (replay name) said)
+
+pub returns-in-None-clause-workload : goal.returns-in-None-clause-workload
+returns-in-None-clause-workload g c = λ calls said. absurd (c.command_of.ensures.none.0 c.in-None.is (workload calls) said)
 
 -- ---- `run`
 
-pub returns-in-Run-clause-usage : goal.returns-in-Run-clause-usage
-returns-in-Run-clause-usage g c = (
-  λ two. absurd (never_usage c.run.ensures.run.0 (sym c.run.ensures.run.1.status_is ∙ two)),
-  λ none. absurd (not_none c.command_of.result _ c.in-Some.command c.command_of.ensures c.in-Some.is none),
-)
+pub returns-in-Some-Run-clause-untouched : goal.returns-in-Some-Run-clause-untouched
+returns-in-Some-Run-clause-untouched g c = λ other.
+    absurd (other (option_copied c.in-Some-Run.users, reads _ _ c.command_of.ensures.reads (Run c.in-Some-Run.users) (c.in-Some-Run.is ∙ ap (λ (k : Command). Some k) c.in-Some-Run.field-0-is)))
 
-pub returns-in-Run-clause-usage_line : goal.returns-in-Run-clause-usage_line
-returns-in-Run-clause-usage_line g c = λ none.
-    absurd (not_none c.command_of.result _ c.in-Some.command c.command_of.ensures c.in-Some.is none)
+pub returns-in-Some-Run-clause-asked : goal.returns-in-Some-Run-clause-asked
+returns-in-Some-Run-clause-asked g c = λ command said.
+    subst (λ (m : Meaning). IsAskedBy m (g.F.Folder.shown c.args.folder.now) (g.F.Folder.shown c.run.new.folder))
+    (only _ _ c.command_of.ensures.reads (Run c.in-Some-Run.users) (c.in-Some-Run.is ∙ ap (λ (k : Command). Some k) c.in-Some-Run.field-0-is) command said) c.run.ensures.asked
 
-pub returns-in-Run-clause-refused : goal.returns-in-Run-clause-refused
-returns-in-Run-clause-refused g c = λ none.
-    absurd (not_none c.command_of.result _ c.in-Some.command c.command_of.ensures c.in-Some.is none)
+pub returns-in-Some-Run-clause-run : goal.returns-in-Some-Run-clause-run
+returns-in-Some-Run-clause-run g c = λ users said.
+    let same = same_users (option_copied c.in-Some-Run.users) users (only _ _ c.command_of.ensures.reads (Run c.in-Some-Run.users) (c.in-Some-Run.is ∙ ap (λ (k : Command). Some k) c.in-Some-Run.field-0-is) (run users) said) in rw (sym same) c.run.ensures.run
 
-pub returns-in-Run-clause-untouched : goal.returns-in-Run-clause-untouched
-returns-in-Run-clause-untouched g c = λ other.
-    absurd (other (reads_run c.command_of.result _ c.in-Some.command c.command_of.ensures c.in-Some.is c.in-Run.is))
+pub returns-in-Some-Run-clause-serve : goal.returns-in-Some-Run-clause-serve
+returns-in-Some-Run-clause-serve g c = λ port limit users journal said.
+    absurd (run_serve _ _ _ _ _ (only _ _ c.command_of.ensures.reads (Run c.in-Some-Run.users) (c.in-Some-Run.is ∙ ap (λ (k : Command). Some k) c.in-Some-Run.field-0-is) (serve port limit users journal) said))
 
--- an end that the talk doesn't have comes only with a fault or for want of memory
-pub returns-in-Run-clause-exactly : goal.returns-in-Run-clause-exactly
-returns-in-Run-clause-exactly g c = λ is_run.
-    exactly_as c.conversation_laws.ensures.one_talk (g.I.Source.left c.args.input.now) MOST c.run.ensures.run.0
-    c.run.result
-    (Rose (g.I.Source.faults c.args.input.now) (g.I.Source.faults c.run.new.input))
-    (Rose (g.O.Sink.sink_faults c.args.output.now) (g.O.Sink.sink_faults c.run.new.output))
-    c.run.ensures.run.1.status_is c.run.ensures.run.1.ends c.run.ensures.read c.run.ensures.write
+pub returns-in-Some-Run-clause-replay : goal.returns-in-Some-Run-clause-replay
+returns-in-Some-Run-clause-replay g c = λ name said. absurd (run_replay _ _ (only _ _ c.command_of.ensures.reads (Run c.in-Some-Run.users) (c.in-Some-Run.is ∙ ap (λ (k : Command). Some k) c.in-Some-Run.field-0-is) (replay name) said))
 
-pub returns-in-Run-clause-serve : goal.returns-in-Run-clause-serve
-returns-in-Run-clause-serve g c = λ port limit reads.
-    absurd (run_alone c.command_of.result _ c.in-Some.command c.command_of.ensures c.in-Some.is c.in-Run.is
-    (port, limit, reads))
+pub returns-in-Some-Run-clause-workload : goal.returns-in-Some-Run-clause-workload
+returns-in-Some-Run-clause-workload g c = λ calls said. absurd (run_workload _ _ (only _ _ c.command_of.ensures.reads (Run c.in-Some-Run.users) (c.in-Some-Run.is ∙ ap (λ (k : Command). Some k) c.in-Some-Run.field-0-is) (workload calls) said))
 
-pub returns-in-Run-clause-doors_failed : goal.returns-in-Run-clause-doors_failed
-returns-in-Run-clause-doors_failed g c = λ reads.
-    absurd (run_alone c.command_of.result _ c.in-Some.command c.command_of.ensures c.in-Some.is c.in-Run.is reads)
+pub returns-in-Some-Run-clause-doors_failed : goal.returns-in-Some-Run-clause-doors_failed
+returns-in-Some-Run-clause-doors_failed g c = λ said. absurd (run_no_serve _ _ (only _ _ c.command_of.ensures.reads (Run c.in-Some-Run.users) (c.in-Some-Run.is ∙ ap (λ (k : Command). Some k) c.in-Some-Run.field-0-is)) (option_copied c.in-Some-Run.users) refl said)
 
-pub returns-in-Run-clause-steady_doors : goal.returns-in-Run-clause-steady_doors
-returns-in-Run-clause-steady_doors g c = λ reads.
-    absurd (run_alone c.command_of.result _ c.in-Some.command c.command_of.ensures c.in-Some.is c.in-Run.is reads)
+pub returns-in-Some-Run-clause-unread : goal.returns-in-Some-Run-clause-unread
+returns-in-Some-Run-clause-unread g c = λ said. absurd (run_no_replay _ _ (only _ _ c.command_of.ensures.reads (Run c.in-Some-Run.users) (c.in-Some-Run.is ∙ ap (λ (k : Command). Some k) c.in-Some-Run.field-0-is)) (option_copied c.in-Some-Run.users) refl said)
 
-pub returns-in-Run-clause-cut : goal.returns-in-Run-clause-cut
-returns-in-Run-clause-cut g c = λ n is. (
-  reads_run c.command_of.result _ c.in-Some.command c.command_of.ensures c.in-Some.is c.in-Run.is,
-  cut_where (g.I.Source.left c.args.input.now) c.run.ensures.run.0 MOST (sym c.run.ensures.run.1.status_is ∙ is)
-      c.run.ensures.run.1.ends,
-)
+pub returns-in-Some-Run-clause-cut : goal.returns-in-Some-Run-clause-cut
+returns-in-Some-Run-clause-cut g c = λ is. ((option_copied c.in-Some-Run.users, reads _ _ c.command_of.ensures.reads (Run c.in-Some-Run.users) (c.in-Some-Run.is ∙ ap (λ (k : Command). Some k) c.in-Some-Run.field-0-is)), c.run.ensures.cut is)
 
-pub returns-in-Run-clause-long : goal.returns-in-Run-clause-long
-returns-in-Run-clause-long g c = λ is. (
-  reads_run c.command_of.result _ c.in-Some.command c.command_of.ensures c.in-Some.is c.in-Run.is,
-  long_where (g.I.Source.left c.args.input.now) c.run.ensures.run.0 MOST (sym c.run.ensures.run.1.status_is ∙ is)
-      c.run.ensures.run.1.ends,
-)
+pub returns-in-Some-Run-clause-long : goal.returns-in-Some-Run-clause-long
+returns-in-Some-Run-clause-long g c = λ is. ((option_copied c.in-Some-Run.users, reads _ _ c.command_of.ensures.reads (Run c.in-Some-Run.users) (c.in-Some-Run.is ∙ ap (λ (k : Command). Some k) c.in-Some-Run.field-0-is)), c.run.ensures.long is)
+
+pub returns-in-Some-Run-clause-steady_doors : goal.returns-in-Some-Run-clause-steady_doors
+returns-in-Some-Run-clause-steady_doors g c = λ said. absurd (run_no_serve _ _ (only _ _ c.command_of.ensures.reads (Run c.in-Some-Run.users) (c.in-Some-Run.is ∙ ap (λ (k : Command). Some k) c.in-Some-Run.field-0-is)) (option_copied c.in-Some-Run.users) refl said)
+
+pub returns-in-Some-Run-clause-steady_replay : goal.returns-in-Some-Run-clause-steady_replay
+returns-in-Some-Run-clause-steady_replay g c = λ said. absurd (run_no_replay _ _ (only _ _ c.command_of.ensures.reads (Run c.in-Some-Run.users) (c.in-Some-Run.is ∙ ap (λ (k : Command). Some k) c.in-Some-Run.field-0-is)) (option_copied c.in-Some-Run.users) refl said)
 
 -- ---- `serve`
 
-pub returns-in-Serve-clause-usage : goal.returns-in-Serve-clause-usage
-returns-in-Serve-clause-usage g c = (
-  λ two. absurd (never_usage c.serve_connections.ensures.serve.0 (sym c.serve_connections.ensures.serve.1 ∙ two)),
-  λ none. absurd (not_none c.command_of.result _ c.in-Some.command c.command_of.ensures c.in-Some.is none),
+pub returns-in-Some-Serve-clause-unasked : goal.returns-in-Some-Serve-clause-unasked
+returns-in-Some-Serve-clause-unasked g c = λ other.
+    absurd (other (
+      c.in-Some-Serve.port,
+      c.in-Some-Serve.limit,
+      option_copied c.in-Some-Serve.users,
+      option_copied c.in-Some-Serve.journal,
+      reads _ _ c.command_of.ensures.reads (Serve c.in-Some-Serve.port c.in-Some-Serve.limit c.in-Some-Serve.users c.in-Some-Serve.journal) (c.in-Some-Serve.is ∙ ap (λ (k : Command). Some k) c.in-Some-Serve.field-0-is),
+    ))
+
+pub returns-in-Some-Serve-clause-asked : goal.returns-in-Some-Serve-clause-asked
+returns-in-Some-Serve-clause-asked g c = λ command said.
+    subst (λ (m : Meaning). IsAskedBy m (g.F.Folder.shown c.args.folder.now) (g.F.Folder.shown c.serve.new.folder))
+    (only _ _ c.command_of.ensures.reads (Serve c.in-Some-Serve.port c.in-Some-Serve.limit c.in-Some-Serve.users c.in-Some-Serve.journal) (c.in-Some-Serve.is ∙ ap (λ (k : Command). Some k) c.in-Some-Serve.field-0-is) command said) c.serve.ensures.asked
+
+pub returns-in-Some-Serve-clause-run : goal.returns-in-Some-Serve-clause-run
+returns-in-Some-Serve-clause-run g c = λ users said.
+    absurd (run_serve users _ _ _ _ (sym (only _ _ c.command_of.ensures.reads (Serve c.in-Some-Serve.port c.in-Some-Serve.limit c.in-Some-Serve.users c.in-Some-Serve.journal) (c.in-Some-Serve.is ∙ ap (λ (k : Command). Some k) c.in-Some-Serve.field-0-is) (run users) said)))
+
+pub returns-in-Some-Serve-clause-exactly : goal.returns-in-Some-Serve-clause-exactly
+returns-in-Some-Serve-clause-exactly g c = λ said. absurd (serve_no_run _ _ (only _ _ c.command_of.ensures.reads (Serve c.in-Some-Serve.port c.in-Some-Serve.limit c.in-Some-Serve.users c.in-Some-Serve.journal) (c.in-Some-Serve.is ∙ ap (λ (k : Command). Some k) c.in-Some-Serve.field-0-is)) c.in-Some-Serve.port c.in-Some-Serve.limit (option_copied c.in-Some-Serve.users) (option_copied c.in-Some-Serve.journal) refl said)
+
+-- the port, the number of connections and the files are those of the words
+pub returns-in-Some-Serve-clause-serve : goal.returns-in-Some-Serve-clause-serve
+returns-in-Some-Serve-clause-serve g c = λ port limit users journal said.
+    let same = only _ _ c.command_of.ensures.reads (Serve c.in-Some-Serve.port c.in-Some-Serve.limit c.in-Some-Serve.users c.in-Some-Serve.journal) (c.in-Some-Serve.is ∙ ap (λ (k : Command). Some k) c.in-Some-Serve.field-0-is) (serve port limit users journal) said in
+    let ports = same_port _ _ _ _ _ _ _ _ same in let limits = same_limit _ _ _ _ _ _ _ _ same in
+    let tables = same_served _ _ _ _ _ _ _ _ same in let journals = same_journal _ _ _ _ _ _ _ _ same in
+    rw (sym ports, sym limits, sym tables, sym journals) c.serve.ensures.serve
+
+pub returns-in-Some-Serve-clause-replay : goal.returns-in-Some-Serve-clause-replay
+returns-in-Some-Serve-clause-replay g c = λ name said. absurd (serve_replay _ _ _ _ _ (only _ _ c.command_of.ensures.reads (Serve c.in-Some-Serve.port c.in-Some-Serve.limit c.in-Some-Serve.users c.in-Some-Serve.journal) (c.in-Some-Serve.is ∙ ap (λ (k : Command). Some k) c.in-Some-Serve.field-0-is) (replay name) said))
+
+pub returns-in-Some-Serve-clause-workload : goal.returns-in-Some-Serve-clause-workload
+returns-in-Some-Serve-clause-workload g c = λ calls said. absurd (serve_workload _ _ _ _ _ (only _ _ c.command_of.ensures.reads (Serve c.in-Some-Serve.port c.in-Some-Serve.limit c.in-Some-Serve.users c.in-Some-Serve.journal) (c.in-Some-Serve.is ∙ ap (λ (k : Command). Some k) c.in-Some-Serve.field-0-is) (workload calls) said))
+
+pub returns-in-Some-Serve-clause-read : goal.returns-in-Some-Serve-clause-read
+returns-in-Some-Serve-clause-read g c = λ said. absurd (serve_no_run _ _ (only _ _ c.command_of.ensures.reads (Serve c.in-Some-Serve.port c.in-Some-Serve.limit c.in-Some-Serve.users c.in-Some-Serve.journal) (c.in-Some-Serve.is ∙ ap (λ (k : Command). Some k) c.in-Some-Serve.field-0-is)) c.in-Some-Serve.port c.in-Some-Serve.limit (option_copied c.in-Some-Serve.users) (option_copied c.in-Some-Serve.journal) refl said)
+
+pub returns-in-Some-Serve-clause-unread : goal.returns-in-Some-Serve-clause-unread
+returns-in-Some-Serve-clause-unread g c = λ said. absurd (serve_no_replay _ _ (only _ _ c.command_of.ensures.reads (Serve c.in-Some-Serve.port c.in-Some-Serve.limit c.in-Some-Serve.users c.in-Some-Serve.journal) (c.in-Some-Serve.is ∙ ap (λ (k : Command). Some k) c.in-Some-Serve.field-0-is)) c.in-Some-Serve.port c.in-Some-Serve.limit (option_copied c.in-Some-Serve.users) (option_copied c.in-Some-Serve.journal) refl said)
+
+pub returns-in-Some-Serve-clause-unopened : goal.returns-in-Some-Serve-clause-unopened
+returns-in-Some-Serve-clause-unopened g c = λ is. (
+  names_journal _ c.in-Some-Serve.port c.in-Some-Serve.limit (option_copied c.in-Some-Serve.users)
+      c.in-Some-Serve.journal (c.serve.ensures.unopened is).0 (reads _ _ c.command_of.ensures.reads (Serve c.in-Some-Serve.port c.in-Some-Serve.limit c.in-Some-Serve.users c.in-Some-Serve.journal) (c.in-Some-Serve.is ∙ ap (λ (k : Command). Some k) c.in-Some-Serve.field-0-is)),
+  (c.serve.ensures.unopened is).1,
 )
 
-pub returns-in-Serve-clause-usage_line : goal.returns-in-Serve-clause-usage_line
-returns-in-Serve-clause-usage_line g c = λ none.
-    absurd (not_none c.command_of.result _ c.in-Some.command c.command_of.ensures c.in-Some.is none)
+pub returns-in-Some-Serve-clause-steady_read : goal.returns-in-Some-Serve-clause-steady_read
+returns-in-Some-Serve-clause-steady_read g c = λ said. absurd (serve_no_run _ _ (only _ _ c.command_of.ensures.reads (Serve c.in-Some-Serve.port c.in-Some-Serve.limit c.in-Some-Serve.users c.in-Some-Serve.journal) (c.in-Some-Serve.is ∙ ap (λ (k : Command). Some k) c.in-Some-Serve.field-0-is)) c.in-Some-Serve.port c.in-Some-Serve.limit (option_copied c.in-Some-Serve.users) (option_copied c.in-Some-Serve.journal) refl said)
 
-pub returns-in-Serve-clause-refused : goal.returns-in-Serve-clause-refused
-returns-in-Serve-clause-refused g c = λ none.
-    absurd (not_none c.command_of.result _ c.in-Some.command c.command_of.ensures c.in-Some.is none)
+pub returns-in-Some-Serve-clause-steady_replay : goal.returns-in-Some-Serve-clause-steady_replay
+returns-in-Some-Serve-clause-steady_replay g c = λ said. absurd (serve_no_replay _ _ (only _ _ c.command_of.ensures.reads (Serve c.in-Some-Serve.port c.in-Some-Serve.limit c.in-Some-Serve.users c.in-Some-Serve.journal) (c.in-Some-Serve.is ∙ ap (λ (k : Command). Some k) c.in-Some-Serve.field-0-is)) c.in-Some-Serve.port c.in-Some-Serve.limit (option_copied c.in-Some-Serve.users) (option_copied c.in-Some-Serve.journal) refl said)
 
-pub returns-in-Serve-clause-unasked : goal.returns-in-Serve-clause-unasked
-returns-in-Serve-clause-unasked g c = λ other.
-    absurd (other (reads_serve c.command_of.result _ c.in-Some.command c.command_of.ensures c.in-Some.is
-    c.in-Serve.port c.in-Serve.limit c.in-Serve.is))
+-- ---- `replay`
 
-pub returns-in-Serve-clause-run : goal.returns-in-Serve-clause-run
-returns-in-Serve-clause-run g c = λ reads.
-    absurd (serve_alone c.command_of.result _ c.in-Some.command c.command_of.ensures c.in-Some.is c.in-Serve.port
-    c.in-Serve.limit c.in-Serve.is reads)
+pub returns-in-Some-Replay-clause-asked : goal.returns-in-Some-Replay-clause-asked
+returns-in-Some-Replay-clause-asked g c = λ command said.
+    subst (λ (m : Meaning). IsAskedBy m (g.F.Folder.shown c.args.folder.now) (g.F.Folder.shown c.replay.new.folder))
+    (only _ _ c.command_of.ensures.reads (Replay c.in-Some-Replay.journal) (c.in-Some-Replay.is ∙ ap (λ (k : Command). Some k) c.in-Some-Replay.field-0-is) command said) c.replay.ensures.asked
 
-pub returns-in-Serve-clause-exactly : goal.returns-in-Serve-clause-exactly
-returns-in-Serve-clause-exactly g c = λ reads.
-    absurd (serve_alone c.command_of.result _ c.in-Some.command c.command_of.ensures c.in-Some.is c.in-Serve.port
-    c.in-Serve.limit c.in-Serve.is reads)
+pub returns-in-Some-Replay-clause-run : goal.returns-in-Some-Replay-clause-run
+returns-in-Some-Replay-clause-run g c = λ users said. absurd (run_replay users _ (sym (only _ _ c.command_of.ensures.reads (Replay c.in-Some-Replay.journal) (c.in-Some-Replay.is ∙ ap (λ (k : Command). Some k) c.in-Some-Replay.field-0-is) (run users) said)))
 
-pub returns-in-Serve-clause-read : goal.returns-in-Serve-clause-read
-returns-in-Serve-clause-read g c = λ reads.
-    absurd (serve_alone c.command_of.result _ c.in-Some.command c.command_of.ensures c.in-Some.is c.in-Serve.port
-    c.in-Serve.limit c.in-Serve.is reads)
+pub returns-in-Some-Replay-clause-exactly : goal.returns-in-Some-Replay-clause-exactly
+returns-in-Some-Replay-clause-exactly g c = λ said. absurd (replay_no_run _ _ (only _ _ c.command_of.ensures.reads (Replay c.in-Some-Replay.journal) (c.in-Some-Replay.is ∙ ap (λ (k : Command). Some k) c.in-Some-Replay.field-0-is)) c.in-Some-Replay.journal.now refl said)
 
-pub returns-in-Serve-clause-steady_read : goal.returns-in-Serve-clause-steady_read
-returns-in-Serve-clause-steady_read g c = λ reads.
-    absurd (serve_alone c.command_of.result _ c.in-Some.command c.command_of.ensures c.in-Some.is c.in-Serve.port
-    c.in-Serve.limit c.in-Serve.is reads)
+pub returns-in-Some-Replay-clause-serve : goal.returns-in-Some-Replay-clause-serve
+returns-in-Some-Replay-clause-serve g c = λ port limit users journal said.
+    absurd (serve_replay _ _ _ _ _ (sym (only _ _ c.command_of.ensures.reads (Replay c.in-Some-Replay.journal) (c.in-Some-Replay.is ∙ ap (λ (k : Command). Some k) c.in-Some-Replay.field-0-is) (serve port limit users journal) said)))
 
--- the port and the number of connections are those of the words
-pub returns-in-Serve-clause-serve : goal.returns-in-Serve-clause-serve
-returns-in-Serve-clause-serve g c = λ port limit reads.
-    let same = served_so c.command_of.result _ c.in-Some.command c.command_of.ensures c.in-Some.is c.in-Serve.port
-    c.in-Serve.limit c.in-Serve.is port limit reads in
-    rw (sym same.0, sym same.1) c.serve_connections.ensures.serve
+pub returns-in-Some-Replay-clause-replay : goal.returns-in-Some-Replay-clause-replay
+returns-in-Some-Replay-clause-replay g c = λ name said.
+    let same = same_name c.in-Some-Replay.journal.now name (only _ _ c.command_of.ensures.reads (Replay c.in-Some-Replay.journal) (c.in-Some-Replay.is ∙ ap (λ (k : Command). Some k) c.in-Some-Replay.field-0-is) (replay name) said) in
+    rw (sym same) c.replay.ensures.replay
+
+pub returns-in-Some-Replay-clause-workload : goal.returns-in-Some-Replay-clause-workload
+returns-in-Some-Replay-clause-workload g c = λ calls said. absurd (replay_workload _ _ (only _ _ c.command_of.ensures.reads (Replay c.in-Some-Replay.journal) (c.in-Some-Replay.is ∙ ap (λ (k : Command). Some k) c.in-Some-Replay.field-0-is) (workload calls) said))
+
+pub returns-in-Some-Replay-clause-unopened : goal.returns-in-Some-Replay-clause-unopened
+returns-in-Some-Replay-clause-unopened g c = λ is. (inr (c.in-Some-Replay.journal.now, reads _ _ c.command_of.ensures.reads (Replay c.in-Some-Replay.journal) (c.in-Some-Replay.is ∙ ap (λ (k : Command). Some k) c.in-Some-Replay.field-0-is)), refl)
+
+-- ---- `workload`
+
+pub returns-in-Some-Workload-clause-asked : goal.returns-in-Some-Workload-clause-asked
+returns-in-Some-Workload-clause-asked g c = λ command said.
+    subst (λ (m : Meaning). IsAskedBy m (g.F.Folder.shown c.args.folder.now) (g.F.Folder.shown c.args.folder.now))
+    (only _ _ c.command_of.ensures.reads (Workload c.in-Some-Workload.calls) (c.in-Some-Workload.is ∙ ap (λ (k : Command). Some k) c.in-Some-Workload.field-0-is) command said) refl
+
+pub returns-in-Some-Workload-clause-run : goal.returns-in-Some-Workload-clause-run
+returns-in-Some-Workload-clause-run g c = λ users said. absurd (run_workload users _ (sym (only _ _ c.command_of.ensures.reads (Workload c.in-Some-Workload.calls) (c.in-Some-Workload.is ∙ ap (λ (k : Command). Some k) c.in-Some-Workload.field-0-is) (run users) said)))
+
+pub returns-in-Some-Workload-clause-exactly : goal.returns-in-Some-Workload-clause-exactly
+returns-in-Some-Workload-clause-exactly g c = λ said. absurd (workload_no_run _ _ (only _ _ c.command_of.ensures.reads (Workload c.in-Some-Workload.calls) (c.in-Some-Workload.is ∙ ap (λ (k : Command). Some k) c.in-Some-Workload.field-0-is)) c.in-Some-Workload.calls refl said)
+
+pub returns-in-Some-Workload-clause-serve : goal.returns-in-Some-Workload-clause-serve
+returns-in-Some-Workload-clause-serve g c = λ port limit users journal said.
+    absurd (serve_workload _ _ _ _ _ (sym (only _ _ c.command_of.ensures.reads (Workload c.in-Some-Workload.calls) (c.in-Some-Workload.is ∙ ap (λ (k : Command). Some k) c.in-Some-Workload.field-0-is) (serve port limit users journal) said)))
+
+pub returns-in-Some-Workload-clause-replay : goal.returns-in-Some-Workload-clause-replay
+returns-in-Some-Workload-clause-replay g c = λ name said. absurd (replay_workload name _ (sym (only _ _ c.command_of.ensures.reads (Workload c.in-Some-Workload.calls) (c.in-Some-Workload.is ∙ ap (λ (k : Command). Some k) c.in-Some-Workload.field-0-is) (replay name) said)))
+
+pub returns-in-Some-Workload-clause-workload : goal.returns-in-Some-Workload-clause-workload
+returns-in-Some-Workload-clause-workload g c = λ calls said.
+    let same = same_calls c.in-Some-Workload.calls calls (only _ _ c.command_of.ensures.reads (Workload c.in-Some-Workload.calls) (c.in-Some-Workload.is ∙ ap (λ (k : Command). Some k) c.in-Some-Workload.field-0-is) (workload calls) said) in
+    rw (sym same) c.workload.ensures.workload

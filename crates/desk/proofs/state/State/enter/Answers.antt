@@ -7,7 +7,7 @@ use Rattle.desk.specs.declared.entry.Noted.TheVariants as noted
 use Rattle.desk.specs.Noting.{piece_of, is_first, place_of, IsTornBehind, IsKept, IsMarked}
 use Rattle.desk.specs.Steps.{Outcome, entry_of, is_full, history_full}
 use Rattle.desk.specs.Points.{Telling, IsSound, entries_of, last_counted}
-use Rattle.desk.proofs.Lists.{place_within}
+use Rattle.desk.proofs.Journals.{place_within}
 use Rattle.desk.proofs.States.{sound_entry, sound_mark, full_journal, room_journal, total_journal, fields_fit, counts_fit, first_of, place_first, place_later, noted_kept, noted_marked, torn_behind}
 use Rattle.desk.proofs.Replies.{within_full, within_room, served_not, stepped, marked, no_growth_mark}
 use Rattle.desk.proofs.state.State.enter.Given as given

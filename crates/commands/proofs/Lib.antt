@@ -1,0 +1,9 @@
+pub mod Statuses
+pub mod Finishes
+pub mod SendLemmas
+pub mod FolderLemmas
+pub mod RunLemmas
+pub mod ReplayLemmas
+pub mod ServeLemmas
+pub mod UsersLemmas
+pub mod WorkLemmas

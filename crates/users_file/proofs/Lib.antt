@@ -1,0 +1,6 @@
+pub mod Bytes
+pub mod Fields
+pub mod Records
+pub mod TableLaws
+pub mod Tables
+pub mod Tokens
