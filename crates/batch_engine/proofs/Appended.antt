@@ -21,10 +21,10 @@ use Rattle.values_api.specs.declared.appending.Added.{Added}
 use Rattle.values_api.specs.declared.table.Rectangle.{Rectangle}
 use Rattle.values_api.specs.declared.writing.Written.{Written}
 use Rattle.sheets_json.specs.declared.answer.Update.{Update as UpdateAnswer}
-use Rattle.batch_engine.specs.Members.{IsDoneTo}
+use Rattle.request_kinds.specs.Telling.{IsDoneTo}
+use Rattle.request_kinds.specs.TellingLaws.{done_of}
+use Rattle.request_kinds.specs.FoundLaws.{some_and}
 use Rattle.batch_engine.specs.Values.{Appended, IsAppendOn, IsTextOf, update_of}
-use Rattle.batch_engine.proofs.DeniedOnce.{done_of}
-use Rattle.batch_engine.proofs.Ranged.{some_and}
 
 abbrev Done : Type 0
 Done = Option Area × Written

@@ -20,11 +20,11 @@ use Rattle.json_requests.specs.declared.request.MetadataLookup.{MetadataLookup}
 use Rattle.json_shapes.specs.Reading.{Reading}
 use Rattle.sheets_json.specs.declared.answer.MatchedRange.{MatchedRange}
 use Rattle.sheets_json.specs.declared.answer.ShownRange.{ShownRange}
-use Rattle.batch_engine.specs.Filtered.{AreAreasLookedUp, AreAreasOf, AreAreasShown, AreFilterShown, AreShownBy, IsShownAs, Showing}
+use Rattle.request_kinds.specs.Metadata.{broken_by_lookups, items_seen, lookup_of}
+use Rattle.request_kinds.specs.ItemLaws.{ids_once}
+use Rattle.batch_engine.specs.Filtered.{AreAreasLookedUp, AreAreasOf, AreAreasShown, AreShownBy, IsShownAs, Showing}
 use Rattle.batch_engine.specs.Filtered.{alone_or_broken, area_found, areas_of_items, matched_range}
-use Rattle.batch_engine.specs.Metadata.{broken_by_lookups, items_seen, lookup_of}
 use Rattle.batch_engine.specs.Values.{axis_or_rows, is_columns, render_or_formatted, shown_range}
-use Rattle.batch_engine.proofs.MetadataOnce.{ids_once}
 
 -- what a range text names
 pub resolves_once : HasOneReading → (text : List ℕ) (book : PlaceBook) (one other : Result FoundArea Rule)

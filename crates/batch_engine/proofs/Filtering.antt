@@ -1,5 +1,5 @@
 -- What data filters show, from what each step says.
-use Rattle.std.proofs.Common.{◌≡◌, ◌+◌, ◌<◌, ◌≤◌, ◌++◌, ℕ, Bool, true, false, refl, sym, ap, subst, ◌∙◌, List, [], ◌∷◌, All, length, get_or, take, arith}
+use Rattle.std.proofs.Common.{◌≡◌, ◌+◌, ◌<◌, ◌≤◌, ◌++◌, ℕ, false, refl, sym, ap, subst, ◌∙◌, List, [], ◌∷◌, All, length, get_or, take, arith}
 use Rattle.std.specs.Prelude.{◌==◌, ◌&&◌, map, flat_map, Option, None, Some, IsSomeAnd, IfSome, Result, Ok, Err}
 use Rattle.std.specs.List.{AllZip, cons_option}
 use Rattle.std.specs.Option.{IsSome}
@@ -33,15 +33,13 @@ use Rattle.json_requests.specs.declared.request.MetadataLookup.{MetadataLookup}
 use Rattle.json_shapes.specs.Reading.{Reading}
 use Rattle.sheets_json.specs.declared.answer.MatchedRange.{MatchedRange}
 use Rattle.sheets_json.specs.declared.answer.ShownRange.{ShownRange}
-use Rattle.batch_engine.specs.Dimensions.{whole_sheet}
-use Rattle.batch_engine.specs.Filtered.{AreAllShown, AreAreasFound, AreAreasLookedUp, AreAreasOf, AreAreasShown, AreFilterShown, AreShownBy}
-use Rattle.batch_engine.specs.Filtered.{IsShownAs, Showing, alone_or_broken, area_found, area_of_spot, areas_of_items, joined, matched_range}
-use Rattle.batch_engine.specs.Members.{InOrder}
-use Rattle.batch_engine.specs.Metadata.{AreIdsFound, broken_by_lookups, items_seen}
-use Rattle.batch_engine.specs.Rows.{area_or_broken}
-use Rattle.batch_engine.proofs.Found.{found_holds, sheet_sound}
+use Rattle.request_kinds.specs.Dimensions.{whole_sheet}
+use Rattle.request_kinds.specs.Metadata.{AreIdsFound, broken_by_lookups, items_seen}
+use Rattle.request_kinds.specs.Rows.{area_or_broken}
+use Rattle.request_kinds.specs.FoundLaws.{found_holds, sheet_sound, some_and}
+use Rattle.batch_engine.specs.Filtered.{AreAllShown, AreAreasLookedUp, AreAreasOf, AreAreasShown, AreFilterShown, AreShownBy}
+use Rattle.batch_engine.specs.Filtered.{IsShownAs, Showing, alone_or_broken, area_of_spot, areas_of_items, matched_range}
 use Rattle.batch_engine.proofs.Judging.{SoFar, all_told, broken_told, one_more}
-use Rattle.batch_engine.proofs.Ranged.{some_and}
 
 -- ---- where items lie
 

@@ -7,9 +7,10 @@ use Rattle.world_model.specs.Book.{PlaceBook}
 use Rattle.world_model.specs.BookChange.{AreChanges, BookChange}
 use Rattle.world_model.specs.ChangingLaws.{ChangesApart, ChangesInTurn}
 use Rattle.world_model.specs.Sound.{IsSound}
-use Rattle.batch_engine.specs.Members.{AreDone, InTurn, IsDoneTo, ThenOn, Told, with_first}
 use Rattle.dimension_ops.specs.Rules.{IsUnlessNoMemory}
 use Rattle.dimension_ops.specs.declared.rule.RuleOr.{RuleOr}
+use Rattle.request_kinds.specs.Telling.{IsDoneTo}
+use Rattle.batch_engine.specs.Members.{AreDone, InTurn, ThenOn, Told, with_first}
 use Rattle.batch_engine.specs.Calls.{as_told}
 use Rattle.batch_engine.proofs.Judged.{judged_so}
 use Rattle.batch_engine.proofs.Judging.{with_all, with_all_err, with_all_more, with_all_ok}

@@ -22,11 +22,10 @@ use Rattle.sheets_json.specs.declared.call.Call.{Call}
 use Rattle.sheets_json.specs.declared.call.Call.TheVariants as call
 use Rattle.sheets_json.specs.declared.call.NewSpreadsheet.{NewSpreadsheet}
 use Rattle.sheets_json.specs.declared.call.ValueRange.{ValueRange}
+use Rattle.sheets_json.specs.declared.place.Place.TheVariants as place
 use Rattle.batch_engine.specs.Effects.{Effect, Becomes, IsNext}
 use Rattle.batch_engine.specs.Effects.Effect.{Nothing, Changes}
-use Rattle.sheets_json.specs.declared.place.Place.TheVariants as place
-use Rattle.batch_engine.specs.Calls.{OnBook, IsAlone, IsAnswered, IsApplied, IsChange, IsInstalled, Refusal, alone, as_told, told_as}
-use Rattle.batch_engine.specs.Calls.{AreNext, IsMaking}
+use Rattle.batch_engine.specs.Calls.{OnBook, IsAlone, IsAnswered, IsApplied, IsChange, IsInstalled, Refusal, alone, as_told, told_as, AreNext, IsMaking}
 use Rattle.batch_engine.specs.Create.{IsCreateOf}
 use Rattle.batch_engine.specs.Looks.{IsSpreadsheetShown}
 use Rattle.batch_engine.specs.Calls.{IsLookOf, IsClearOf, IsReadOf, IsReadManyOf, IsWriteOf, IsItemOf, IsReadFilteredOf, IsSearchOf}

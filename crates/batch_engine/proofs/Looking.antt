@@ -16,7 +16,7 @@ use Rattle.sheets_json.specs.declared.spreadsheet.Spreadsheet.{Spreadsheet}
 use Rattle.values_api.specs.Values.{CellsHaveOneValue}
 use Rattle.batch_engine.specs.HiddenRows.{AreRowsTold}
 use Rattle.batch_engine.specs.Looks.{AreSheetsShown, IsGridShown, IsSpreadsheetShown, shown_from, shown_sheet, spreadsheet_alone, spreadsheet_with, with_rows, with_sheets}
-use Rattle.batch_engine.specs.Protections.{shown_protections}
+use Rattle.batch_engine.specs.Looks.{shown_protections}
 use Rattle.batch_engine.proofs.HiddenRows.{rows_once, zip_next}
 
 module _ (user : List ℕ) (book : PlaceBook) where

@@ -11,7 +11,6 @@ use Rattle.a1_notation.specs.Laws.{HasOneReading}
 use Rattle.dev_metadata.specs.Listed.{AreIdsInOrder, found_by_some}
 use Rattle.world_model.specs.Book.{PlaceBook}
 use Rattle.world_model.specs.BookChange.{AreChanges, BookChange}
-use Rattle.merge_ranges.specs.Calls.{ListsAreSame}
 use Rattle.world_model.specs.ChangingLaws.{ChangesApart, ChangesInTurn}
 use Rattle.world_model.specs.Sheet.{PlaceSheet}
 use Rattle.world_model.specs.Sound.{IsSound, place_sheet_with}
@@ -27,6 +26,8 @@ use Rattle.values_api.specs.Values.{CellsHaveOneValue}
 use Rattle.values_api.specs.declared.writing.Written.{Written}
 use Rattle.json_requests.specs.declared.request.DataFilter.{DataFilter}
 use Rattle.json_requests.specs.declared.request.MetadataLookup.{MetadataLookup}
+use Rattle.json_requests.specs.declared.request.Step.{Step}
+use Rattle.json_requests.specs.declared.request.Step.TheVariants as step
 use Rattle.json_shapes.specs.Reading.{Reading}
 use Rattle.sheets_json.specs.declared.answer.Answer.{Answer}
 use Rattle.sheets_json.specs.declared.answer.Answer.TheVariants as answer
@@ -34,9 +35,18 @@ use Rattle.sheets_json.specs.declared.call.Call.{Call}
 use Rattle.sheets_json.specs.declared.call.Call.TheVariants as call
 use Rattle.sheets_json.specs.declared.call.RangeBlock.{RangeBlock}
 use Rattle.sheets_json.specs.declared.call.ValueRange.{ValueRange}
+use Rattle.sheets_json.specs.declared.spreadsheet.Reply.{Reply}
+use Rattle.sheets_json.specs.declared.answer.ShownRange.{ShownRange}
+use Rattle.sheets_json.specs.declared.place.Place.{Place}
+use Rattle.sheets_json.specs.declared.place.Place.TheVariants as place
+use Rattle.request_kinds.specs.Telling.{cells_updated}
+use Rattle.request_kinds.specs.Laws.{RequestsDoneOnce}
+use Rattle.request_kinds.specs.Metadata.{lookups_of}
+use Rattle.request_kinds.specs.TellingLaws.{unless_once, unless_told_once}
+use Rattle.request_kinds.specs.ItemLaws.{ids_once}
 use Rattle.batch_engine.specs.declared.calls.Caller.{Caller}
 use Rattle.batch_engine.specs.Create.{IsCreateOf}
-use Rattle.batch_engine.specs.Effects.{Effect, cells_updated}
+use Rattle.batch_engine.specs.Effects.{Effect}
 use Rattle.batch_engine.specs.Effects.Effect.{Nothing}
 use Rattle.batch_engine.specs.Ranges.{IsTarget, agreed}
 use Rattle.batch_engine.specs.Values.{OnRange, done, refused, IsRead, IsClear, IsUpdate, IsShown, IsCleared, IsWritten}
@@ -44,23 +54,15 @@ use Rattle.batch_engine.specs.Values.{Appended, IsAppendOn, IsAppended, IsUpdate
 use Rattle.batch_engine.specs.Values.{axis_or_rows, is_columns, render_or_formatted, shown_range}
 use Rattle.batch_engine.specs.Calls.{AreMade, IsAppendOf, IsBatchOf, IsLookOf, IsAlone, IsAnswered, IsClearManyOf, IsClearOf, IsMade, IsReadManyOf}
 use Rattle.batch_engine.specs.Calls.{IsReadFilteredOf, IsReadOf, IsSearchOf, IsItemOf, IsSeen, IsWriteManyOf, IsWriteOf, OnBook, Refusal, alone, answered_at}
-use Rattle.batch_engine.specs.Calls.{answered_by, effect_of, effect_on, told_of, written_answer}
+use Rattle.batch_engine.specs.Calls.{answered_by, effect_of, effect_on, told_of, written_answer, IsRequested}
 use Rattle.batch_engine.specs.Filtered.{AreShownBy, Showing}
 use Rattle.batch_engine.specs.Members.{InOrder, Then, Told, with_first}
-use Rattle.batch_engine.specs.Metadata.{lookups_of}
 use Rattle.batch_engine.specs.Searches.{asked_or_broken, item_told, search_answer}
-use Rattle.sheets_json.specs.declared.answer.ShownRange.{ShownRange}
-use Rattle.sheets_json.specs.declared.place.Place.{Place}
-use Rattle.sheets_json.specs.declared.place.Place.TheVariants as place
 use Rattle.batch_engine.specs.Laws.{IsOnce}
 use Rattle.batch_engine.proofs.Created.{create_once}
-use Rattle.batch_engine.proofs.DeniedOnce.{unless_once, unless_told_once}
 use Rattle.batch_engine.proofs.FilteredOnce.{resolves_once, shown_by_once}
-use Rattle.batch_engine.proofs.MetadataOnce.{ids_once}
 use Rattle.batch_engine.proofs.InTurns.{in_turn_once}
 use Rattle.batch_engine.proofs.Looking.{look_once}
-use Rattle.batch_engine.proofs.RequestsOnce.{requested_once}
-use Rattle.batch_engine.specs.Requests.{IsRequested}
 
 some_same : {A : Type 0} (one other : A) → Some one ≡ Some other → one ≡ other
 some_same one other e = cc
@@ -300,9 +302,9 @@ found_sound id (b ∷ bs) all =
     first_sound (bytes_eq b.id id) b (book_with id bs) (all 0 b (omega arith))
     (found_sound id bs (λ k d there. all (suc k) d (omega arith)))
 
-module _ (one_reading : HasOneReading) (news : NewSheetsOnce) (reads : ReadsOnce) (held : CellsHaveOneValue)
-    (writes : WritesOnce) (appends : AppendsOnce) (apart : ChangesApart) (turns : ChangesInTurn)
-    (lists : ListsAreSame) where
+module _ (one_reading : HasOneReading) (news : NewSheetsOnce) (requests : RequestsDoneOnce) (reads : ReadsOnce)
+    (held : CellsHaveOneValue) (writes : WritesOnce) (appends : AppendsOnce) (apart : ChangesApart)
+    (turns : ChangesInTurn) where
   shown_once : (dimension : Option Axis) (render : Option Render) (book : PlaceBook) → IsSound book → (range : List ℕ)
       (one other : Result ShownRange Rule) → IsShown dimension render book range one
       → IsShown dimension render book range other → one ≡ other
@@ -343,6 +345,12 @@ module _ (one_reading : HasOneReading) (news : NewSheetsOnce) (reads : ReadsOnce
       on_range_once (Resolves values.range book) book.sheets (IsUpdate user book values.block)
       (resolves_once one_reading values.range book) (update_once writes user book sound values.block)
   updated_once user book sound (Err shape) = λ one other is is'. is ∙ sym is'
+
+  requested_once : (user project : List ℕ) (book : PlaceBook) → IsSound book → (asked : Step)
+      (one other : Result (Reply × List BookChange) Rule) → IsRequested user project book asked one
+      → IsRequested user project book asked other → one ≡ other
+  requested_once user project book sound (step.Read asked) = requests.once user project book sound asked
+  requested_once user project book sound (step.Shape shape) = λ one other is is'. is ∙ sym is'
 
   read_many_once : (ranges : List (List ℕ)) (dimension : Option Axis) (render : Option Render) (book : PlaceBook)
       → IsSound book → IsOnce (IsReadManyOf ranges dimension render book)
@@ -414,10 +422,10 @@ module _ (one_reading : HasOneReading) (news : NewSheetsOnce) (reads : ReadsOnce
         alone_once (IsCreateOf caller.user spreadsheet books) (create_once news caller.user spreadsheet books)
     answered_once caller (call.Get id grids) =
         on_book_once id (IsLookOf caller.user grids) (λ book sound. looks_once held caller.user grids book sound)
-    answered_once caller (call.Batch id requests) =
-        on_book_once id (IsBatchOf caller.user caller.project requests)
+    answered_once caller (call.Batch id asked) =
+        on_book_once id (IsBatchOf caller.user caller.project asked)
         (λ book sound. are_made_once (IsRequested caller.user caller.project)
-        (requested_once news writes apart turns lists caller.user caller.project) requests place.Requests
+        (requested_once caller.user caller.project) asked place.Requests
         (λ replies. answer.Batch replies book.id) book sound)
     answered_once caller (call.ReadFiltered id filters dimension render) =
         let how : Showing = record { dimension = dimension; render = render } in

@@ -1,14 +1,12 @@
 -- A call leaves each cell that is protected from its caller.
-use Rattle.std.proofs.Common.{◌≡◌, ℕ, refl, sym, ap, subst, ◌∙◌, List, Bool, false}
-use Rattle.std.specs.Prelude.{None, Option, Some, IsSomeAnd, Result, Ok, Err}
+use Rattle.std.proofs.Common.{◌≡◌, ℕ, ◌+◌, refl, sym, ap, subst, ◌∙◌, List, [], ◌∷◌, Bool}
+use Rattle.std.specs.Prelude.{None, Option, Some, IsSomeAnd, MatchResult, Result, Ok, Err}
 use Rattle.std.specs.Str.{bytes_eq}
 use Rattle.std.proofs.lemmas.Slice.Eq.{bytes_eq-Decides}
 use Rattle.cell_value.specs.declared.cell.Block.{Block}
 use Rattle.grid_range.specs.declared.area.Area.{Area}
 use Rattle.world_model.specs.Book.{NameBook, PlaceBook}
 use Rattle.world_model.specs.BookChange.{BookChange}
-use Rattle.world_model.specs.Leaving.{LeftCellsStay}
-use Rattle.world_model.specs.ProtectionLaws.{DenialsByName}
 use Rattle.world_model.specs.Sheet.{PlaceSheet}
 use Rattle.world_model.specs.Sound.{place_sheet_with}
 use Rattle.dimension_ops.specs.World.{book_with}
@@ -16,13 +14,12 @@ use Rattle.dimension_ops.specs.declared.rule.Limit.{Limit}
 use Rattle.dimension_ops.specs.declared.rule.Rule.{Rule}
 use Rattle.dimension_ops.specs.declared.rule.Rule.TheVariants as rule
 use Rattle.values_api.specs.Appends.{IsAppendUnless, IsAppended as IsValuesAppended, limit_passed, lines_added, start_of}
-use Rattle.values_api.specs.Denials.{AreaCells, IsDenial, WriteCells}
+use Rattle.values_api.specs.Blocks.{contents_of}
+use Rattle.values_api.specs.Denials.{AreaCells, IsDenial, IsWriteBy}
 use Rattle.values_api.specs.Ranges.{FoundArea, Resolves}
 use Rattle.values_api.specs.declared.appending.Added.{Added}
 use Rattle.values_api.specs.declared.table.Rectangle.{Rectangle}
 use Rattle.values_api.specs.declared.writing.Written.{Written}
-use Rattle.json_requests.specs.declared.request.Request.{Request}
-use Rattle.json_requests.specs.declared.request.Request.TheVariants as request
 use Rattle.json_requests.specs.declared.request.Step.{Step}
 use Rattle.json_requests.specs.declared.request.Step.TheVariants as step
 use Rattle.json_shapes.specs.Reading.{Reading}
@@ -36,24 +33,47 @@ use Rattle.sheets_json.specs.declared.call.ValueRange.{ValueRange}
 use Rattle.sheets_json.specs.declared.place.Place.{Place}
 use Rattle.sheets_json.specs.declared.place.Place.TheVariants as place
 use Rattle.sheets_json.specs.declared.spreadsheet.Reply.{Reply}
-use Rattle.batch_engine.specs.Calls.{AreMade, IsAlone, IsAnswered, IsMade, OnBook, Refusal, effect_of, effect_on, written_answer}
+use Rattle.request_kinds.specs.FoundLaws.{found_passes}
+use Rattle.request_kinds.specs.Telling.{cells_updated}
+use Rattle.request_kinds.specs.TellingLaws.{as_told, done_of, match_told, none_denied, told_apart, told_changes}
+use Rattle.kept_cells.specs.Protected.{ProtectedCellsKeep}
+use Rattle.kept_cells.specs.Staying.{LeavesProtectedInParts}
+use Rattle.batch_engine.specs.Calls.{AreMade, IsAlone, IsAnswered, IsMade, OnBook, Refusal, effect_of, effect_on, written_answer, IsRequested}
 use Rattle.batch_engine.specs.Create.{IsCreateOf, unless_broken}
 use Rattle.batch_engine.specs.Effects.Effect.{Changes, Makes, Nothing}
-use Rattle.batch_engine.specs.Members.{Told}
-use Rattle.batch_engine.specs.Protected.{LeavesProtectedInParts}
-use Rattle.batch_engine.specs.Requests.{IsDoneByKind, IsRequested}
-use Rattle.batch_engine.specs.Touching.{TouchedCells}
-use Rattle.batch_engine.specs.Untouched.{UntouchedCellsKeep, appends_rows}
-use Rattle.batch_engine.specs.Values.{Appended, IsAppendOn, IsAppended, IsClear, IsCleared, IsUpdate, IsUpdated, IsWritten, OnRange, Wrote, appended_of, clear, done, inserts, refused, rule_of}
+use Rattle.batch_engine.specs.Members.{InTurn, ThenOn, Told}
+use Rattle.batch_engine.specs.Values.{Appended, IsAppendOn, IsAppended, IsClear, IsCleared, IsUpdate, IsUpdated, IsWritten, OnRange, Wrote, appended_of, clear, done, inserts, refused, rule_of, update_of}
 use Rattle.batch_engine.specs.declared.calls.Caller.{Caller}
-use Rattle.batch_engine.proofs.DeniedOnce.{done_of, none_denied}
-use Rattle.batch_engine.proofs.Found.{found_passes}
-use Rattle.batch_engine.proofs.ToldChanges.{as_told, match_told, told_apart, told_changes}
-use Rattle.batch_engine.proofs.ProtectedParts.{append_rows_parts, appended_parts, one_part, turn_parts}
 
--- ---- members
+-- ---- members, one after another
 
-module _ (keep : UntouchedCellsKeep) (stays : LeftCellsStay) (denials : DenialsByName) (user : List ℕ) where
+module _ (law : ProtectedCellsKeep) (user : List ℕ) {M A : Type 0} (Is : PlaceBook → M → Result (A × List BookChange) Rule → Type 0)
+    (each : (book : PlaceBook) (member : M) (one : A) (changes : List BookChange) → Is book member (Ok (one, changes))
+    → LeavesProtectedInParts user book changes) where
+  then_parts : (IsRest : PlaceBook → Told A → List BookChange → Type 0)
+      → ((book : PlaceBook) (told : Told A) (changes : List BookChange) → IsRest book told changes
+      → LeavesProtectedInParts user book changes)
+      → (at : ℕ) (member : M) (one : Result (A × List BookChange) Rule) (before : PlaceBook) (told : Told A)
+      (changes : List BookChange) → Is before member one → ThenOn at one IsRest before told changes
+      → LeavesProtectedInParts user before changes
+  then_parts IsRest rest_parts at member (Ok (first, made)) before told changes is
+      (between, rest, others, are, rest_is, told_is, changes_are) =
+      subst (LeavesProtectedInParts user before) (sym changes_are)
+      (law.both user before between made others are (each before member first made is)
+      (rest_parts between rest others rest_is))
+  then_parts IsRest rest_parts at member (Err broken) before told changes is (told_is, changes_are) =
+      subst (LeavesProtectedInParts user before) (sym changes_are) (law.nothing user before)
+
+  pub turn_parts : (at : ℕ) (members : List M) (before : PlaceBook) (told : Told A) (changes : List BookChange)
+      → InTurn Is at members before told changes → LeavesProtectedInParts user before changes
+  turn_parts at [] before told changes (told_is, changes_are) =
+      subst (LeavesProtectedInParts user before) (sym changes_are) (law.nothing user before)
+  turn_parts at (member ∷ members) before told changes (one, is, then) =
+      then_parts (InTurn Is (at + 1) members) (turn_parts (at + 1) members) at member one before told changes is then
+
+-- ---- each member
+
+module _ (law : ProtectedCellsKeep) (user : List ℕ) where
   abbrev InParts : PlaceBook → List BookChange → Type 0
   InParts = LeavesProtectedInParts user
 
@@ -73,9 +93,9 @@ module _ (keep : UntouchedCellsKeep) (stays : LeftCellsStay) (denials : DenialsB
   clear_parts book told found sheet at is =
       let same : as_told told ≡ as_told (clear found sheet) = sym (done_of is.denied is.done told is.told_is) ∙ is.is in
       subst (InParts book) (told_changes told (clear found sheet) same)
-      (one_part denials user book (AreaCells book.sheets found.0) (clear found sheet).1
+      (law.clear user book found.0
       (subst (IsDenial user book (AreaCells book.sheets found.0)) (none_denied is.denied is.done told is.told_is)
-      is.is_denied) (keep.clear book found sheet))
+      is.is_denied))
 
   cleared_parts : (book : PlaceBook) (range : Reading (List ℕ)) (one : List ℕ) (changes : List BookChange)
       → IsCleared user book range (Ok (one, changes)) → InParts book changes
@@ -86,12 +106,17 @@ module _ (keep : UntouchedCellsKeep) (stays : LeftCellsStay) (denials : DenialsB
   update_parts : (book : PlaceBook) (block : Block) (told : Wrote × List BookChange) (found : FoundArea) (sheet : PlaceSheet)
       → place_sheet_with found.0.sheet book.sheets ≡ Some sheet → IsUpdate user book block found sheet (as_told told)
       → InParts book told.1
-  update_parts book block (wrote, changes) found sheet at is =
-      let (counts, told, says) = match_told {B = Wrote × List BookChange} is.wrote _ (wrote, changes) is.tells in
-      one_part denials user book (WriteCells book.sheets found.1 found.0 block) changes
-      (subst (IsDenial user book (WriteCells book.sheets found.1 found.0 block))
-      (none_denied is.writes.denied is.writes.done counts (told ∙ is.writes.told_is)) is.writes.is_denied)
-      (keep.write user book block found sheet wrote changes at is)
+  update_parts book block told found sheet at is = go is.wrote is.writes is.tells
+    where
+      go : (done : Result Written Rule) (writes : IsWriteBy user found.1 found.0 block sheet book is.after done)
+          → MatchResult done
+          (λ counts. as_told told ≡ Ok ((update_of book sheet counts, counts), cells_updated found.0.sheet (contents_of writes.is.entries)))
+          (λ broken. as_told told ≡ Err broken)
+          → InParts book told.1
+      go (Ok counts) writes tells =
+          subst (InParts book) (told_changes told (_, cells_updated found.0.sheet (contents_of writes.is.entries)) tells)
+          (law.write user found.1 found.0 block sheet book is.after counts at writes)
+      go (Err broken) writes tells = absurd (told_apart told broken tells)
 
   written_parts : (range : List ℕ) (book : PlaceBook) (values : Reading ValueRange) (one : Wrote) (changes : List BookChange)
       → IsWritten user range book values (Ok (one, changes)) → InParts book changes
@@ -115,7 +140,7 @@ module _ (keep : UntouchedCellsKeep) (stays : LeftCellsStay) (denials : DenialsB
       → IsAppendUnless limit (IsValuesAppended user sheet added start block table changes before after (as_answer made))
       changes (as_answer made) → InParts before changes
   unless_passed_parts sheet added start block table changes before after made None is =
-      appended_parts denials user stays sheet added start block table changes before after made is
+      law.append user sheet added start block table changes before after made is
   unless_passed_parts sheet added start block table changes before after made (Some limit) is =
       absurd (told_apart made (rule.PastLimit limit) is.1)
 
@@ -143,67 +168,9 @@ module _ (keep : UntouchedCellsKeep) (stays : LeftCellsStay) (denials : DenialsB
 
   -- ---- requests
 
-  by_kind_parts : (project : List ℕ) (book : PlaceBook) (asked : Request) (denied : Option ℕ) → denied ≡ None
-      → IsDenial user book (TouchedCells book.sheets asked) denied → (reply : Reply) (changes : List BookChange)
-      → appends_rows asked ≡ false → IsDoneByKind user project book asked (Ok (reply, changes)) → InParts book changes
-  by_kind_parts project book asked denied none is_denied reply changes other is =
-      one_part denials user book (TouchedCells book.sheets asked) changes
-      (subst (IsDenial user book (TouchedCells book.sheets asked)) none is_denied)
-      (keep.request user project book asked reply changes other is)
-
-  done_parts : (project : List ℕ) (book : PlaceBook) (asked : Request) (denied : Option ℕ) → denied ≡ None
-      → IsDenial user book (TouchedCells book.sheets asked) denied → (reply : Reply) (changes : List BookChange)
-      → IsDoneByKind user project book asked (Ok (reply, changes)) → InParts book changes
-  done_parts project book (request.AppendCells sheet rows) denied none is_denied reply changes is =
-      append_rows_parts denials user stays sheet rows book (reply, changes) is
-  done_parts project book (request.UpdateCells rows area) denied none is_denied reply changes is =
-      by_kind_parts project book (request.UpdateCells rows area) denied none is_denied reply changes refl is
-  done_parts project book (request.AddSheet given) denied none is_denied reply changes is =
-      by_kind_parts project book (request.AddSheet given) denied none is_denied reply changes refl is
-  done_parts project book (request.DeleteSheet sheet) denied none is_denied reply changes is =
-      by_kind_parts project book (request.DeleteSheet sheet) denied none is_denied reply changes refl is
-  done_parts project book (request.UpdateSheetProperties sheet properties) denied none is_denied reply changes is =
-      by_kind_parts project book (request.UpdateSheetProperties sheet properties) denied none is_denied reply changes refl is
-  done_parts project book (request.InsertDimension range inherits) denied none is_denied reply changes is =
-      by_kind_parts project book (request.InsertDimension range inherits) denied none is_denied reply changes refl is
-  done_parts project book (request.DeleteDimension range) denied none is_denied reply changes is =
-      by_kind_parts project book (request.DeleteDimension range) denied none is_denied reply changes refl is
-  done_parts project book (request.AppendDimension sheet axis length) denied none is_denied reply changes is =
-      by_kind_parts project book (request.AppendDimension sheet axis length) denied none is_denied reply changes refl is
-  done_parts project book (request.MoveDimension range to) denied none is_denied reply changes is =
-      by_kind_parts project book (request.MoveDimension range to) denied none is_denied reply changes refl is
-  done_parts project book (request.MergeCells range type) denied none is_denied reply changes is =
-      by_kind_parts project book (request.MergeCells range type) denied none is_denied reply changes refl is
-  done_parts project book (request.UnmergeCells range) denied none is_denied reply changes is =
-      by_kind_parts project book (request.UnmergeCells range) denied none is_denied reply changes refl is
-  done_parts project book (request.AddNamedRange asked) denied none is_denied reply changes is =
-      by_kind_parts project book (request.AddNamedRange asked) denied none is_denied reply changes refl is
-  done_parts project book (request.UpdateNamedRange id name range) denied none is_denied reply changes is =
-      by_kind_parts project book (request.UpdateNamedRange id name range) denied none is_denied reply changes refl is
-  done_parts project book (request.DeleteNamedRange id) denied none is_denied reply changes is =
-      by_kind_parts project book (request.DeleteNamedRange id) denied none is_denied reply changes refl is
-  done_parts project book (request.AddProtectedRange id patch) denied none is_denied reply changes is =
-      by_kind_parts project book (request.AddProtectedRange id patch) denied none is_denied reply changes refl is
-  done_parts project book (request.UpdateProtectedRange id patch) denied none is_denied reply changes is =
-      by_kind_parts project book (request.UpdateProtectedRange id patch) denied none is_denied reply changes refl is
-  done_parts project book (request.DeleteProtectedRange id) denied none is_denied reply changes is =
-      by_kind_parts project book (request.DeleteProtectedRange id) denied none is_denied reply changes refl is
-  done_parts project book (request.SetBasicFilter filter) denied none is_denied reply changes is =
-      by_kind_parts project book (request.SetBasicFilter filter) denied none is_denied reply changes refl is
-  done_parts project book (request.ClearBasicFilter sheet) denied none is_denied reply changes is =
-      by_kind_parts project book (request.ClearBasicFilter sheet) denied none is_denied reply changes refl is
-  done_parts project book (request.CreateDeveloperMetadata item) denied none is_denied reply changes is =
-      by_kind_parts project book (request.CreateDeveloperMetadata item) denied none is_denied reply changes refl is
-  done_parts project book (request.UpdateDeveloperMetadata filters patch) denied none is_denied reply changes is =
-      by_kind_parts project book (request.UpdateDeveloperMetadata filters patch) denied none is_denied reply changes refl is
-  done_parts project book (request.DeleteDeveloperMetadata filter) denied none is_denied reply changes is =
-      by_kind_parts project book (request.DeleteDeveloperMetadata filter) denied none is_denied reply changes refl is
-
   requested_parts : (project : List ℕ) (book : PlaceBook) (asked : Step) (reply : Reply) (changes : List BookChange)
       → IsRequested user project book asked (Ok (reply, changes)) → InParts book changes
-  requested_parts project book (step.Read asked) reply changes is =
-      done_parts project book asked is.denied (none_denied is.denied is.done (reply, changes) is.told_is) is.is_denied reply changes
-      (subst (IsDoneByKind user project book asked) (done_of is.denied is.done (reply, changes) is.told_is) is.is)
+  requested_parts project book (step.Read asked) reply changes is = law.request user project book asked reply changes is
   requested_parts project book (step.Shape shape) reply changes is = absurd (told_apart {A = Reply × List BookChange} (reply, changes) (rule_of shape) is)
 
   -- ---- calls
@@ -249,7 +216,7 @@ module _ (keep : UntouchedCellsKeep) (stays : LeftCellsStay) (denials : DenialsB
         → InParts book changes)
         → AreMade Is members at answer_of book told (Changes id changes) → MakesParts id changes book
     are_made_parts Is members at answer_of book told each is =
-        all_so book is.all is.changes (turn_parts user Is each 0 members book is.all is.changes is.each) is.effect_is
+        all_so book is.all is.changes (turn_parts law user Is each 0 members book is.all is.changes is.each) is.effect_is
 
     on_book : (books : List PlaceBook) (called : List ℕ) (Answered : PlaceBook → Type 0)
         → ((book : PlaceBook) → Answered book → MakesParts id changes book) → OnBook called books Answered
@@ -284,52 +251,52 @@ module _ (keep : UntouchedCellsKeep) (stays : LeftCellsStay) (denials : DenialsB
     create_parts books (Err shape) told is = unanswered books is.1
 
 -- the law
-pub protected_cells_stay : UntouchedCellsKeep → LeftCellsStay → DenialsByName → (caller : Caller) (called : Call)
+pub protected_cells_stay : ProtectedCellsKeep → (caller : Caller) (called : Call)
     (books : List PlaceBook) (told : Result Answer Refusal) (id : List ℕ) (changes : List BookChange)
     → IsAnswered caller called books told (Changes id changes)
     → OnBook id books (λ book. LeavesProtectedInParts caller.user book changes)
-protected_cells_stay keep stays denials caller (call.Create spreadsheet) books told id changes is =
-    create_parts keep stays denials caller.user id changes books spreadsheet is.judged is.answered
-protected_cells_stay keep stays denials caller (call.Get of grids) books told id changes is =
-    on_book keep stays denials caller.user id changes books of _
-    (λ book is. absurd (no_effect keep stays denials caller.user id changes is.nothing)) is
-protected_cells_stay keep stays denials caller (call.Batch of requests) books told id changes is =
-    on_book keep stays denials caller.user id changes books of _
-    (λ book. are_made_parts keep stays denials caller.user id changes (IsRequested caller.user caller.project) requests place.Requests
-    (λ replies. answer.Batch replies book.id) book told (requested_parts keep stays denials caller.user caller.project)) is
-protected_cells_stay keep stays denials caller (call.Read of range dimension render) books told id changes is =
-    on_book keep stays denials caller.user id changes books of _
-    (λ book is. absurd (no_effect keep stays denials caller.user id changes is.answered.nothing)) is
-protected_cells_stay keep stays denials caller (call.Write of range mode values) books told id changes is =
-    on_book keep stays denials caller.user id changes books of _
-    (λ book. made_parts keep stays denials caller.user id changes (IsWritten caller.user range book values)
-    (λ wrote. answer.Write wrote.0) book told (written_parts keep stays denials caller.user range book values)) is
-protected_cells_stay keep stays denials caller (call.Append of range mode option values) books told id changes is =
-    on_book keep stays denials caller.user id changes books of _
-    (λ book. made_parts keep stays denials caller.user id changes
+protected_cells_stay law caller (call.Create spreadsheet) books told id changes is =
+    create_parts law caller.user id changes books spreadsheet is.judged is.answered
+protected_cells_stay law caller (call.Get of grids) books told id changes is =
+    on_book law caller.user id changes books of _
+    (λ book is. absurd (no_effect law caller.user id changes is.nothing)) is
+protected_cells_stay law caller (call.Batch of requests) books told id changes is =
+    on_book law caller.user id changes books of _
+    (λ book. are_made_parts law caller.user id changes (IsRequested caller.user caller.project) requests place.Requests
+    (λ replies. answer.Batch replies book.id) book told (requested_parts law caller.user caller.project)) is
+protected_cells_stay law caller (call.Read of range dimension render) books told id changes is =
+    on_book law caller.user id changes books of _
+    (λ book is. absurd (no_effect law caller.user id changes is.answered.nothing)) is
+protected_cells_stay law caller (call.Write of range mode values) books told id changes is =
+    on_book law caller.user id changes books of _
+    (λ book. made_parts law caller.user id changes (IsWritten caller.user range book values)
+    (λ wrote. answer.Write wrote.0) book told (written_parts law caller.user range book values)) is
+protected_cells_stay law caller (call.Append of range mode option values) books told id changes is =
+    on_book law caller.user id changes books of _
+    (λ book. made_parts law caller.user id changes
     (IsAppended caller.user range (inserts option) book values) (λ made. answer.Append book.id made.0 made.1) book told
-    (appended_values_parts keep stays denials caller.user range (inserts option) book values)) is
-protected_cells_stay keep stays denials caller (call.Clear of range) books told id changes is =
-    on_book keep stays denials caller.user id changes books of _
-    (λ book. made_parts keep stays denials caller.user id changes (IsCleared caller.user book (Ok range))
-    (λ text. answer.Clear text book.id) book told (cleared_parts keep stays denials caller.user book (Ok range))) is
-protected_cells_stay keep stays denials caller (call.ReadMany of ranges dimension render) books told id changes is =
-    on_book keep stays denials caller.user id changes books of _
-    (λ book is. absurd (no_effect keep stays denials caller.user id changes is.nothing)) is
-protected_cells_stay keep stays denials caller (call.WriteMany of mode blocks) books told id changes is =
-    on_book keep stays denials caller.user id changes books of _
-    (λ book. are_made_parts keep stays denials caller.user id changes (IsUpdated caller.user) blocks place.Data
-    (written_answer book) book told (updated_parts keep stays denials caller.user)) is
-protected_cells_stay keep stays denials caller (call.ClearMany of ranges) books told id changes is =
-    on_book keep stays denials caller.user id changes books of _
-    (λ book. are_made_parts keep stays denials caller.user id changes (IsCleared caller.user) ranges place.Ranges
-    (λ texts. answer.ClearMany texts book.id) book told (cleared_parts keep stays denials caller.user)) is
-protected_cells_stay keep stays denials caller (call.ReadFiltered of filters dimension render) books told id changes is =
-    on_book keep stays denials caller.user id changes books of _
-    (λ book is. absurd (no_effect keep stays denials caller.user id changes is.nothing)) is
-protected_cells_stay keep stays denials caller (call.Item of item) books told id changes is =
-    on_book keep stays denials caller.user id changes books of _
-    (λ book is. absurd (no_effect keep stays denials caller.user id changes is.1)) is
-protected_cells_stay keep stays denials caller (call.Search of filters) books told id changes is =
-    on_book keep stays denials caller.user id changes books of _
-    (λ book is. absurd (no_effect keep stays denials caller.user id changes is.nothing)) is
+    (appended_values_parts law caller.user range (inserts option) book values)) is
+protected_cells_stay law caller (call.Clear of range) books told id changes is =
+    on_book law caller.user id changes books of _
+    (λ book. made_parts law caller.user id changes (IsCleared caller.user book (Ok range))
+    (λ text. answer.Clear text book.id) book told (cleared_parts law caller.user book (Ok range))) is
+protected_cells_stay law caller (call.ReadMany of ranges dimension render) books told id changes is =
+    on_book law caller.user id changes books of _
+    (λ book is. absurd (no_effect law caller.user id changes is.nothing)) is
+protected_cells_stay law caller (call.WriteMany of mode blocks) books told id changes is =
+    on_book law caller.user id changes books of _
+    (λ book. are_made_parts law caller.user id changes (IsUpdated caller.user) blocks place.Data
+    (written_answer book) book told (updated_parts law caller.user)) is
+protected_cells_stay law caller (call.ClearMany of ranges) books told id changes is =
+    on_book law caller.user id changes books of _
+    (λ book. are_made_parts law caller.user id changes (IsCleared caller.user) ranges place.Ranges
+    (λ texts. answer.ClearMany texts book.id) book told (cleared_parts law caller.user)) is
+protected_cells_stay law caller (call.ReadFiltered of filters dimension render) books told id changes is =
+    on_book law caller.user id changes books of _
+    (λ book is. absurd (no_effect law caller.user id changes is.nothing)) is
+protected_cells_stay law caller (call.Item of item) books told id changes is =
+    on_book law caller.user id changes books of _
+    (λ book is. absurd (no_effect law caller.user id changes is.1)) is
+protected_cells_stay law caller (call.Search of filters) books told id changes is =
+    on_book law caller.user id changes books of _
+    (λ book is. absurd (no_effect law caller.user id changes is.nothing)) is

@@ -5,8 +5,8 @@ use Rattle.std.proofs.lemmas.List.{map-append}
 use Rattle.std.proofs.lemmas.List.Elements.{filter-append}
 use Rattle.protection.specs.declared.range.Protection.{Protection}
 use Rattle.sheets_json.specs.declared.spreadsheet.ShownProtection.{ShownProtection}
-use Rattle.batch_engine.specs.Protections.{shown_protection}
-use Rattle.batch_engine.proofs.Listing.{one_read}
+use Rattle.request_kinds.specs.Shown.{shown_protection}
+use Rattle.request_kinds.specs.ListingLaws.{one_read}
 
 module _ (user owner : List ℕ) (sheet : ℕ) where
   -- those of the sheet, as the user is shown them

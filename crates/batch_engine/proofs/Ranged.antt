@@ -9,7 +9,7 @@ use Rattle.grid_range.specs.Band.{first_line, end_line}
 use Rattle.grid_range.specs.declared.area.Area.{Area}
 use Rattle.grid_range.specs.declared.axis.Axis.{Axis}
 use Rattle.world_model.specs.Book.{PlaceBook}
-use Rattle.world_model.specs.BookChange.{AreChanges, BookChange}
+use Rattle.world_model.specs.BookChange.{BookChange}
 use Rattle.world_model.specs.ChangingLaws.{UpdatesAreChanges}
 use Rattle.world_model.specs.Sheet.{PlaceSheet}
 use Rattle.world_model.specs.Sound.{place_sheet_with}
@@ -28,25 +28,14 @@ use Rattle.values_api.specs.declared.writing.Written.{Written}
 use Rattle.sheets_json.specs.declared.answer.Answer.{Answer}
 use Rattle.sheets_json.specs.declared.answer.ShownRange.{ShownRange}
 use Rattle.sheets_json.specs.declared.answer.Update.{Update as UpdateAnswer}
-use Rattle.batch_engine.specs.Effects.{cells_updated}
+use Rattle.request_kinds.specs.Telling.{IsDoneTo, cells_updated}
+use Rattle.request_kinds.specs.FoundLaws.{some_and}
+use Rattle.request_kinds.specs.TellingLaws.{denied_same, done_of, none_denied, update_made}
 use Rattle.batch_engine.specs.Effects.Effect.{Nothing}
 use Rattle.batch_engine.specs.Filtered.{IsShownAs, Showing}
-use Rattle.batch_engine.specs.Members.{IsDoneTo}
 use Rattle.batch_engine.specs.Values.{OnRange, done, refused, is_columns, axis_or_rows, render_or_formatted, shown_range, unless_empty}
 use Rattle.batch_engine.specs.Values.{IsCleared, IsShown, IsUpdate, Wrote, clear, update_of}
 use Rattle.batch_engine.specs.Calls.{IsChange, IsMade, IsReadOf}
-use Rattle.batch_engine.proofs.DeniedOnce.{denied_same, done_of, none_denied}
-
--- the thing that is there
-pub some_and : {A : Type 0} (P : A → Type 0) (found : Option A) → IsSomeAnd found P → (x : A) × (found ≡ Some x) × P x
-some_and P None holds = absurd holds
-some_and P (Some x) holds = (x, refl, holds)
-
--- an update is a change
-pub update_made : UpdatesAreChanges → (sheet : ℕ) (updates : Updates) (before after : PlaceBook)
-    → AreUpdated sheet updates before after → AreChanges (cells_updated sheet updates) before after
-update_made are sheet updates before after updated =
-    are.changes before after sheet updates updated.places.id updated.names
 
 abbrev as_shown : ShownRange → Result ShownRange Rule
 as_shown shown = Ok shown

@@ -28,15 +28,15 @@ use Rattle.sheets_json.specs.declared.answer.Answer.{Answer}
 use Rattle.sheets_json.specs.declared.answer.Answer.TheVariants as answer
 use Rattle.sheets_json.specs.declared.answer.MatchedMetadata.{MatchedMetadata}
 use Rattle.sheets_json.specs.declared.place.Place.TheVariants as place
+use Rattle.request_kinds.specs.Metadata.{AreIdsFound, items_seen, lookup_of, lookups_of}
+use Rattle.request_kinds.specs.FoundLaws.{found_holds, found_passes}
+use Rattle.request_kinds.specs.ItemLaws.{IsSeenIn, seen_again}
 use Rattle.batch_engine.specs.Calls.{IsSearchOf, Refusal}
 use Rattle.batch_engine.specs.Effects.Effect.{Nothing}
 use Rattle.batch_engine.specs.Members.{InOrder, Then, Told, with_first}
-use Rattle.batch_engine.specs.Metadata.{AreIdsFound, items_seen, lookup_of, lookups_of}
 use Rattle.batch_engine.specs.Searches.{AreMatched, IsSearchDone, IsSearched, asked_of, asked_or_broken, filters_met, matched, with_filters}
 use Rattle.batch_engine.specs.Values.{unless_empty}
 use Rattle.batch_engine.specs.declared.searches.Searched.{Searched}
-use Rattle.batch_engine.proofs.Found.{found_holds, found_passes}
-use Rattle.batch_engine.proofs.MetadataSeen.{IsSeenIn, seen_again}
 
 -- ---- one filter
 

@@ -26,22 +26,24 @@ use Rattle.sheets_json.specs.declared.call.Call.TheVariants as call
 use Rattle.sheets_json.specs.declared.call.InsertData.{InsertData}
 use Rattle.sheets_json.specs.declared.call.RangeBlock.{RangeBlock}
 use Rattle.sheets_json.specs.declared.call.ValueRange.{ValueRange}
+use Rattle.sheets_json.specs.declared.spreadsheet.Reply.{Reply}
 use Rattle.sheets_json.specs.declared.spreadsheet.Spreadsheet.{Spreadsheet}
 use Rattle.sheets_json.specs.declared.place.Place.{Place}
 use Rattle.sheets_json.specs.declared.place.Place.TheVariants as place
 use Rattle.json_requests.specs.declared.request.DataFilter.{DataFilter}
 use Rattle.json_requests.specs.declared.request.MetadataLookup.{MetadataLookup}
 use Rattle.json_requests.specs.declared.request.Step.{Step}
+use Rattle.json_requests.specs.declared.request.Step.TheVariants as step
 use Rattle.json_shapes.specs.Reading.{Reading}
+use Rattle.request_kinds.specs.Requests.{IsDoneAsAsked}
 use Rattle.batch_engine.specs.Create.{IsCreateOf}
 use Rattle.batch_engine.specs.Effects.{Effect, IsNext}
 use Rattle.batch_engine.specs.Effects.Effect.{Nothing, Changes}
 use Rattle.batch_engine.specs.Filtered.{AreShownBy, Showing}
 use Rattle.batch_engine.specs.Looks.{IsSpreadsheetShown}
 use Rattle.batch_engine.specs.Members.{InOrder, InTurn, Told}
-use Rattle.batch_engine.specs.Requests.{IsRequested}
 use Rattle.batch_engine.specs.Searches.{AreSearched, item_told, search_answer}
-use Rattle.batch_engine.specs.Values.{IsAppended, IsCleared, IsShown, IsUpdated, IsWritten, Wrote, inserts}
+use Rattle.batch_engine.specs.Values.{IsAppended, IsCleared, IsShown, IsUpdated, IsWritten, Wrote, inserts, rule_of}
 use Rattle.batch_engine.specs.declared.calls.Caller.{Caller}
 use Rattle.batch_engine.specs.declared.calls.Outcome.{Outcome}
 use Rattle.batch_engine.specs.declared.calls.Outcome.TheVariants as outcome
@@ -165,6 +167,12 @@ abbrev pub IsWriteManyOf : List ℕ → List (Reading RangeBlock) → PlaceBook 
 IsWriteManyOf user blocks book = AreMade (IsUpdated user) blocks place.Data (written_answer book) book
 
 -- ---- batches
+
+-- what a request of a user, and of the project under which he sees metadata, is replied and changes; one whose shape is
+-- broken is refused in its turn
+abbrev pub IsRequested : List ℕ → List ℕ → PlaceBook → Step → Result (Reply × List BookChange) Rule → Type 0
+IsRequested user project book (step.Read asked) told = IsDoneAsAsked user project book asked told
+IsRequested user project book (step.Shape shape) told = told ≡ Err (rule_of shape)
 
 -- requests are done one after another, or none is
 abbrev pub IsBatchOf : List ℕ → List ℕ → List Step → PlaceBook → Result Answer Refusal → Effect → Type 0

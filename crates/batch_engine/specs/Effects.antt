@@ -1,12 +1,11 @@
 -- What a call makes of the spreadsheets of a server.
-use Rattle.std.specs.Prelude.{ℕ, List, [], ◌∷◌, Option, None, Some, ⊤}
+use Rattle.std.specs.Prelude.{ℕ, List, Option, None, Some, ⊤}
 use Rattle.std.specs.List.{find}
 use Rattle.std.specs.Option.{option_map_or}
 use Rattle.std.specs.Str.{bytes_eq}
 use Rattle.world_model.specs.Book.{NameBook, PlaceBook}
 use Rattle.world_model.specs.BookChange.{BookChange, Named, changed_by_all}
 use Rattle.world_model.specs.Making.{made_by_name, with_named_book}
-use Rattle.world_model.specs.Updating.{Updates}
 use Rattle.world_model.specs.World.{NameWorld, WorldStandsFor, world_replaced}
 
 -- nothing; or the spreadsheet with the id is changed, one change after another; or one is made by changes of a bare one,
@@ -15,10 +14,6 @@ pub data Effect : Type 0 where
   Nothing : Effect
   Changes : (book : List ℕ) (changes : List BookChange) → Effect
   Makes : (bare : NameBook) (changes : List BookChange) → Effect
-
--- cells of a sheet are updated, and nothing else is changed
-abbrev pub cells_updated : ℕ → Updates → List BookChange
-cells_updated sheet updates = BookChange.CellsUpdated sheet updates ∷ []
 
 -- the spreadsheet with the id
 abbrev pub name_book_with : List ℕ → List NameBook → Option NameBook

@@ -24,10 +24,10 @@ use Rattle.json_requests.specs.declared.request.MetadataLookup.{MetadataLookup}
 use Rattle.json_shapes.specs.Reading.{Reading}
 use Rattle.sheets_json.specs.declared.answer.MatchedRange.{MatchedRange}
 use Rattle.sheets_json.specs.declared.answer.ShownRange.{ShownRange}
-use Rattle.batch_engine.specs.Dimensions.{whole_sheet}
+use Rattle.request_kinds.specs.Dimensions.{whole_sheet}
+use Rattle.request_kinds.specs.Metadata.{broken_by_lookups, items_seen, lookup_of}
+use Rattle.request_kinds.specs.Rows.{area_or_broken}
 use Rattle.batch_engine.specs.Members.{InOrder, Told}
-use Rattle.batch_engine.specs.Metadata.{broken_by_lookups, items_seen, lookup_of}
-use Rattle.batch_engine.specs.Rows.{area_or_broken}
 use Rattle.batch_engine.specs.Values.{axis_or_rows, is_columns, render_or_formatted, rule_of, shown_range}
 
 -- ---- the areas of a filter

@@ -1,29 +1,17 @@
 -- What is shown of a spreadsheet itself (Google Sheets API v4 reference, spreadsheets.get, Spreadsheet, Sheet,
 -- SheetProperties, GridData, BasicFilter, NamedRange and ProtectedRange).
-use Rattle.std.specs.Prelude.{◌≡◌, ℕ, ◌+◌, Bool, true, false, List, [], ◌∷◌, map, Option, None, Some}
+use Rattle.std.specs.Prelude.{◌≡◌, ◌==◌, ℕ, ◌+◌, Bool, true, false, List, [], ◌∷◌, filter, map, Option, None, Some}
 use Rattle.std.specs.List.{AllZip}
 use Rattle.world_model.specs.Book.{PlaceBook}
 use Rattle.world_model.specs.Sheet.{PlaceSheet}
 use Rattle.sheets_json.specs.declared.spreadsheet.DimensionProperties.{DimensionProperties}
 use Rattle.sheets_json.specs.declared.spreadsheet.GridData.{GridData}
-use Rattle.sheets_json.specs.declared.spreadsheet.ShownProperties.{ShownProperties}
 use Rattle.sheets_json.specs.declared.spreadsheet.ShownProtection.{ShownProtection}
 use Rattle.sheets_json.specs.declared.spreadsheet.ShownSheet.{ShownSheet}
 use Rattle.sheets_json.specs.declared.spreadsheet.Spreadsheet.{Spreadsheet}
+use Rattle.request_kinds.specs.Shown.{shown_properties, shown_protection}
 use Rattle.batch_engine.specs.HiddenRows.{AreRowsTold}
-use Rattle.batch_engine.specs.Protections.{shown_protections}
 use Rattle.batch_engine.specs.Values.{unless_empty}
-
--- what is known of the sheet itself, at its place among the sheets
-abbrev pub shown_properties : ℕ → PlaceSheet → ShownProperties
-shown_properties index sheet = record {
-  column_count = sheet.table.cols;
-  row_count = sheet.table.rows;
-  hidden = sheet.hidden;
-  index = index;
-  sheet_id = sheet.id;
-  title = sheet.title;
-}
 
 -- what is told of rows
 abbrev pub with_rows : List DimensionProperties → Option GridData
@@ -34,6 +22,11 @@ abbrev pub IsGridShown : Bool → PlaceBook → PlaceSheet → Option GridData �
 IsGridShown false book sheet grid = grid ≡ None
 IsGridShown true book sheet grid =
     (rows : List DimensionProperties) × AreRowsTold book sheet sheet.filter rows × (grid ≡ with_rows rows)
+
+-- the protected ranges of a sheet as a user is shown them, in order of id
+abbrev pub shown_protections : List ℕ → PlaceBook → ℕ → List ShownProtection
+shown_protections user book sheet =
+    map (shown_protection user book.owner) (filter (λ one. one.area.sheet == sheet) book.protections)
 
 -- the sheet at a place among the sheets, with what is known of its rows; its merges stand by first row and then first
 -- column, and its protected ranges, as they are shown, in order of id, where there are some

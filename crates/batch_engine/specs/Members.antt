@@ -42,14 +42,7 @@ InTurn Is at (member ∷ members) before told changes =
 
 -- ---- what the private functions hand to one another
 
--- one member is done on the spreadsheet, which becomes the one after it unless a rule is broken
-abbrev pub IsDoneTo : {A : Type 0} → (Result (A × List BookChange) Rule → Type 0) → PlaceBook → PlaceBook
-    → Result A Rule → Type 0
-IsDoneTo Is before after (Ok one) =
-    (changes : List BookChange) × Is (Ok (one, changes)) × AreChanges changes before after
-IsDoneTo Is before after (Err broken) = Is (Err broken)
-
--- and members, one after another, up to the first that breaks a rule
+-- members are done, one after another, up to the first that breaks a rule
 pub record AreDone {M A : Type 0} (Is : PlaceBook → M → Result (A × List BookChange) Rule → Type 0) (members : List M)
     (before after : PlaceBook) (told : Told A) : Type 0 where
   pub changes : List BookChange

@@ -18,8 +18,8 @@ use Rattle.json_shapes.specs.Reading.{Reading}
 use Rattle.sheets_json.specs.declared.answer.Answer.{Answer}
 use Rattle.sheets_json.specs.declared.answer.Answer.TheVariants as answer
 use Rattle.sheets_json.specs.declared.answer.MatchedMetadata.{MatchedMetadata}
+use Rattle.request_kinds.specs.Metadata.{broken_by_lookups, items_seen, lookup_of, lookups_of}
 use Rattle.batch_engine.specs.Members.{InOrder, Told}
-use Rattle.batch_engine.specs.Metadata.{broken_by_lookups, items_seen, lookup_of, lookups_of}
 use Rattle.batch_engine.specs.Values.{rule_of, unless_empty}
 use Rattle.batch_engine.specs.declared.searches.Searched.{Searched}
 

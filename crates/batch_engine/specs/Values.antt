@@ -32,7 +32,7 @@ use Rattle.sheets_json.specs.declared.call.RangeBlock.{RangeBlock}
 use Rattle.sheets_json.specs.declared.call.ValueRange.{ValueRange}
 use Rattle.json_shapes.specs.declared.fault.ShapeFault.{ShapeFault}
 use Rattle.json_shapes.specs.declared.fault.ShapeFault.TheVariants as fault
-use Rattle.batch_engine.specs.Effects.{cells_updated}
+use Rattle.request_kinds.specs.Telling.{cells_updated}
 use Rattle.batch_engine.specs.Ranges.{IsTarget}
 
 -- what is on the cells of a range is done there, or refused by the rule that the range breaks

@@ -4,10 +4,10 @@ ghost use Rattle.dimension_ops.specs.Rules.{IsUnlessNoMemory};
 ghost use Rattle.world_model.specs.Sound.{place_sheet_with};
 ghost use Rattle.values_api.specs.Ranges.{IsThere};
 ghost use Rattle.values_api.specs.Sheets.{stored_in};
+ghost use Rattle.request_kinds.specs.Telling.{IsDoneTo};
 ghost use Rattle.batch_engine.specs.Calls.{IsChange, IsReadOf, IsClearOf, IsWriteOf};
 ghost use Rattle.batch_engine.specs.Effects.Effect.{Nothing};
 ghost use Rattle.batch_engine.specs.Filtered.{IsShownAs};
-ghost use Rattle.batch_engine.specs.Members.{IsDoneTo};
 ghost use Rattle.batch_engine.specs.Values.{is_columns, axis_or_rows, render_or_formatted, unless_empty, update_of, rule_of, IsShown, IsCleared, IsWritten, IsUpdated, IsUpdate};
 
 use crate::targets::target;

@@ -2,8 +2,8 @@ ghost use Rattle.std.specs.Prelude.{◌≡◌, IfOk, IfSome, IsSomeAnd};
 ghost use Rattle.dimension_ops.specs.Rules.{IsUnlessNoMemory};
 ghost use Rattle.world_model.specs.Sound.{place_sheet_with};
 ghost use Rattle.values_api.specs.Ranges.{IsThere};
+ghost use Rattle.request_kinds.specs.Telling.{IsDoneTo};
 ghost use Rattle.batch_engine.specs.Calls.{IsAppendOf, IsChange};
-ghost use Rattle.batch_engine.specs.Members.{IsDoneTo};
 ghost use Rattle.batch_engine.specs.Values.{inserts, IsAppendOn, IsAppended, IsTextOf};
 
 use crate::answers::{rule_of, update_of};

@@ -1,15 +1,15 @@
 ghost use Rattle.std.specs.Prelude.{IfOk};
 ghost use Rattle.dimension_ops.specs.Rules.{IsUnlessNoMemory};
-ghost use Rattle.batch_engine.specs.Calls.{IsBatchOf, IsChange};
-ghost use Rattle.batch_engine.specs.Members.{AreDone, IsDoneTo};
-ghost use Rattle.batch_engine.specs.Requests.{IsRequested};
+ghost use Rattle.request_kinds.specs.Telling.{IsDoneTo};
+ghost use Rattle.batch_engine.specs.Calls.{IsBatchOf, IsChange, IsRequested};
+ghost use Rattle.batch_engine.specs.Members.{AreDone};
 
 use crate::answers::rule_of;
 use crate::calls::judged;
-use crate::kinds::done;
 use crate::lists::Refusal;
 use cell_value::{Duplicate, Items, NoMemory};
 use dimension_ops::{Book, Rule, RuleOr};
+use request_kinds::done;
 use sheets_json::{Answer, Place, Reply, Step};
 use std::alloc::Global;
 use world_model::changes_in_turn;

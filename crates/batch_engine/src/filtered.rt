@@ -8,22 +8,20 @@ ghost use Rattle.dimension_ops.specs.Broken.{first_broken};
 ghost use Rattle.dimension_ops.specs.Rules.{IsUnlessNoMemory};
 ghost use Rattle.values_api.specs.Ranges.{IsThere};
 ghost use Rattle.values_api.specs.Sheets.{stored_in};
+ghost use Rattle.request_kinds.specs.Metadata.{broken_by_lookups};
 ghost use Rattle.batch_engine.specs.Calls.{IsReadFilteredOf};
 ghost use Rattle.batch_engine.specs.Effects.Effect.{Nothing};
-ghost use Rattle.batch_engine.specs.Filtered.{AreAllShown, AreAreasLookedUp, AreAreasOf, AreAreasShown, AreShownBy};
-ghost use Rattle.batch_engine.specs.Filtered.{area_of_spot, areas_of_items};
-ghost use Rattle.batch_engine.specs.Metadata.{broken_by_lookups};
+ghost use Rattle.batch_engine.specs.Filtered.{AreAllShown, AreAreasLookedUp, AreAreasOf, AreAreasShown, AreShownBy, area_of_spot, areas_of_items};
 
 use crate::answers::{rule_of, shown_area};
 use crate::calls::judged;
-use crate::kinds::{area_on, lines_area, whole_sheet};
 use crate::lists::Refusal;
-use crate::metadata::{copy_lookup, ids_found, items_seen, only};
 use cell_calc::Table;
 use cell_value::{Duplicate, Items, NoMemory, Render};
 use dev_metadata::{Item, Spot};
 use dimension_ops::{Book, Rule, RuleOr};
 use grid_range::{Area, Axis};
+use request_kinds::{area_on, copy_lookup, ids_found, items_seen, lines_area, whole_sheet};
 use sheets_json::{
     Answer, DataFilter, DimensionRange, MatchedRange, MetadataLookup, Place, ShapeFault,
 };
@@ -218,6 +216,15 @@ fn area_of_spot(book: &Book, spot: Spot) -> Option<Area>
             Some(lines_area(book, line))
         }
     }
+}
+
+/// The thing, as the only one.
+fn only<T: Drop>(alloc: Global, one: T) -> Result<Items<T>, NoMemory>
+    ensures { IfOk result (λ all. all ≡ one ∷ []) }
+{
+    let mut all = Vec::new(alloc);
+    all.push(one)?;
+    Ok(Items::of(all))
 }
 
 /// A copy of a filter.

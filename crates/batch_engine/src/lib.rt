@@ -9,14 +9,12 @@ mod calls;
 mod create;
 mod filtered;
 mod hidden_rows;
-mod kinds;
 mod laws;
 mod lists;
 mod looks;
-mod metadata;
 mod searches;
 mod targets;
 mod totals;
 
 pub use calls::{Applied, Caller, Outcome, apply};
-pub use laws::{calls_answered_once, protected_cells_stay, untouched_cells_keep};
+pub use laws::{calls_answered_once, protected_cells_stay, ranges_keep_others};

@@ -1,8 +1,9 @@
 ghost use Rattle.std.specs.Prelude.{◌≡◌, IfOk};
 ghost use Rattle.dimension_ops.specs.Rules.{IsUnlessNoMemory};
+ghost use Rattle.request_kinds.specs.Telling.{IsDoneTo};
 ghost use Rattle.batch_engine.specs.Calls.{IsChange, IsClearManyOf, IsReadManyOf, IsWriteManyOf};
 ghost use Rattle.batch_engine.specs.Effects.Effect.{Nothing};
-ghost use Rattle.batch_engine.specs.Members.{InOrder, AreDone, IsDoneTo};
+ghost use Rattle.batch_engine.specs.Members.{InOrder, AreDone};
 ghost use Rattle.batch_engine.specs.Values.{IsCleared, IsShown, IsUpdated};
 
 use crate::answers::{emptied, rule_of, shown, updated};

@@ -1,20 +1,22 @@
-ghost use Rattle.std.specs.Prelude.{◌≡◌, ◌<◌, IfOk, OnOk, length, get_or, unwrap_or, false};
+ghost use Rattle.std.specs.Prelude.{◌≡◌, ◌<◌, ◌==◌, ◌++◌, ◌∷◌, [], IfOk, OnOk, filter, map, length, get_or, unwrap_or, false};
 ghost use Rattle.cell_calc.specs.Calculated.{IsTableOf};
 ghost use Rattle.world_model.specs.Sheet.{PlaceSheet};
 ghost use Rattle.world_model.specs.Sound.{IsSheetSound, most_sheets};
 ghost use Rattle.values_api.specs.Sheets.{stored_in};
-ghost use Rattle.batch_engine.specs.Looks.{AreSheetsShown, IsGridShown, IsSpreadsheetShown, shown_properties, shown_sheet, spreadsheet_alone, with_sheets};
+ghost use Rattle.request_kinds.specs.Shown.{shown_protection};
+ghost use Rattle.batch_engine.specs.Looks.{AreSheetsShown, IsGridShown, IsSpreadsheetShown, shown_protections, shown_sheet, spreadsheet_alone, with_sheets};
 
 use crate::answers::unless_empty;
 use crate::hidden_rows::rows_told;
-use crate::kinds::shown_protections;
 use basic_filter::Filter;
 use cell_calc::Table;
 use cell_value::{Duplicate, Items, NoMemory};
 use dimension_ops::{Book, Sheet};
 use grid_range::Area;
 use named_ranges::{NamedRange, Names};
-use sheets_json::{GridData, ShownProperties, ShownProtection, ShownSheet, Spreadsheet};
+use protection::Protection;
+use request_kinds::{shown_properties, shown_protection};
+use sheets_json::{GridData, ShownProtection, ShownSheet, Spreadsheet};
 use std::alloc::Global;
 use world_model::ids_find;
 
@@ -177,16 +179,43 @@ fn grid_shown(
     }
 }
 
-/// What is known of the sheet itself, at its place among the sheets.
-pub(crate) fn shown_properties(index: u32, sheet: &Sheet) -> Result<ShownProperties, NoMemory>
-    ensures { IfOk result (λ shown. shown ≡ shown_properties index sheet.now) }
+/// What the user is shown of the protected ranges of a sheet, in order of id. More than a `u32` counts aren't listed, as
+/// for want of memory; no request makes so many.
+fn shown_protections(
+    alloc: Global,
+    book: &Book,
+    user: &str,
+    sheet: u32,
+) -> Result<Items<ShownProtection>, NoMemory>
+    ensures { IfOk result (λ shown. shown ≡ shown_protections user.now book.now sheet) }
 {
-    Ok(ShownProperties {
-        column_count: sheet.cols(),
-        row_count: sheet.rows(),
-        hidden: sheet.hidden(),
-        index,
-        sheet_id: sheet.id(),
-        title: sheet.title().duplicate()?,
-    })
+    let owner = book.owner().as_str();
+    let mut shown = Vec::new(alloc);
+    for at in 0..u32::MAX {
+        match book.protections().list(at) {
+            Some(one) => put_shown(alloc, &mut shown, user, owner, sheet, one)?,
+            None => return Ok(Items::of(shown)),
+        }
+    }
+    Err(NoMemory)
+}
+
+/// Puts what the user is shown of the protected range behind the others, if it is one of the sheet.
+fn put_shown(
+    alloc: Global,
+    shown: &mut Vec<ShownProtection>,
+    user: &str,
+    owner: &str,
+    sheet: u32,
+    protection: &Protection,
+) -> Result<(), NoMemory>
+    ensures { OnOk result (shown.new.items ≡ shown.old.items ++ map (shown_protection user.now owner.now)
+        (filter (λ one. one.area.sheet == sheet) (protection.now ∷ []))) }
+{
+    if protection.area.sheet == sheet {
+        shown.push(shown_protection(alloc, user, owner, protection)?)?;
+        Ok(())
+    } else {
+        Ok(())
+    }
 }

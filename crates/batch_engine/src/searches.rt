@@ -5,20 +5,19 @@ ghost use Rattle.std.specs.List.{All, list_any};
 ghost use Rattle.std.specs.List.Sorted.{IsNonDecreasingBy};
 ghost use Rattle.dev_metadata.specs.Listed.{AreIdsInOrder, found_by_some};
 ghost use Rattle.dimension_ops.specs.Rules.{IsUnlessNoMemory};
+ghost use Rattle.request_kinds.specs.Metadata.{lookups_of};
 ghost use Rattle.batch_engine.specs.Calls.{IsSearchOf};
 ghost use Rattle.batch_engine.specs.Effects.Effect.{Nothing};
 ghost use Rattle.batch_engine.specs.Members.{InOrder};
-ghost use Rattle.batch_engine.specs.Metadata.{lookups_of};
-ghost use Rattle.batch_engine.specs.Searches.{AreMatched, IsSearchDone, IsSearched, asked_of, filters_met, item_told};
-ghost use Rattle.batch_engine.specs.Searches.{with_filters};
+ghost use Rattle.batch_engine.specs.Searches.{AreMatched, IsSearchDone, IsSearched, asked_of, filters_met, item_told, with_filters};
 
 use crate::answers::{rule_of, unless_empty};
 use crate::calls::judged;
 use crate::lists::Refusal;
-use crate::metadata::{copy_lookup, ids_found, items_seen, lookup_of, refusal_of};
 use cell_value::{Duplicate, Items, NoMemory};
 use dev_metadata::{Item, Lookup};
 use dimension_ops::{Book, Rule, RuleOr};
+use request_kinds::{copy_lookup, ids_found, items_seen, lookup_of, refusal_of};
 use sheets_json::{Answer, DataFilter, MatchedMetadata, MetadataLookup, Place, ShapeFault};
 use std::alloc::Global;
 

@@ -1,16 +1,15 @@
 -- The one command that words are.
 use Rattle.std.proofs.Common.{◌≡◌, ◌↔◌, ℕ, ◌<◌, ◌^◌, List, [], ◌∷◌, Option, None, Some, sym, ap, subst}
-use Rattle.std.proofs.Common.{◌∙◌, refl, arith, length, get_or, map, String, Global, string_bytes}
+use Rattle.std.proofs.Common.{◌∙◌, refl, arith}
 use Rattle.std.specs.Prelude.{codes, option_map}
 use Rattle.std.proofs.lemmas.Fmt.{decimal_injective}
 use Rattle.command_line.specs.declared.command.Command.{Command}
 use Rattle.command_line.specs.declared.command.TheConstants.{MOST_PORT, MOST_CONNECTIONS, MOST_CALLS}
 use Rattle.command_line.specs.Words.{Meaning, run, serve, replay, workload, meaning, name_of, StandBehind, ReadsAs}
-use Rattle.command_line.specs.Words.{ReadsAsNone, AreOptionsOf, ReadAsOptionsOf, IsNumber, HasNumber, IsOf, IsValueIn}
+use Rattle.command_line.specs.Words.{ReadsAsNone, AreOptionsOf, IsNumber, HasNumber, IsOf}
 use Rattle.command_line.specs.Words.{HasOneReading, value_of}
 use Rattle.command_line.proofs.Given.{never, same_given}
-use Rattle.command_line.proofs.Pairs.{parts_are}
-use Rattle.command_line.proofs.Options.{same_options}
+use Rattle.command_line.proofs.Options.{Pair, parts_are, same_options}
 
 -- a number is written in one way
 same_number : (most number number' : ℕ) (text text' : List ℕ) → most < 2 ^ 32 → text ≡ text'
@@ -18,7 +17,7 @@ same_number : (most number number' : ℕ) (text text' : List ℕ) → most < 2 ^
 same_number most number number' text text' small same is is' =
     decimal_injective number number' (omega (arith, is.2)) (omega (arith, is'.2)) (sym is.0 ∙ (same ∙ is'.0))
 
-one_number : (name : List ℕ) (most number number' : ℕ) (options : List (List ℕ × List ℕ)) → most < 2 ^ 32
+one_number : (name : List ℕ) (most number number' : ℕ) (options : List Pair) → most < 2 ^ 32
     → HasNumber name most number options → HasNumber name most number' options → number ≡ number'
 one_number name most number number' options small has has' =
     same_number most number number' has.0 has'.0 small
@@ -32,8 +31,8 @@ first_is : (word word' : List ℕ) → word ∷ [] ≡ word' ∷ [] → word ≡
 first_is word word' e = cc
 
 -- the options that are given are these
-moved : (names names' : List (List ℕ)) (options options' : List (List ℕ × List ℕ)) (words : List (List ℕ))
-    (P : List (List ℕ × List ℕ) → Type 0) → AreOptionsOf names options words → AreOptionsOf names' options' words
+moved : (names names' : List (List ℕ)) (options options' : List Pair) (words : List (List ℕ))
+    (P : List Pair → Type 0) → AreOptionsOf names options words → AreOptionsOf names' options' words
     → P options' → P options
 moved names names' options options' words P are are' holds =
     subst P (sym (same_options options options' words are.0 are'.0)) holds
@@ -43,13 +42,13 @@ one_behind : (words : List (List ℕ)) (one other : Meaning) → name_of one ≡
     → StandBehind words other → one ≡ other
 one_behind words (run users) (run users') same (options, are, give) (options', are', give') =
     ap run (give ∙ sym (moved (codes "users" ∷ []) (codes "users" ∷ []) options options' words
-    (λ (os : List (List ℕ × List ℕ)). users' ≡ value_of (codes "users") os) are are' give'))
+    (λ (os : List Pair). users' ≡ value_of (codes "users") os) are are' give'))
 one_behind words (serve port limit users journal) (serve port' limit' users' journal') same
     (options, are, has_port, has_limit, has_users, has_journal)
     (options', are', has_port', has_limit', has_users', has_journal') =
     let names : List (List ℕ) = codes "port" ∷ codes "limit" ∷ codes "users" ∷ codes "journal" ∷ [] in
     let given = moved names names options options' words
-    (λ (os : List (List ℕ × List ℕ)). HasNumber (codes "port") MOST_PORT port' os
+    (λ (os : List Pair). HasNumber (codes "port") MOST_PORT port' os
     × HasNumber (codes "limit") MOST_CONNECTIONS limit' os
     × (users' ≡ value_of (codes "users") os) × (journal' ≡ value_of (codes "journal") os)) are are'
     (has_port', has_limit', has_users', has_journal') in
@@ -60,7 +59,7 @@ one_behind words (serve port limit users journal) (serve port' limit' users' jou
 one_behind words (replay journal) (replay journal') same (options, are, give) (options', are', give') =
     ap replay (same_given journal journal' (sym give
     ∙ moved (codes "journal" ∷ []) (codes "journal" ∷ []) options options' words
-    (λ (os : List (List ℕ × List ℕ)). value_of (codes "journal") os ≡ Some journal') are are' give'))
+    (λ (os : List Pair). value_of (codes "journal") os ≡ Some journal') are are' give'))
 one_behind words (workload calls) (workload calls') same (text, are, is) (text', are', is') =
     ap workload (same_number MOST_CALLS calls calls' text text' (omega arith)
     (first_is text text' (sym are ∙ are')) is is')
@@ -88,13 +87,6 @@ found_behind found words rest name are is command = (
       (is command).1 (sym both.0, subst (λ (ws : List (List ℕ)). StandBehind ws command) (sym both.1) reads.2),
 )
 
--- the words by their bytes
-pub words_are : (words : List (String Global)) (command : String Global) (rest : List (String Global))
-    (text name : List ℕ) → words ≡ command ∷ rest → text ≡ string_bytes command → text ≡ name
-    → map string_bytes words ≡ name ∷ map string_bytes rest
-words_are words command rest text name are text_is is =
-    ap (map string_bytes) are ∙ ap (λ (word : List ℕ). word ∷ map string_bytes rest) (sym text_is ∙ is)
-
 -- nothing was found exactly where the words are no command
 pub found_none : (found : Option Command) (words : List (List ℕ)) → IsFound found (λ command. ReadsAs command words)
     → (found ≡ None) ↔ ReadsAsNone words
@@ -106,35 +98,61 @@ found_none (Some command) words is = (
 
 -- what stands behind its name is the one that is found
 pub only : (found : Meaning) (words : List (List ℕ)) → StandBehind words found → (command : Meaning)
-    → (Some found ≡ Some command) ↔ IsOf (name_of found) command words
+    → (found ≡ command) ↔ IsOf (name_of found) command words
 only found words stand command = (
-  λ some. subst (λ (m : Meaning). IsOf (name_of found) m words) (same_given found command some) (refl, stand),
-  λ of. ap Some (one_behind words found command (sym of.0) stand of.1),
+  λ same. subst (λ (m : Meaning). IsOf (name_of found) m words) same (refl, stand),
+  λ of. one_behind words found command (sym of.0) stand of.1,
 )
 
--- what was read for `serve` is given
-pub serve_stands : (port limit : ℕ) (users journal : Option (List ℕ)) (words : List (List ℕ))
-    (port_text limit_text : List ℕ)
-    → ReadAsOptionsOf (codes "port" ∷ codes "limit" ∷ codes "users" ∷ codes "journal" ∷ []) words
-    → IsValueIn (codes "port") words (Some port_text) → IsNumber MOST_PORT port_text port
-    → IsValueIn (codes "limit") words (Some limit_text) → IsNumber MOST_CONNECTIONS limit_text limit
-    → IsValueIn (codes "users") words users → IsValueIn (codes "journal") words journal
-    → StandBehind words (serve port limit users journal)
-serve_stands port limit users journal words port_text limit_text (options, are) has_port is_port has_limit is_limit
-    has_users has_journal = (
-      options,
-      are,
-      (port_text, sym (has_port options are.0), is_port),
-      (limit_text, sym (has_limit options are.0), is_limit),
-      has_users options are.0,
-      has_journal options are.0,
+pub some_only : (found : Meaning) (name : List ℕ) (words : List (List ℕ))
+    → ((command : Meaning) → (found ≡ command) ↔ IsOf name command words)
+    → (command : Meaning) → (Some found ≡ Some command) ↔ IsOf name command words
+some_only found name words is command =
+    (λ some. (is command).0 (same_given found command some), λ of. ap Some ((is command).1 of))
+
+pub none_found : (Reads : Meaning → Type 0) → ((command : Meaning) → Reads command → ⊥) → IsFound None Reads
+none_found Reads none command = (λ some. absurd (never command some), λ reads. absurd (none command reads))
+
+-- ---- what a command can't be without
+
+pub serve_needs : (options : List Pair) (words : List (List ℕ))
+    → AreOptionsOf (codes "port" ∷ codes "limit" ∷ codes "users" ∷ codes "journal" ∷ []) options words
+    → (command : Meaning) → IsOf (codes "serve") command words
+    → (port : ℕ) × (limit : ℕ) × HasNumber (codes "port") MOST_PORT port options
+    × HasNumber (codes "limit") MOST_CONNECTIONS limit options
+serve_needs options words are (serve port limit users journal) (is, (options', are', has_port, has_limit, has_users, has_journal)) =
+    let same = sym (same_options options options' words are.0 are'.0) in (
+      port,
+      limit,
+      subst (HasNumber (codes "port") MOST_PORT port) same has_port,
+      subst (HasNumber (codes "limit") MOST_CONNECTIONS limit) same has_limit,
     )
+serve_needs options words are (run users) (is, stand) = absurd cc
+serve_needs options words are (replay journal) (is, stand) = absurd cc
+serve_needs options words are (workload calls) (is, stand) = absurd cc
 
--- ---- `workload`
+pub replay_needs : (options : List Pair) (words : List (List ℕ)) → AreOptionsOf (codes "journal" ∷ []) options words
+    → (command : Meaning) → IsOf (codes "replay") command words
+    → (journal : List ℕ) × (value_of (codes "journal") options ≡ Some journal)
+replay_needs options words are (replay journal) (is, (options', are', has)) =
+    (journal, ap (value_of (codes "journal")) (same_options options options' words are.0 are'.0) ∙ has)
+replay_needs options words are (run users) (is, stand) = absurd cc
+replay_needs options words are (serve port limit users journal) (is, stand) = absurd cc
+replay_needs options words are (workload calls) (is, stand) = absurd cc
 
--- the one word that there is
-pub alone : (words : List (String Global)) (word : String Global) (text : List ℕ) → 0 < length words → length words < 2
-    → word ≡ get_or words 0 word → text ≡ string_bytes word → map string_bytes words ≡ text ∷ []
-alone [] word text some few is text_is = absurd (omega (arith, some))
-alone (first ∷ []) word text some few is text_is = ap (λ (t : List ℕ). t ∷ []) (sym (text_is ∙ ap string_bytes is))
-alone (first ∷ second ∷ words) word text some few is text_is = absurd (omega (arith, few))
+pub workload_needs : (words : List (List ℕ)) (command : Meaning) → IsOf (codes "workload") command words
+    → (text : List ℕ) × (calls : ℕ) × (words ≡ text ∷ []) × IsNumber MOST_CALLS text calls
+workload_needs words (workload calls) (is, (text, are, number)) = (text, calls, are, number)
+workload_needs words (run users) (is, stand) = absurd cc
+workload_needs words (serve port limit users journal) (is, stand) = absurd cc
+workload_needs words (replay journal) (is, stand) = absurd cc
+
+-- a text that is given isn't missing, and a number that is given is read
+pub missing : (text : List ℕ) (found given : Option (List ℕ)) → None ≡ found → found ≡ given → given ≡ Some text → ⊥
+missing text found given none same is = never text (none ∙ same ∙ is)
+
+pub unread : (most number : ℕ) (given text : List ℕ) (read : Option ℕ) → None ≡ read
+    → ((other : ℕ) → (read ≡ Some other) ↔ IsNumber most given other) → Some given ≡ Some text
+    → IsNumber most text number → ⊥
+unread most number given text read none reads same is =
+    never number (none ∙ (reads number).1 (subst (λ (t : List ℕ). IsNumber most t number) (sym (same_given given text same)) is))

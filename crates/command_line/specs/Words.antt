@@ -1,9 +1,11 @@
 -- The words of the program's command line: which of them are a command, and which command.
 use Rattle.std.specs.Prelude.{◌≡◌, ◌≢◌, ℕ, ◌≤◌, List, [], ◌∷◌, ◌++◌, ◌⊎◌, Option, None, Some, Contains, ⊤}
-use Rattle.std.specs.Prelude.{codes, slice_index, bytes_eq, if◌then◌else◌}
+use Rattle.std.specs.Prelude.{codes, slice_index, bytes_eq, if◌then◌else◌, MatchOption}
 use Rattle.std.specs.Fmt.{decimal}
 use Rattle.std.specs.List.{AllByRecursion}
 use Rattle.std.specs.Option.{option_copied}
+use Rattle.clap.specs.Words.{first_value}
+use Rattle.clap.specs.declared.parser.matches.Found.{Found}
 use Rattle.command_line.specs.declared.command.Command.{Command}
 use Rattle.command_line.specs.declared.command.Command.TheVariants.{Run, Serve, Replay, Workload}
 use Rattle.command_line.specs.declared.command.TheConstants.{MOST_PORT, MOST_CONNECTIONS, MOST_CALLS}
@@ -118,14 +120,23 @@ HasOneReading = (words : List (List ℕ)) (one other : Meaning) → ReadsAs one 
 
 -- ---- parts of the reading
 
--- the words read as options of these names
-abbrev pub ReadAsOptionsOf : List (List ℕ) → List (List ℕ) → Type 0
-ReadAsOptionsOf names words = (options : List (List ℕ × List ℕ)) × AreOptionsOf names options words
+-- the text is a name, or a name and a value that `=` parts
+abbrev pub IsOption : List ℕ → Type 0
+IsOption text = ((text ≢ []) × HasNoEquals text)
+    ⊎ ((name : List ℕ) × (value : List ℕ) × HasNoEquals name × (text ≡ name ++ (codes "=" ++ value)) × IsValue value)
 
--- where the words are options, that is the value of the first of that name
-abbrev pub IsValueIn : List ℕ → List (List ℕ) → Option (List ℕ) → Type 0
-IsValueIn name words value =
-    (options : List (List ℕ × List ℕ)) → AreOptions options words → value ≡ value_of name options
+-- the word can stand in a command: it is a value, or begins an option
+abbrev pub IsPlain : List ℕ → Type 0
+IsPlain word = IsValue word ⊎ ((option : List ℕ) × (word ≡ codes "--" ++ option) × IsOption option)
+
+-- the words are options of these names, whose values were found
+abbrev pub HasValues : List (List ℕ) → List (List ℕ) → Found → Type 0
+HasValues names words found = (options : List (List ℕ × List ℕ)) × AreOptionsOf names options words
+    × ((name : List ℕ) → first_value found name ≡ value_of name options)
+
+-- the words are the one for the number of calls that was found, or none
+abbrev pub HasCalls : List (List ℕ) → Found → Type 0
+HasCalls words found = MatchOption (first_value found (codes "calls")) (words ≡ []) (λ text. words ≡ text ∷ [])
 
 -- the command has that name, and these words stand behind it
 abbrev pub IsOf : List ℕ → Meaning → List (List ℕ) → Type 0

@@ -1,8 +1,14 @@
-ghost use Rattle.std.specs.Prelude.{◌≡◌, ◌↔◌, List, ℕ, None, Some, codes, map, option_map, string_bytes};
-ghost use Rattle.command_line.specs.Words.{IsOf, Meaning, ReadsAs, ReadsAsNone, meaning};
+ghost use Rattle.std.specs.Prelude.{◌≡◌, ◌↔◌, List, [], ◌∷◌, ℕ, None, Some, IfOk, codes, map, option_map};
+ghost use Rattle.std.specs.Prelude.{string_bytes};
+ghost use Rattle.clap.specs.Words.{found_of};
+ghost use Rattle.command_line.specs.Words.{HasCalls, HasValues, IsOf, Meaning, ReadsAs, ReadsAsNone, meaning};
 
 use crate::number::read_number;
-use crate::option::{are_options, value_of};
+use crate::reading::read;
+use crate::word::are_plain;
+use cell_value::NoMemory;
+use clap::ArgMatches;
+use std::alloc::Global;
 
 /// The last port that there is (RFC 6335, section 6).
 const MOST_PORT: u32 = 65_535;
@@ -45,72 +51,73 @@ pub enum Command<'a> {
 }
 
 /// The command that the words behind the program's name are; None where they are no command.
-pub fn command_of(words: &[String]) -> Option<Command<'_>>
-    ensures reads { (command : Meaning) → (option_map meaning result ≡ Some command)
-        ↔ ReadsAs command (map string_bytes words.now) }
-    ensures none { (result ≡ None) ↔ ReadsAsNone (map string_bytes words.now) }
+///
+/// # Errors
+///
+/// [`NoMemory`] where memory runs out.
+pub fn command_of(alloc: Global, words: &[String]) -> Result<Option<Command<'_>>, NoMemory>
+    ensures reads { IfOk result (λ found. (command : Meaning) → (option_map meaning found ≡ Some command)
+        ↔ ReadsAs command (map string_bytes words.now)) }
+    ensures none { IfOk result (λ found. (found ≡ None) ↔ ReadsAsNone (map string_bytes words.now)) }
 {
-    let (command, rest) = words.split_first()?;
-    match command.as_str() {
-        "run" => run(rest),
-        "serve" => serve(rest),
-        "replay" => replay(rest),
-        "workload" => workload(rest),
+    if !are_plain(words) {
+        return Ok(None);
+    }
+    let Some(matches) = read(alloc, words)? else {
+        return Ok(None);
+    };
+    let Some((name, given)) = matches.subcommand() else {
+        return Ok(None);
+    };
+    Ok(match name {
+        "run" => Some(run(given)),
+        "serve" => serve(given),
+        "replay" => replay(given),
+        "workload" => workload(given),
         _ => None,
-    }
-}
-
-/// The command `run` with these options.
-fn run(options: &[String]) -> Option<Command<'_>>
-    ensures { (command : Meaning) → (option_map meaning result ≡ Some command)
-        ↔ IsOf (codes "run") command (map string_bytes options.now) }
-{
-    if !are_options(options, &["users"]) {
-        return None;
-    }
-    Some(Command::Run {
-        users: value_of(options, "users"),
     })
 }
 
-/// The command `serve` with these options.
-fn serve(options: &[String]) -> Option<Command<'_>>
-    ensures { (command : Meaning) → (option_map meaning result ≡ Some command)
-        ↔ IsOf (codes "serve") command (map string_bytes options.now) }
+/// The command `run` with these options.
+fn run<'a>(given: &ArgMatches<'a>) -> Command<'a>
+    ensures { (words : List (List ℕ)) → HasValues (codes "users" ∷ []) words (found_of given.now)
+        → (command : Meaning) → (meaning result ≡ command) ↔ IsOf (codes "run") command words }
 {
-    if !are_options(options, &["port", "limit", "users", "journal"]) {
-        return None;
+    Command::Run {
+        users: given.get_str("users"),
     }
-    let port = read_number(value_of(options, "port")?, MOST_PORT)?;
-    let limit = read_number(value_of(options, "limit")?, MOST_CONNECTIONS)?;
+}
+
+/// The command `serve` with these options.
+fn serve<'a>(given: &ArgMatches<'a>) -> Option<Command<'a>>
+    ensures { (words : List (List ℕ))
+        → HasValues (codes "port" ∷ codes "limit" ∷ codes "users" ∷ codes "journal" ∷ []) words (found_of given.now)
+        → (command : Meaning) → (option_map meaning result ≡ Some command) ↔ IsOf (codes "serve") command words }
+{
+    let port = read_number(given.get_str("port")?, MOST_PORT)?;
+    let limit = read_number(given.get_str("limit")?, MOST_CONNECTIONS)?;
     Some(Command::Serve {
         port: port as u16,
         limit,
-        users: value_of(options, "users"),
-        journal: value_of(options, "journal"),
+        users: given.get_str("users"),
+        journal: given.get_str("journal"),
     })
 }
 
 /// The command `replay` with these options.
-fn replay(options: &[String]) -> Option<Command<'_>>
-    ensures { (command : Meaning) → (option_map meaning result ≡ Some command)
-        ↔ IsOf (codes "replay") command (map string_bytes options.now) }
+fn replay<'a>(given: &ArgMatches<'a>) -> Option<Command<'a>>
+    ensures { (words : List (List ℕ)) → HasValues (codes "journal" ∷ []) words (found_of given.now)
+        → (command : Meaning) → (option_map meaning result ≡ Some command) ↔ IsOf (codes "replay") command words }
 {
-    if !are_options(options, &["journal"]) {
-        return None;
-    }
-    let journal = value_of(options, "journal")?;
+    let journal = given.get_str("journal")?;
     Some(Command::Replay { journal })
 }
 
-/// The command `workload` with these words behind it.
-fn workload(words: &[String]) -> Option<Command<'_>>
-    ensures { (command : Meaning) → (option_map meaning result ≡ Some command)
-        ↔ IsOf (codes "workload") command (map string_bytes words.now) }
+/// The command `workload` with its number of calls.
+fn workload<'a>(given: &ArgMatches<'a>) -> Option<Command<'a>>
+    ensures { (words : List (List ℕ)) → HasCalls words (found_of given.now)
+        → (command : Meaning) → (option_map meaning result ≡ Some command) ↔ IsOf (codes "workload") command words }
 {
-    let [word] = words else {
-        return None;
-    };
-    let calls = read_number(word, MOST_CALLS)?;
+    let calls = read_number(given.get_str("calls")?, MOST_CALLS)?;
     Some(Command::Workload { calls })
 }

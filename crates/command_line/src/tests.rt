@@ -4,7 +4,7 @@ use std::alloc::{AllocError, Global};
 use std::test::Fail;
 
 /// Words with a space between two of them, and the command that they are.
-static READ: [(&str, Command<'static>); 18] = [
+static READ: [(&str, Command<'static>); 19] = [
     ("run", Run { users: None }),
     ("run --users u", Run { users: Some("u") }),
     ("run --users=u", Run { users: Some("u") }),
@@ -16,6 +16,12 @@ static READ: [(&str, Command<'static>); 18] = [
         },
     ),
     ("run --users ü", Run { users: Some("ü") }),
+    (
+        "run --users help",
+        Run {
+            users: Some("help"),
+        },
+    ),
     (
         "serve --port 80 --limit 7",
         Serve {
@@ -87,7 +93,7 @@ static READ: [(&str, Command<'static>); 18] = [
 ];
 
 /// Words that are no command.
-static NO_COMMAND: [&str; 56] = [
+static NO_COMMAND: [&str; 71] = [
     "",
     "fly",
     "RUN",
@@ -95,16 +101,31 @@ static NO_COMMAND: [&str; 56] = [
     "--users u run",
     "-h",
     "--help",
+    "-V",
     "--version",
+    "--",
+    "help",
+    "help run",
+    "run help",
+    "run -h",
     "run --help",
+    "run -V",
+    "run --version",
     "run --users",
+    "run --users -",
     "run --users -f",
+    "run --users=-",
     "run --users=-f",
     "run --users --users",
+    "run --users --",
+    "run --users -- u",
+    "run --users u --",
     "run --users=",
     "run --users ",
     "run --",
     "run -- u",
+    "run --user u",
+    "run --user=u",
     "run --=u",
     "run -users u",
     "run --Users u",
@@ -160,7 +181,11 @@ fn commands_are_read(rt: HostRuntime) -> Result<(), Fail> {
     let alloc = rt.alloc();
     for (line, command) in READ {
         let words = words_of(alloc, line)?;
-        assert_eq!(rt; command_of(words.as_slice()), Some(command), "at {line}");
+        assert_eq!(rt;
+            command_of(alloc, words.as_slice())?,
+            Some(command),
+            "at {line}"
+        );
     }
     Ok(())
 }
@@ -168,10 +193,10 @@ fn commands_are_read(rt: HostRuntime) -> Result<(), Fail> {
 #[test]
 fn other_words_are_no_command(rt: HostRuntime) -> Result<(), Fail> {
     let alloc = rt.alloc();
-    assert_eq!(rt; command_of(&[]), None);
+    assert_eq!(rt; command_of(alloc, &[])?, None);
     for line in NO_COMMAND {
         let words = words_of(alloc, line)?;
-        assert_eq!(rt; command_of(words.as_slice()), None, "at {line}");
+        assert_eq!(rt; command_of(alloc, words.as_slice())?, None, "at {line}");
     }
     Ok(())
 }

@@ -1,5 +1,5 @@
 -- How a command ends that serves no conversation of its own: neither at a cut request nor at a bound.
-use Rattle.std.proofs.Common.{◌≡◌, ◌≢◌, arith}
+use Rattle.std.proofs.Common.{◌≢◌, arith}
 use Rattle.conversation.specs.declared.ended.Ended.{Ended}
 use Rattle.conversation.specs.declared.ended.Ended.TheVariants as how
 use Rattle.commands.specs.declared.finish.Finish.{Finish}
@@ -8,7 +8,7 @@ use Rattle.commands.specs.Finish.{status_of, status_at_end}
 use Rattle.commands.specs.Replaying.{IsOfReplaying}
 use Rattle.commands.specs.Running.{IsOfRunning}
 use Rattle.commands.specs.Serving.{IsEndOfServing, IsOfServing}
-use Rattle.commands.proofs.Statuses.{never_usage, unavailable_alone}
+use Rattle.commands.proofs.Statuses.{unavailable_alone}
 
 pub not_cut_at : (end : Ended) → IsEndOfServing end → status_at_end end ≢ 5
 not_cut_at how.End of is = omega (arith, is)

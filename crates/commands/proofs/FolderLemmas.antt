@@ -1,12 +1,12 @@
 -- What a command asks a folder for.
-use Rattle.std.proofs.Common.{◌≡◌, ◌≢◌, ◌⊎◌, inl, inr, ℕ, Bool, true, false, List, [], ◌∷◌, ◌++◌, refl, sym, ap, subst, ◌∙◌}
+use Rattle.std.proofs.Common.{◌≡◌, ◌≢◌, inl, inr, ℕ, Bool, true, false, List, [], ◌∷◌, ◌++◌, refl, sym, ap, subst, ◌∙◌}
 use Rattle.std.specs.Prelude.{Option, None, Some, IfSome, IsSomeAnd, if◌then◌else◌}
 use Rattle.std.specs.Option.{option_map}
 use Rattle.std.specs.Str.{bytes_eq}
 use Rattle.std.proofs.lemmas.List.{append-nil, append_assoc}
 use Rattle.std.proofs.lemmas.Slice.Eq.{bytes_eq-Decides}
-use Rattle.folder.specs.Folder.{FolderCall, journal_of, ShownFolder, with_file, found_or_made, IsRefused, after_refusal}
-use Rattle.folder.specs.Folder.{after_late_refusal, after_journal, after_kept_back}
+use Rattle.folder.specs.Folder.{FolderCall, journal_of, ShownFolder, with_file, found_or_made, IsRefused}
+use Rattle.folder.specs.Folder.{after_journal, after_kept_back}
 use Rattle.commands.specs.Folders.{HasAsked, Asks, users_call, journal_call}
 use Rattle.commands.specs.Users.{after_reading}
 use Rattle.commands.specs.Serving.{HasKept}

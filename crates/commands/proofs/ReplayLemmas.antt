@@ -1,6 +1,6 @@
 -- The command `replay`: the dump of a history is sent, and it is that of the journal.
-use Rattle.std.proofs.Common.{◌≡◌, ℕ, ◌≤◌, List, [], ◌∷◌, map, refl, sym, subst, ap, ◌∙◌}
-use Rattle.std.specs.Prelude.{Option, Result, Ok, Err}
+use Rattle.std.proofs.Common.{◌≡◌, ℕ, ◌≤◌, List, [], ◌∷◌, map, refl, subst, ap, ◌∙◌}
+use Rattle.std.specs.Prelude.{Option, Result, Err}
 use Rattle.sheets_http.specs.declared.outside.SinkFault.{SinkFault}
 use Rattle.sheets_http.specs.declared.outside.SinkFault.TheVariants as fault
 use Rattle.cell_value.specs.FaultCount.{Rose}

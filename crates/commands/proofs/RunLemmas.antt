@@ -1,5 +1,5 @@
 -- The command `run`: where its input's talk ends so, that is its status, or it says why not.
-use Rattle.std.proofs.Common.{◌≡◌, ◌⊎◌, inl, inr, ℕ, List, refl, sym, subst, ◌∙◌, ap}
+use Rattle.std.proofs.Common.{◌≡◌, ◌⊎◌, inl, inr, ℕ, List, ◌∙◌, ap}
 use Rattle.std.specs.Prelude.{Option, None, Some, IfSome}
 use Rattle.sheets_http.specs.declared.request.Wire.{Wire}
 use Rattle.sheets_http.specs.Framing.{End, Talk}

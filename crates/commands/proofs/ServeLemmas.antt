@@ -15,7 +15,8 @@ use Rattle.desk.specs.declared.entry.Ask.{Ask}
 use Rattle.desk.specs.declared.entry.Entry.{Entry}
 use Rattle.desk.specs.declared.entry.Noted.{Noted}
 use Rattle.desk.specs.Journal.{journal_text}
-use Rattle.desk.specs.Desks.{list_at}
+use Rattle.desk.specs.declared.state.TheConstants.{LONGEST_JOURNAL}
+use Rattle.desk.specs.Desks.{list_at, pair_at}
 use Rattle.desk.specs.Points.{AreCountsOf, IsClosed, Keeps, caller_of}
 use Rattle.desk.specs.Steps.{Outcome, AreServed, served, history_full, within_limit, entry_of, is_full}
 use Rattle.conversation.specs.declared.ended.Ended.{Ended}
@@ -107,13 +108,14 @@ pub serves_at : {E K W A : Type 0} (plain : List Entry → Ask → Outcome → T
     (users : UserTable) (limit : ℕ) (end end' : Served)
     (before after : Moment (Option Shown)) (entries : List Entry) (failed : ℕ) (kept : Option (List ℕ)) (by : Ended)
     → AreServed plain → IsOpened start desk pass → end ≡ end'
-    → AreServedAt (IsAnswer plain failures steady) desk users pass limit end before.state after.state entries failed kept
+    → AreServedAt plain (IsAnswer plain failures steady) desk users pass limit end before.state after.state entries failed
+    kept
     → TellsBehind cells end' entries before.written after.written before.shortages after.shortages by
     → ServesAll E K W A plain cells failures steady users limit start before after kept by
 serves_at plain cells failures steady start desk pass users limit end end' before after entries failed kept by law
     opened end_is served told =
-    let these = subst (λ (e : Served). AreServedAt (IsAnswer plain failures steady) desk users pass limit e before.state
-    after.state entries failed kept) end_is served in
+    let these = subst (λ (e : Served). AreServedAt plain (IsAnswer plain failures steady) desk users pass limit e
+    before.state after.state entries failed kept) end_is served in
     record {
       desk = desk;
       pass = pass;
@@ -141,10 +143,11 @@ drop_front [] ys = refl
 drop_front (x ∷ xs) ys = drop_front xs ys
 
 -- a desk that is closed by its first pass, which made no call and gave no number away, tells what it was opened with
-nothing_told : {E K W A : Type 0} (start : List Noted) (desk : Desk E K W A) (pass : Pass Noted)
-    → IsOpened start desk pass → (opened failures callers : ℕ) (entries : List Entry) (kept : Option (List ℕ))
-    (closed : IsClosed (list_at desk) opened callers pass entries failures kept) → closed.told ≡ start
-nothing_told start desk pass is opened failures callers entries kept closed =
+nothing_told : {E K W A : Type 0} (plain : List Entry → Ask → Outcome → Type 0) (start : List Noted)
+    (desk : Desk E K W A) (pass : Pass Noted) → IsOpened start desk pass → (failures callers : ℕ) (entries : List Entry)
+    (kept : Option (List ℕ))
+    (closed : IsClosed plain (list_at desk) (pair_at desk) callers pass entries failures kept) → closed.told ≡ start
+nothing_told plain start desk pass is failures callers entries kept closed =
     let rest = closed.begins.0 in
     let parts : closed.told ≡ start ++ rest = closed.begins.1 ∙ ap (λ (l : List Noted). l ++ rest) is.seen_is in
     let behind : drop (length start) closed.told ≡ rest = ap (λ (l : List Noted). drop (length start) l) parts
@@ -160,11 +163,14 @@ nothing_told start desk pass is opened failures callers entries kept closed =
     (subst (NoneOf caller_of 0) behind none') in
     parts ∙ ap (λ (l : List Noted). start ++ l) empty ∙ append-nil start
 
-pub keeps_start : {E K W A : Type 0} (start : List Noted) (desk : Desk E K W A) (pass : Pass Noted)
-    → IsOpened start desk pass → (opened failures callers : ℕ) (entries : List Entry) (kept : Option (List ℕ))
-    → IsClosed (list_at desk) opened callers pass entries failures kept → Keeps kept start
-keeps_start start desk pass is opened failures callers entries kept closed =
-    subst (Keeps kept) (nothing_told start desk pass is opened failures callers entries kept closed) closed.keeps
+pub keeps_start : {E K W A : Type 0} (plain : List Entry → Ask → Outcome → Type 0) (start : List Noted)
+    (desk : Desk E K W A) (pass : Pass Noted) → IsOpened start desk pass → (failures callers : ℕ) (entries : List Entry)
+    (kept : Option (List ℕ)) → IsClosed plain (list_at desk) (pair_at desk) callers pass entries failures kept
+    → Keeps plain LONGEST_JOURNAL kept start
+keeps_start plain start desk pass is failures callers entries kept closed =
+    subst (λ (limit : ℕ). Keeps plain limit kept start) is.limit_is
+    (subst (Keeps plain (pair_at desk).0 kept)
+    (nothing_told plain start desk pass is failures callers entries kept closed) closed.keeps)
 
 -- ---- doors
 

@@ -1,5 +1,5 @@
 -- The status of a command, and the end of its talk.
-use Rattle.std.proofs.Common.{◌≡◌, ◌≢◌, ℕ, List, Option, None, Some, IfSome, ◌⊎◌, inl, inr, ◌∙◌, ap, sym, refl, arith}
+use Rattle.std.proofs.Common.{◌≡◌, ◌≢◌, ℕ, List, Option, None, Some, IfSome, ◌⊎◌, inl, inr, ◌∙◌, ap, refl, arith}
 use Rattle.sheets_http.specs.declared.request.Wire.{Wire}
 use Rattle.sheets_http.specs.Framing.{End, ended, asked, closed, truncated, long_talk, Talk}
 use Rattle.sheets_http.specs.Laws.{HasOneTalk}

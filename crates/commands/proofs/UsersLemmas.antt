@@ -1,5 +1,5 @@
 -- The file of users that a folder has, and why it is no table of users.
-use Rattle.std.proofs.Common.{◌≡◌, ℕ, ◌<◌, ◌≤◌, List, length, refl, subst}
+use Rattle.std.proofs.Common.{◌≡◌, ℕ, ◌<◌, ◌≤◌, List, length, subst}
 use Rattle.std.specs.Prelude.{Option, None, Some, IfSome, IsSome, IsSomeAnd, Result, Err}
 use Rattle.folder.specs.Folder.{ShownFolder}
 use Rattle.users_file.specs.declared.fault.UsersFault.{UsersFault}

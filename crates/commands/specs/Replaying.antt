@@ -1,5 +1,5 @@
 -- The command `replay`: what a journal's history comes to.
-use Rattle.std.specs.Prelude.{◌≡◌, ℕ, false, ⊤, List, [], map, Option, Some, IfSome, Result}
+use Rattle.std.specs.Prelude.{◌≡◌, ℕ, false, ⊤, List, map, Option, IfSome, Result}
 use Rattle.sheets_http.specs.declared.outside.SinkFault.{SinkFault}
 use Rattle.desk.specs.declared.entry.Ask.{Ask}
 use Rattle.desk.specs.declared.entry.Entry.{Entry}

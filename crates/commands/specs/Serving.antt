@@ -1,6 +1,6 @@
 -- The command `serve`: connections that are served at a desk of their own, and the lines that tell what their history
 -- comes to.
-use Rattle.std.specs.Prelude.{◌≡◌, ◌≢◌, ℕ, ⊤, Bool, true, List, [], ◌∷◌, ◌++◌, All, map, length, drop, codes}
+use Rattle.std.specs.Prelude.{◌≡◌, ◌≢◌, ℕ, ⊤, Bool, true, List, [], ◌++◌, All, map, length, drop, codes}
 use Rattle.std.specs.Prelude.{Option, None, Some, IfSome, Result, Ok, Err, IsTrue}
 use Rattle.std.specs.Option.{option_map}
 use Rattle.std.specs.List.{Contains}
@@ -124,8 +124,8 @@ IsVisited visits item = Contains (map visitor visits) (caller_of item)
 -- An engine answers as `plain` says, and its worlds have as many cells as `cells` says. At most so many connections
 -- came in by open doors and were served, for these users, at a desk over it that was opened with this list, to which
 -- their callers alone added items; what is told is the history with which that desk was closed, and what is kept is its
--- journal. `failures` and `steady` are what the desk's keeper tells of its faults. Of a moment the state is what the
--- doors show.
+-- journal, or that of it and one entry more. `failures` and `steady` are what the desk's keeper tells of its faults. Of a
+-- moment the state is what the doors show.
 pub record ServesAll (E K W A : Type 0) (plain : List Entry → Ask → Outcome → Type 0) (cells : List Entry → ℕ → Type 0)
     (failures : K → ℕ) (steady : K → Bool) (users : UserTable) (limit : ℕ) (start : List Noted)
     (before after : Moment (Option Shown)) (kept' : Option (List ℕ)) (end : Ended) : Type 0 where
@@ -136,8 +136,8 @@ pub record ServesAll (E K W A : Type 0) (plain : List Entry → Ask → Outcome 
   pub accepted : Served
   pub entries : List Entry
   pub failed : ℕ
-  pub served : AreServed (IsAnswer plain failures steady) desk users pass limit accepted before.state after.state entries
-      failed kept'
+  pub served : AreServed plain (IsAnswer plain failures steady) desk users pass limit accepted before.state after.state
+      entries failed kept'
   pub visited : All (IsVisited served.talked.visits) (drop (length start) served.told)
   pub told : TellsBehind cells accepted entries before.written after.written before.shortages after.shortages end
 
@@ -150,7 +150,7 @@ opened_on port before = at_moment (option_map (after_opening port) before.state)
 pub data ServesFrom (E K W A : Type 0) (plain : List Entry → Ask → Outcome → Type 0) (cells : List Entry → ℕ → Type 0)
     (failures : K → ℕ) (steady : K → Bool) (users : UserTable) (port limit : ℕ) (start : List Noted)
     (before after : Moment (Option Shown)) (kept' : Option (List ℕ)) (end : Ended) : Type 0 where
-  no_doors : end ≡ ReadFault → IsIdle (opened_on port before) after → Keeps kept' start
+  no_doors : end ≡ ReadFault → IsIdle (opened_on port before) after → Keeps plain LONGEST_JOURNAL kept' start
       → ServesFrom E K W A plain cells failures steady users port limit start before after kept' end
   served_all : ServesAll E K W A plain cells failures steady users limit start (opened_on port before) after kept' end
       → ServesFrom E K W A plain cells failures steady users port limit start before after kept' end

@@ -10,8 +10,7 @@ use Rattle.users_file.specs.declared.fault.UsersFault.TheVariants as fault
 use Rattle.users_file.specs.Table.{IsTable, IsBadTable}
 use Rattle.users_file.specs.declared.reading.TheConstants.{LONGEST_TABLE}
 use Rattle.commands.specs.declared.finish.Finish.{Finish}
-use Rattle.commands.specs.declared.finish.Finish.TheVariants.{Served, BadUsers, UsersLong, BadJournal, JournalLong}
-use Rattle.commands.specs.declared.finish.Finish.TheVariants.{Unavailable}
+use Rattle.commands.specs.declared.finish.Finish.TheVariants.{Served, BadUsers, UsersLong}
 
 -- a folder that tells has the name, with such bytes
 abbrev pub HasFile : Option ShownFolder → List ℕ → (List ℕ → Type 0) → Type 0

@@ -1,6 +1,6 @@
 ghost use Rattle.std.specs.Prelude.{◌≡◌, ◌≢◌, ◌<◌, ◌≤◌, ◌⊎◌, [], IfSome, IsSome, IsTrue, None, Some, Err};
 ghost use Rattle.std.specs.Option.{option_copied};
-ghost use Rattle.cell_value.specs.FaultCount.{last_count, Rose};
+ghost use Rattle.cell_value.specs.FaultCount.{Rose};
 ghost use Rattle.desk.specs.Desks.{list_at};
 ghost use Rattle.conversation.specs.Conversation.{at_moment, Counts};
 ghost use Rattle.conversation.specs.Exchanges.{Sends};
@@ -18,7 +18,7 @@ use connections::Doors;
 use conversation::Ended;
 use desk::{Desk, Engine, Keeper, LONGEST_JOURNAL, OpenFault, Pass, SteadyKeeper, Summary};
 use folder::Folder;
-use serving::{Served, serve_all};
+use serving::{Served, serve_all, steady_doors};
 use sheets_http::{Sink, SinkFault, Users};
 use std::sync::Wait;
 use std::thread::Threads;
@@ -289,13 +289,6 @@ pub(crate) fn finish_of_opening(fault: OpenFault) -> Finish
         OpenFault::BadJournal(entry) => Finish::BadJournal(entry),
         OpenFault::NoMemory => Finish::Served(Ended::NoMemory),
     }
-}
-
-/// The law of steady doors, at a value.
-fn steady_doors<D: Doors>(doors: &D)
-    ensures { IsTrue (D.steady doors.now) → D.failures doors.now < last_count }
-{
-    let _ = doors;
 }
 
 /// Opens the doors on the port, serves the connections that come in at a desk, and gives its keeper back.

@@ -1,6 +1,6 @@
 -- Histories that journals tell, one entry longer, and that they tell one.
-use Rattle.std.proofs.Common.{◌≡◌, ◌⊎◌, inl, inr, ℕ, zero, suc, ◌+◌, ◌<◌, ◌≤◌, true, false, List, [], ◌∷◌, ◌++◌, length, map, take, refl, sym, ap, subst, ◌∙◌, append_assoc, arith, length-append}
-use Rattle.std.specs.Prelude.{◌≢◌, Option, Some, None, IfSome, get_or, drop}
+use Rattle.std.proofs.Common.{◌≡◌, ◌⊎◌, inl, inr, ℕ, zero, suc, ◌+◌, true, false, List, [], ◌∷◌, ◌++◌, length, map, refl, sym, ap, subst, ◌∙◌, append_assoc, arith, length-append}
+use Rattle.std.specs.Prelude.{◌≢◌, get_or, drop}
 use Rattle.std.proofs.lemmas.Bool.{false≢true}
 use Rattle.std.proofs.lemmas.List.{append_cancel_left, nil_from_length, map_push}
 use Rattle.desk.specs.declared.entry.Entry.{Entry}
@@ -8,12 +8,12 @@ use Rattle.desk.specs.declared.entry.Ask.{Ask}
 use Rattle.desk.specs.declared.entry.Noted.{Noted}
 use Rattle.desk.specs.declared.entry.Noted.TheVariants as noted
 use Rattle.desk.specs.Journal.{heading, entry_text, entries_text, journal_text, IsTorn, IsReading, IsJournalOf, cut_short, whole}
-use Rattle.desk.specs.Steps.{Outcome, HasOneOutcome, entry_of}
+use Rattle.desk.specs.Steps.{Outcome, HasOneOutcome, AreServed, entry_of}
 use Rattle.desk.specs.Points.{entries_of}
-use Rattle.desk.specs.Entries.{entries_entry}
-use Rattle.desk.specs.Histories.{asked_again, AreTexts, IsAcceptedBehind, AreAccepted, IsHistory, BreaksBehind, IsBadAt, IsMadeAgain, IsReplayed, HasOneHistory, IsNowhereBad}
+use Rattle.desk.specs.Entries.{entries_entry, asks_again}
+use Rattle.desk.specs.Histories.{asked_again, AreTexts, IsAcceptedBehind, AreAccepted, IsHistory, BreaksBehind, IsBadAt, HasOneHistory, IsNowhereBad}
+use Rattle.desk.specs.Replaying.{IsMadeAgain, IsReplayed}
 use Rattle.desk.proofs.Lists.{entry_length, journal_entry, journal_length}
-use Rattle.desk.proofs.Journals.{torn_nothing}
 use Rattle.desk.proofs.Readings.{one_reading, entry_front}
 
 -- ---- one journal
@@ -101,6 +101,19 @@ module _ (plain : List Entry → Ask → Outcome → Type 0) where
         (subst (λ (x : Entry). IsAcceptedBehind plain es x) (sym last) also)
     | inr (more, parts) ↦ accepted before entry more parts
   ]
+
+  -- the entry of an accepted call
+  pub accepted_entry : AreServed plain → (es : List Entry) (caller : ℕ) (ask : Ask) (outcome : Outcome)
+      → AreTexts (entry_of caller ask) → plain es ask outcome → outcome.accepts ≡ true
+      → IsAcceptedBehind plain es (entry_of caller ask)
+  accepted_entry served es caller ask outcome texts plainly accepts =
+      let whole = (served es ask outcome plainly).accepted accepts in
+      record {
+        texts = texts;
+        outcome = outcome;
+        plainly = subst (λ (a : Ask). plain es a outcome) (asks_again caller ask whole.1 whole.2) plainly;
+        accepts = accepts;
+      }
 
   -- no bytes, or a beginning of the heading
   pub short_history : (bytes behind : List ℕ) → heading ≡ bytes ++ behind → IsHistory plain bytes []

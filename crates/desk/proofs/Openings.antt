@@ -1,5 +1,5 @@
 -- What a desk is opened with.
-use Rattle.std.proofs.Common.{◌≡◌, ◌⊎◌, inl, inr, ℕ, ◌+◌, ◌<◌, ◌≤◌, List, [], ◌∷◌, ◌++◌, length, map, take, refl, sym, ap, subst, ◌∙◌, arith}
+use Rattle.std.proofs.Common.{◌≡◌, inl, inr, ℕ, ◌+◌, ◌<◌, ◌≤◌, List, [], ◌∷◌, length, map, take, refl, sym, ap, subst, ◌∙◌, arith}
 use Rattle.std.specs.Prelude.{Option, Some, None, IfSome, Bool, IsTrue}
 use Rattle.std.proofs.lemmas.List.{length-take, take_all}
 use Rattle.cell_value.specs.FaultCount.{last_count, Rose}
@@ -7,12 +7,13 @@ use Rattle.desk.specs.declared.entry.Entry.{Entry}
 use Rattle.desk.specs.declared.entry.Ask.{Ask}
 use Rattle.desk.specs.declared.entry.Noted.{Noted}
 use Rattle.desk.specs.declared.entry.Noted.TheVariants as noted
-use Rattle.desk.specs.Journal.{heading, IsJournalOf}
+use Rattle.desk.specs.Journal.{heading}
 use Rattle.desk.specs.Keeping.{StaysSteady}
 use Rattle.desk.specs.Steps.{Outcome}
-use Rattle.desk.specs.Points.{entries_of, last_counted, Keeps}
-use Rattle.desk.specs.Histories.{IsHistory, IsBadAt}
+use Rattle.desk.specs.Histories.{AreAccepted, IsHistory, IsBadAt}
+use Rattle.desk.specs.Points.{entries_of, last_counted, marked_last, AreOneMore, Keeps}
 use Rattle.desk.specs.Opening.{HasOpened, HasBadJournal, HasLongJournal}
+use Rattle.desk.specs.Reopening.{CanReopen}
 use Rattle.desk.proofs.Accepts.{short_history, one_history, nowhere_bad}
 
 -- ---- lists without marks
@@ -51,26 +52,53 @@ never_rose steady steady' count count' stays is low (inr last) =
     let same = (stays is).1 in omega (arith, same, last, low)
 
 module _ (plain : List Entry → Ask → Outcome → Type 0) where
+  -- the entries are the history's
+  opened_entries : (limit : ℕ) (kept : Option (List ℕ)) (list : List Noted)
+      → (opened : HasOpened plain limit kept list) → entries_of list ≡ opened.entries
+  opened_entries limit kept list opened =
+      ap (λ (l : List Noted). entries_of l) opened.list_is ∙ entries_alone opened.entries
+
+  pub opened_accepted : (limit : ℕ) (kept : Option (List ℕ)) (list : List Noted) → HasOpened plain limit kept list
+      → AreAccepted plain (entries_of list)
+  opened_accepted limit kept list opened =
+      subst (AreAccepted plain) (sym (opened_entries limit kept list opened)) opened.history.2
+
   -- the journal of what was opened is kept
   pub opened_keeps : (limit : ℕ) (kept kept' : Option (List ℕ)) (list : List Noted) → HasOpened plain limit kept list
-      → kept' ≡ kept → Keeps kept' list
+      → kept' ≡ kept → Keeps plain limit kept' list
   opened_keeps limit kept kept' list opened same =
-      subst (λ (k : Option (List ℕ)). Keeps k list) (sym same) (by_kept kept opened.kept_are)
+      subst (λ (k : Option (List ℕ)). Keeps plain limit k list) (sym same) (by_kept kept opened.kept_are)
     where
-      by_kept : (k : Option (List ℕ)) → IfSome k (λ b. b ≡ opened.bytes) → Keeps k list
+      by_kept : (k : Option (List ℕ)) → IfSome k (λ b. b ≡ opened.bytes) → Keeps plain limit k list
       by_kept None are = tt
-      by_kept (Some b) are = (
-        opened.entries,
-        opened.history.0,
-        subst (λ (l : List ℕ). IsJournalOf l opened.entries opened.history.0) (sym are) opened.history.1,
-        inl (sym (ap (λ (l : List Noted). entries_of l) opened.list_is ∙ entries_alone opened.entries)),
-      )
+      by_kept (Some b) are = record {
+        short = subst (λ (l : List ℕ). length l ≤ limit) (sym are) opened.short;
+        entries = opened.entries;
+        history = subst (λ (l : List ℕ). IsHistory plain l opened.entries) (sym are) opened.history;
+        one_of = inl (sym (opened_entries limit kept list opened));
+      }
 
   -- nothing was noted since
   pub opened_counts : (limit count : ℕ) (kept : Option (List ℕ)) (list : List Noted) → HasOpened plain limit kept list
       → count ≡ last_counted count list
   opened_counts limit count kept list opened =
       sym (ap (λ (l : List Noted). last_counted count l) opened.list_is ∙ counted_alone count opened.entries)
+
+  -- ---- opened again
+
+  pub can_reopen : CanReopen plain
+  can_reopen limit list None keeps = tt
+  can_reopen limit list (Some bytes) keeps = record {
+    not_long = λ long. omega (arith, long, keeps.short);
+    not_bad = λ number bad.
+        nowhere_bad plain bytes keeps.entries number keeps.history
+        (subst (λ (l : List ℕ). IsBadAt plain l number) (sym bad.kept_are) bad.bad);
+    opened = λ next is. subst (AreOneMore (entries_of list) (marked_last [] list))
+        (one_history plain bytes keeps.entries is.entries keeps.history
+        (subst (λ (l : List ℕ). IsHistory plain l is.entries) (sym is.kept_are) is.history)
+        ∙ sym (opened_entries limit (Some bytes) next is))
+        keeps.one_of;
+  }
 
   -- ---- where no byte is kept
 

@@ -14,91 +14,107 @@ use Rattle.desk.specs.Keeping.{with_piece, IsTornPut}
 use Rattle.desk.specs.Noting.{piece_of, is_first, place_of, IsTornBehind, IsKept, IsMarked, IsNoted}
 use Rattle.desk.specs.declared.noting.Noting.{Noting}
 use Rattle.desk.specs.declared.noting.Noting.TheVariants as noting
-use Rattle.desk.specs.Steps.{entry_of, is_full}
-use Rattle.desk.specs.Points.{entries_of, last_counted, marked_last, AreOneMore, Keeps, IsSound}
+use Rattle.desk.specs.Steps.{Outcome, entry_of, is_full}
+use Rattle.desk.specs.Histories.{IsAcceptedBehind, AreAccepted}
+use Rattle.desk.specs.Points.{entries_of, last_counted, marked_last, Keeps, IsSound}
 use Rattle.desk.specs.Entries.{entries_entry, entries_mark}
 use Rattle.desk.proofs.Lists.{counted_entry, counted_mark, journal_length, few_entries, marked_more, entry_length, size_same}
-use Rattle.desk.proofs.Journals.{Fits, just_journal, put_keeps, torn_keeps}
+use Rattle.desk.proofs.Accepts.{accepted_more}
+use Rattle.desk.proofs.Journals.{Fits, kept_fits, kept_short, fits_kept, just_journal, put_keeps, torn_keeps, torn_short}
 
 -- ---- the world, the counts and what is kept
 
-module _ {W : Type 0} (stands : W → List Entry → Type 0) where
+module _ {W : Type 0} (plain : List Entry → Ask → Outcome → Type 0) (stands : W → List Entry → Type 0) where
   -- where nothing of that changed
   pub sound_same : (world : W) (list list' : List Noted) (entries bytes limit opened failures failures' : ℕ)
-      (kept kept' : Option (List ℕ)) → IsSound stands world list entries bytes limit opened failures kept
+      (kept kept' : Option (List ℕ)) → IsSound plain stands world list entries bytes limit opened failures kept
       → list' ≡ list → failures' ≡ failures → kept' ≡ kept
-      → IsSound stands world list' entries bytes limit opened failures' kept'
+      → IsSound plain stands world list' entries bytes limit opened failures' kept'
   sound_same world list list' entries bytes limit opened failures failures' kept kept' sound lists counts keeps =
-      subst (λ (l : List Noted). IsSound stands world l entries bytes limit opened failures' kept') (sym lists)
-      (subst (λ (n : ℕ). IsSound stands world list entries bytes limit opened n kept') (sym counts)
-      (subst (λ (k : Option (List ℕ)). IsSound stands world list entries bytes limit opened failures k) (sym
+      subst (λ (l : List Noted). IsSound plain stands world l entries bytes limit opened failures' kept') (sym lists)
+      (subst (λ (n : ℕ). IsSound plain stands world list entries bytes limit opened n kept') (sym counts)
+      (subst (λ (k : Option (List ℕ)). IsSound plain stands world list entries bytes limit opened failures k) (sym
       keeps) sound))
 
   -- where an entry was added
   pub sound_entry : (world next : W) (list list' : List Noted) (entries bytes total limit opened failures failures' : ℕ)
       (kept kept' : Option (List ℕ)) (e : Entry) (piece : List ℕ) (at : ℕ)
-      → IsSound stands world list entries bytes limit opened failures kept
-      → stands next (entries_of list ++ e ∷ []) → total ≡ length (journal_text (entries_of list ++ e ∷ []))
+      → IsSound plain stands world list entries bytes limit opened failures kept
+      → stands next (entries_of list ++ e ∷ []) → IsAcceptedBehind plain (entries_of list) e
+      → total ≡ length (journal_text (entries_of list ++ e ∷ [])) → total ≤ limit
       → piece ≡ piece_of (is_first (entries_of list)) e → at ≡ place_of (entries_of list)
       → IsKept e at piece list list' kept kept' failures failures'
-      → IsSound stands next list' (entries + 1) total limit opened failures' kept'
+      → IsSound plain stands next list' (entries + 1) total limit opened failures' kept'
       × IfSome kept' (λ b. b ≡ journal_text (entries_of list'))
   sound_entry world next list list' entries bytes total limit opened failures failures' kept kept' e piece at
-      sound next_is
-      total_is piece_is at_is put =
+      sound next_is also total_is room piece_is at_is put =
       let more = ap entries_of put.list_is ∙ entries_entry list e in
-      let kept_is = put_keeps kept kept' (entries_of list) (marked_last [] list) e sound.keeps
+      let kept_is = put_keeps plain kept kept' (entries_of list) (marked_last [] list) e
+      (kept_fits plain limit list kept sound.keeps)
       (put.kept_is ∙ ap (λ (p : List ℕ). option_map (with_piece at p) kept) piece_is
       ∙ ap (λ (n : ℕ). option_map (with_piece n (piece_of (is_first (entries_of list)) e)) kept) at_is) in
-      let kept_now = subst (λ (l : List Entry). IfSome kept' (λ b. b ≡ journal_text l)) (sym more) kept_is in (
+      let kept_now = subst (λ (l : List Entry). IfSome kept' (λ b. b ≡ journal_text l)) (sym more) kept_is in
+      let accepted = subst (AreAccepted plain) (sym more)
+      (accepted_more plain (entries_of list) e sound.accepted also) in
+      let size = ap (λ (l : List Entry). length (journal_text l)) more in (
         record {
           world_is = subst (stands next) (sym more) next_is;
+          accepted = accepted;
           entries_is = ap (λ (n : ℕ). n + 1) sound.entries_is ∙ sym (length-append (entries_of list) (e ∷ []))
               ∙ ap (λ (es : List Entry). length es) (sym more);
           bytes_is = total_is ∙ ap (λ (l : List Entry). length (journal_text l)) (sym more);
           limit_is = sound.limit_is;
           failures_is = put.failures_are ∙ sound.failures_is ∙ sym (counted_entry opened list e)
               ∙ ap (last_counted opened) (sym put.list_is);
-          keeps = whole_keeps kept' kept_now;
+          keeps = whole_keeps accepted (omega (arith, size, total_is, room)) kept' kept_now;
         },
         kept_now,
       )
     where
-      whole_keeps : (k : Option (List ℕ)) → IfSome k (λ b. b ≡ journal_text (entries_of list')) → Keeps k list'
-      whole_keeps None whole = tt
-      whole_keeps (Some b) whole = (
-        entries_of list',
-        [],
-        subst (λ (l : List ℕ). IsJournalOf l (entries_of list') []) (sym whole) (just_journal (entries_of list')),
-        inl refl,
-      )
+      whole_keeps : AreAccepted plain (entries_of list') → length (journal_text (entries_of list')) ≤ limit
+          → (k : Option (List ℕ)) → IfSome k (λ b. b ≡ journal_text (entries_of list')) → Keeps plain limit k list'
+      whole_keeps accepted short None whole = tt
+      whole_keeps accepted short (Some b) whole = record {
+        short = subst (λ (l : List ℕ). length l ≤ limit) (sym whole) short;
+        entries = entries_of list';
+        history = (
+          [],
+          subst (λ (l : List ℕ). IsJournalOf l (entries_of list') []) (sym whole) (just_journal (entries_of list')),
+          accepted,
+        );
+        one_of = inl refl;
+      }
 
   -- where a mark was added
   pub sound_mark : (world : W) (list list' : List Noted) (entries bytes limit opened failures failures' : ℕ)
       (kept kept' : Option (List ℕ)) (e : Entry) (before after : ℕ) (piece : List ℕ) (at : ℕ)
-      → IsSound stands world list entries bytes limit opened failures kept
+      → IsSound plain stands world list entries bytes limit opened failures kept
+      → IsAcceptedBehind plain (entries_of list) e → length (journal_text (entries_of list ++ e ∷ [])) ≤ limit
       → at ≡ place_of (entries_of list) → piece ≡ piece_of (is_first (entries_of list)) e
       → IsMarked e before after at piece list list' kept kept' failures failures'
-      → IsSound stands world list' entries bytes limit opened failures' kept'
+      → IsSound plain stands world list' entries bytes limit opened failures' kept'
   sound_mark world list list' entries bytes limit opened failures failures' kept kept' e before after piece at
-      sound at_is piece_is
-      put =
+      sound also room at_is piece_is put =
       let same = ap entries_of put.list_is ∙ entries_mark list e before after in
+      let torn = subst (λ (p : List ℕ). IsTornPut kept kept' (place_of (entries_of list)) p) piece_is
+      (subst (λ (n : ℕ). IsTornPut kept kept' n piece) at_is put.kept_is) in
       record {
         world_is = subst (stands world) (sym same) sound.world_is;
+        accepted = subst (AreAccepted plain) (sym same) sound.accepted;
         entries_is = sound.entries_is ∙ ap (λ (es : List Entry). length es) (sym same);
         bytes_is = sound.bytes_is ∙ ap (λ (l : List Entry). length (journal_text l)) (sym same);
         limit_is = sound.limit_is;
         failures_is = sym put.after_is ∙ sym (counted_mark opened list e before after)
             ∙ ap (last_counted opened) (sym put.list_is);
-        keeps = subst (λ (l : List Noted). Keeps kept' l) (sym put.list_is)
-            (subst (λ (es : List Entry). IfSome kept' (Fits es (marked_last [] (list ++ noted.Mark e before after ∷ []))))
-            (sym (entries_mark list e before after))
-            (subst (λ (marks : List Entry). IfSome kept' (Fits (entries_of list) marks))
+        keeps = subst (λ (l : List Noted). Keeps plain limit kept' l) (sym put.list_is)
+            (fits_kept plain limit (list ++ noted.Mark e before after ∷ []) kept'
+            (subst (λ (es : List Entry). IfSome kept' (Fits plain es (marked_last [] (list ++ noted.Mark e before after
+            ∷ [])))) (sym (entries_mark list e before after))
+            (subst (λ (marks : List Entry). IfSome kept' (Fits plain (entries_of list) marks))
             (sym (marked_more [] list e before after))
-            (torn_keeps kept kept' (entries_of list) (marked_last [] list) e sound.keeps
-            (subst (λ (p : List ℕ). IsTornPut kept kept' (place_of (entries_of list)) p) piece_is
-            (subst (λ (n : ℕ). IsTornPut kept kept' n piece) at_is put.kept_is)))));
+            (torn_keeps plain kept kept' (entries_of list) (marked_last [] list) e sound.accepted also
+            (kept_fits plain limit list kept sound.keeps) torn)))
+            (torn_short limit kept kept' (entries_of list) e room (kept_short plain limit list kept sound.keeps) torn));
       }
 
 -- ---- the limit

@@ -1,8 +1,10 @@
 pub mod Journal
-pub mod Histories
-pub mod Opening
 pub mod Steps
+pub mod Histories
 pub mod Points
+pub mod Replaying
+pub mod Opening
+pub mod Reopening
 pub mod Entries
 pub mod Keeping
 pub mod Noting

@@ -10,6 +10,7 @@ use Rattle.desk.specs.declared.noting.Noting.{Noting}
 use Rattle.desk.specs.declared.noting.Noting.TheVariants as noting
 use Rattle.desk.specs.declared.noting.Prepared.{Prepared}
 use Rattle.desk.specs.Journal.{heading, entry_text, journal_text}
+use Rattle.desk.specs.Histories.{AreTexts}
 use Rattle.desk.specs.Keeping.{with_piece, IsTornPut}
 use Rattle.desk.specs.Steps.{entry_of, unavailable_body}
 
@@ -54,8 +55,9 @@ place_of (entry ∷ entries) = length (journal_text (entry ∷ entries))
 abbrev pub IsTornBehind : List Entry → Entry → Option (List ℕ) → Option (List ℕ) → Type 0
 IsTornBehind entries entry kept kept' = IsTornPut kept kept' (place_of entries) (piece_of (is_first entries) entry)
 
--- what a put needs, made before it
+-- what a put needs, made before it; the entry is of texts
 pub record IsPrepared (caller : ℕ) (ask : Ask) (first : Bool) (prepared : Prepared) : Type 0 where
   pub entry_is : prepared.entry ≡ entry_of caller ask
+  pub texts : AreTexts (entry_of caller ask)
   pub piece_is : prepared.piece ≡ piece_of first (entry_of caller ask)
   pub unavailable_is : prepared.unavailable ≡ unavailable_body

@@ -1,5 +1,5 @@
 -- The list that a desk tells, and what a call is at a point of it.
-use Rattle.std.specs.Prelude.{◌≡◌, ◌⊎◌, ℕ, ◌≤◌, ◌<◌, Bool, true, List, [], ◌∷◌, ◌++◌, All, length, take, drop, Option, Some, None, IfSome, if◌then◌else◌}
+use Rattle.std.specs.Prelude.{◌≡◌, ◌⊎◌, ℕ, ◌≤◌, ◌<◌, Bool, true, List, [], ◌∷◌, ◌++◌, All, length, drop, Option, Some, None, IfSome, if◌then◌else◌}
 use Rattle.std.specs.List.{Contains}
 use Rattle.cell_value.specs.FaultCount.{Rose}
 use Rattle.history_lock.specs.History.{StartsWith, NoneOf, AreSilent}
@@ -11,7 +11,8 @@ use Rattle.desk.specs.declared.entry.Ask.{Ask}
 use Rattle.desk.specs.declared.entry.Reply.{Reply}
 use Rattle.desk.specs.declared.entry.Noted.{Noted}
 use Rattle.desk.specs.declared.entry.Noted.TheVariants as noted
-use Rattle.desk.specs.Journal.{journal_text, IsJournalOf}
+use Rattle.desk.specs.Journal.{journal_text}
+use Rattle.desk.specs.Histories.{AreAccepted, IsHistory}
 use Rattle.desk.specs.Keeping.{StaysSteady}
 use Rattle.desk.specs.Steps.{Outcome, entry_of, StepsTo, unavailable_body}
 
@@ -74,16 +75,18 @@ abbrev pub AreOneMore : List Entry → List Entry → List Entry → Type 0
 AreOneMore history marks entries =
     (entries ≡ history) ⊎ ((entry : Entry) × Contains marks entry × (entries ≡ history ++ entry ∷ []))
 
--- the bytes are the journal of the list's entries, or of these and one entry more, which has a mark behind the last; a
--- torn rest may stand behind them
-abbrev pub IsJournalFor : List Noted → List ℕ → Type 0
-IsJournalFor list bytes =
-    (entries : List Entry) × (rest : List ℕ) × IsJournalOf bytes entries rest
-    × AreOneMore (entries_of list) (marked_last [] list) entries
+-- The bytes are no more than the limit, and the journal of a history: that of the list's entries, or of these and one
+-- entry more, which has a mark behind the last. A torn rest may stand behind them.
+pub record IsJournalFor (plain : List Entry → Ask → Outcome → Type 0) (limit : ℕ) (list : List Noted) (bytes : List ℕ)
+    : Type 0 where
+  pub short : length bytes ≤ limit
+  pub entries : List Entry
+  pub history : IsHistory plain bytes entries
+  pub one_of : AreOneMore (entries_of list) (marked_last [] list) entries
 
 -- the bytes that are kept are such a journal
-abbrev pub Keeps : Option (List ℕ) → List Noted → Type 0
-Keeps kept list = IfSome kept (IsJournalFor list)
+abbrev pub Keeps : (List Entry → Ask → Outcome → Type 0) → ℕ → Option (List ℕ) → List Noted → Type 0
+Keeps plain limit kept list = IfSome kept (IsJournalFor plain limit list)
 
 -- ---- a call at a point
 
@@ -142,10 +145,11 @@ pub record IsCallAt (plain : List Entry → Ask → Outcome → Type 0) (pair : 
 
 -- What a closed desk's history is, by the pass that closed it: the entries of a list that begins with all that the pass
 -- had seen, to which others may have added items, but none whose pass this one took in. Each item since the opening is
--- from one of so many callers; where the pass alone drew numbers, from one below the count that it knew. The keeper's
--- count of faults is that of the list's last mark, and it keeps the journal of the entries.
-pub record IsClosed (start : List Noted) (opened callers : ℕ) (pass : Pass Noted) (entries : List Entry) (failures : ℕ)
-    (kept : Option (List ℕ)) : Type 0 where
+-- from one of so many callers; where the pass alone drew numbers, from one below the count that it knew. Each entry is
+-- accepted behind those before it. The keeper's count of faults is that of the list's last mark. What it keeps is the
+-- journal of the history, or of it and one entry more, which has a mark behind the last.
+pub record IsClosed (plain : List Entry → Ask → Outcome → Type 0) (start : List Noted) (pair : ℕ × ℕ) (callers : ℕ)
+    (pass : Pass Noted) (entries : List Entry) (failures : ℕ) (kept : Option (List ℕ)) : Type 0 where
   pub told : List Noted
   pub begins : StartsWith told (seen_by pass)
   pub not_own : NoneOf caller_of (number_of pass) (drop (length (seen_by pass)) told)
@@ -153,18 +157,20 @@ pub record IsClosed (start : List Noted) (opened callers : ℕ) (pass : Pass Not
   pub alone : drawing_of pass ≡ Alone → All (λ item. caller_of item < count_of pass) (drop (length start) told)
   pub done : AreSilent caller_of (met_by pass) told
   pub entries_are : entries ≡ entries_of told
-  pub counted : failures ≡ last_counted opened told
-  pub keeps : Keeps kept told
+  pub accepted : AreAccepted plain entries
+  pub counted : failures ≡ last_counted pair.1 told
+  pub keeps : Keeps plain pair.0 kept told
 
 -- ---- what a state keeps
 
--- the world stands for the entries of the list; they and the bytes of their journal are counted; the keeper's count of
--- faults is that of the last mark; and the journal is kept
-pub record IsSound {W : Type 0} (stands : W → List Entry → Type 0) (world : W) (list : List Noted)
-    (entries bytes limit opened failures : ℕ) (kept : Option (List ℕ)) : Type 0 where
+-- the world stands for the entries of the list, each of which is accepted behind those before it; they and the bytes of
+-- their journal are counted; the keeper's count of faults is that of the last mark; and the journal is kept
+pub record IsSound {W : Type 0} (plain : List Entry → Ask → Outcome → Type 0) (stands : W → List Entry → Type 0)
+    (world : W) (list : List Noted) (entries bytes limit opened failures : ℕ) (kept : Option (List ℕ)) : Type 0 where
   pub world_is : stands world (entries_of list)
+  pub accepted : AreAccepted plain (entries_of list)
   pub entries_is : entries ≡ length (entries_of list)
   pub bytes_is : bytes ≡ length (journal_text (entries_of list))
   pub limit_is : limit ≤ 1073741824
   pub failures_is : failures ≡ last_counted opened list
-  pub keeps : Keeps kept list
+  pub keeps : Keeps plain limit kept list

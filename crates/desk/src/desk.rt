@@ -203,12 +203,13 @@ impl<E: Engine, K: Keeper> Desk<E, K> {
 
     /// Waits for the turn, and gives the history and the keeper. The entries are those of a list that begins with all
     /// that the pass has seen, and has no further call of the pass, nor of one that it took in. Where the pass alone
-    /// draws numbers, those since the opening are from callers below the count that it knows. The keeper has failed as
-    /// often as its last mark tells, and has the journal of the entries, or of these and one more that was answered 503
-    /// behind the last. It takes no memory.
+    /// draws numbers, those since the opening are from callers below the count that it knows. Each is accepted behind
+    /// those before it. The keeper has failed as often as its last mark tells, and has the journal of the entries, or of
+    /// these and one more that was answered 503 behind the last: a desk with the same limit can be opened with it
+    /// ([`crate::opens_again`]). It takes no memory.
     pub fn close<R: Wait>(self, rt: &R, pass: Pass) -> (History<E>, K)
         requires { IsPass self pass }
-        ensures { IsClosed (list_at self) (pair_at self).1 (callers_at self) pass result.0 (K.failures result.1)
+        ensures { IsClosed E.plain (list_at self) (pair_at self) (callers_at self) pass result.0 (K.failures result.1)
             (K.kept result.1) }
     {
         let Desk { alloc: _, lock } = self;

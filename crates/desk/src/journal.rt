@@ -1,5 +1,6 @@
 ghost use Rattle.std.specs.Prelude.{◌≡◌, ◌<◌, ◌^◌, ◌++◌, length, IfOk, OnOk};
 ghost use Rattle.desk.specs.Journal.{field_text, entry_text, FieldsFit};
+ghost use Rattle.desk.specs.Histories.{AreTexts};
 
 use crate::Entry;
 use cell_value::{Bytes, NoMemory};
@@ -23,14 +24,15 @@ pub fn entry_bytes(alloc: Global, entry: &Entry) -> Result<Bytes, NoMemory>
     Ok(bytes)
 }
 
-/// Puts the bytes of an entry behind the last byte.
+/// Puts the bytes of an entry behind the last byte. Its user, its project and its target are UTF-8.
 ///
 /// # Errors
 ///
 /// [`NoMemory`] where memory runs out; nothing is said of the bytes then.
 pub(crate) fn put_entry(bytes: &mut Bytes, entry: &Entry) -> Result<(), NoMemory>
     requires { FieldsFit entry.now }
-    ensures { OnOk result (bytes.new ≡ bytes.old ++ entry_text entry.now) }
+    ensures put { OnOk result (bytes.new ≡ bytes.old ++ entry_text entry.now) }
+    ensures texts { OnOk result (AreTexts entry.now) }
 {
     bytes.extend_from_slice(&entry.caller.to_be_bytes())?;
     put_field(bytes, entry.user.as_str().as_bytes())?;

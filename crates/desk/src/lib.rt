@@ -28,7 +28,7 @@ pub use fault::{JournalFault, OpenFault};
 pub use history::{History, Summary};
 pub use journal::entry_bytes;
 pub use keeper::{Keeper, LoadFault, PutFault};
-pub use laws::{one_history, one_reading, one_step};
+pub use laws::{one_history, one_reading, one_step, opens_again};
 pub use memory::{MemoryKeeper, SteadyKeeper};
 pub use replay::read_journal;
 pub use state::{LONGEST_JOURNAL, State};

@@ -1,6 +1,7 @@
 ghost use Rattle.std.specs.Prelude.{◌≡◌, ◌≢◌, ℕ, List, ◌++◌, MatchOption, IfOk};
 ghost use Rattle.desk.specs.Journal.{four, field_text, entry_text, IsTorn};
-ghost use Rattle.desk.specs.Histories.{AreTexts, asked_again, entry_in};
+ghost use Rattle.desk.specs.Histories.{AreTexts, asked_again};
+ghost use Rattle.desk.specs.Replaying.{entry_in};
 
 use crate::Ask;
 use cell_value::{Bytes, NoMemory, Text};

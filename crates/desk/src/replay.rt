@@ -2,7 +2,8 @@ ghost use Rattle.std.specs.Prelude.{◌≡◌, ◌<◌, ◌+◌, ◌^◌, ℕ, L
 ghost use Rattle.desk.specs.Journal.{journal_text, entry_text};
 ghost use Rattle.desk.specs.declared.entry.Entry.{Entry};
 ghost use Rattle.desk.specs.Steps.{entry_of};
-ghost use Rattle.desk.specs.Histories.{IsHistory, IsBadAt, IsAcceptedBehind, IsMadeAgain, IsReplayed, entry_in};
+ghost use Rattle.desk.specs.Histories.{IsHistory, IsBadAt, IsAcceptedBehind};
+ghost use Rattle.desk.specs.Replaying.{IsMadeAgain, IsReplayed, entry_in};
 
 use crate::engine::Answered;
 use crate::journal::HEADING;
@@ -23,7 +24,7 @@ impl<E: Engine> Model for Replay<E> {
     ghost use Rattle.desk.specs.declared.entry.Entry.{Entry};
     ghost use Rattle.std.specs.Prelude.{List};
     ghost use Rattle.desk.specs.Points.{entries_of};
-    ghost use Rattle.desk.specs.Histories.{IsReplayed};
+    ghost use Rattle.desk.specs.Replaying.{IsReplayed};
 
     ghost Value = { List Entry };
 

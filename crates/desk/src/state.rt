@@ -2,6 +2,7 @@ ghost use Rattle.std.specs.Prelude.{◌≡◌, ◌≢◌, ℕ, ◌<◌, ◌≤�
 ghost use Rattle.std.specs.Prelude.{None, Some, Err, IsTrue};
 ghost use Rattle.cell_value.specs.FaultCount.{Rose};
 ghost use Rattle.desk.specs.Journal.{journal_text};
+ghost use Rattle.desk.specs.Histories.{AreAccepted};
 ghost use Rattle.desk.specs.Noting.{IsTornBehind};
 ghost use Rattle.desk.specs.Steps.{entry_of, full_body};
 ghost use Rattle.desk.specs.Points.{Telling, IsSound, Happens, IsAnswered, IsCounted, AreCountsOf, IsUnmade, Keeps};
@@ -23,8 +24,9 @@ pub const LONGEST_JOURNAL: u64 = 1_073_741_824;
 /// with the keeper's count of faults at the opening, and the keeper.
 ///
 /// The world stands for the entries of the list. The keeper's count of faults is that of the last mark, or, where there
-/// is none, the one of the opening. The bytes that are kept are the journal of the entries, or of these and one more,
-/// which has a mark behind the last.
+/// is none, the one of the opening. Each entry is accepted behind those before it. The bytes that are kept are no more
+/// than the limit, and the journal of the entries, or of these and one more, which has a mark behind the last and is
+/// accepted there, too.
 pub struct State<E: Engine, K: Keeper> {
     alloc: Global,
     keeper: K,
@@ -41,7 +43,7 @@ impl<E: Engine, K: Keeper> Model for State<E, K> {
 
     ghost view = { λ s. record { list = s.list.items; pair = (s.limit, s.opened); keeper = s.keeper } };
 
-    ghost invariant = { λ s. IsSound E.stands s.world s.list.items s.entries s.bytes s.limit s.opened
+    ghost invariant = { λ s. IsSound E.plain E.stands s.world s.list.items s.entries s.bytes s.limit s.opened
         (K.failures s.keeper)
         (K.kept s.keeper) };
 }
@@ -115,6 +117,9 @@ impl<E: Engine, K: Keeper> State<E, K> {
         ensures torn { result.status ≡ 503 → IsTornBehind (entries_of self.old.list) (entry_of caller ask.now)
             (K.kept self.old.keeper) (K.kept self.new.keeper) }
         ensures unkept { self.new.list ≡ self.old.list → K.kept self.new.keeper ≡ K.kept self.old.keeper }
+
+        // What is kept can be opened again, whatever was answered.
+        ensures keeps { Keeps E.plain self.new.pair.0 (K.kept self.new.keeper) self.new.list }
     {
         E::served_outcomes();
         match self.answer(caller, ask, asked) {
@@ -151,7 +156,8 @@ impl<E: Engine, K: Keeper> State<E, K> {
     pub fn into_history(self) -> (History<E>, K)
         ensures history { result.0 ≡ entries_of self.list }
         ensures keeper { result.1 ≡ self.keeper }
-        ensures kept { Keeps (K.kept result.1) self.list }
+        ensures accepted { AreAccepted E.plain result.0 }
+        ensures kept { Keeps E.plain self.pair.0 (K.kept result.1) self.list }
         ensures counted { IsCounted K.failures self }
     {
         let State {
@@ -182,6 +188,7 @@ impl<E: Engine, K: Keeper> State<E, K> {
           last_counted self.now.pair.1 self.now.list,
         ) }
         ensures counted { IsCounted K.failures self.now }
+        ensures keeps { Keeps E.plain self.now.pair.0 (K.kept self.now.keeper) self.now.list }
     {
         let faults = self.keeper.faults();
         Reply {
@@ -210,6 +217,7 @@ impl<E: Engine, K: Keeper> State<E, K> {
         ensures torn { IfOk result (λ reply. reply.status ≡ 503 → IsTornBehind (entries_of self.old.list)
             (entry_of caller ask.now) (K.kept self.old.keeper) (K.kept self.new.keeper)) }
         ensures unkept { self.new.list ≡ self.old.list → K.kept self.new.keeper ≡ K.kept self.old.keeper }
+        ensures keeps { Keeps E.plain self.new.pair.0 (K.kept self.new.keeper) self.new.list }
         ensures unmade { OnErr result (IsUnmade K.failures K.steady self.old self.new) }
     {
         E::served_outcomes();
@@ -247,6 +255,7 @@ impl<E: Engine, K: Keeper> State<E, K> {
         ensures torn { IfOk result (λ reply. reply.status ≡ 503 → IsTornBehind (entries_of self.old.list)
             (entry_of caller ask.now) (K.kept self.old.keeper) (K.kept self.new.keeper)) }
         ensures unkept { self.new.list ≡ self.old.list → K.kept self.new.keeper ≡ K.kept self.old.keeper }
+        ensures keeps { Keeps E.plain self.new.pair.0 (K.kept self.new.keeper) self.new.list }
         ensures unmade { OnErr result (IsUnmade K.failures K.steady self.old self.new) }
     {
         E::served_outcomes();

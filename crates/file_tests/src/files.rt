@@ -1,4 +1,4 @@
-use crate::common::check;
+use crate::checks::check;
 use cell_value::{Bytes, Failed};
 use desk::{Keeper, LoadFault, PutFault};
 use folder::Folder;
@@ -18,6 +18,7 @@ fn keeps_a_journal_in_a_file(rt: HostRuntime) {
     check(&rt, &"missing", is_missing(&rt));
     check(&rt, &"kept", is_kept(&rt));
     check(&rt, &"read", is_read(&rt));
+    check(&rt, &"locked", is_locked(&rt));
     check(&rt, &"failing", is_failing(&rt));
     let _ = fs::remove_file(&rt, JOURNAL);
 }
@@ -74,6 +75,29 @@ fn is_read<R: Files<File = File> + AllocGlobal>(rt: &R) -> bool {
     let again = loads(rt.alloc(), &mut kept, 100, b"SHEETJ01two");
     folder.kept_back(kept);
     read && ended && again
+}
+
+/// Whether a journal that is kept isn't kept by another too, but may be looked at, and is free behind that.
+fn is_locked<R: Files<File = File>>(rt: &R) -> bool {
+    let mut folder = FileFolder::new(rt);
+    let Ok(kept) = folder.journal(JOURNAL, true) else {
+        return false;
+    };
+    let second = is_failed(folder.journal(JOURNAL, true));
+    let looked = is_kept_back(&mut folder, false);
+    folder.kept_back(kept);
+    second && looked && is_kept_back(&mut folder, true)
+}
+
+/// Whether the journal can be opened; it is closed again.
+fn is_kept_back<R: Files<File = File>>(folder: &mut FileFolder<'_, R>, make: bool) -> bool {
+    match folder.journal(JOURNAL, make) {
+        Ok(kept) => {
+            folder.kept_back(kept);
+            true
+        }
+        Err(_) => false,
+    }
 }
 
 /// Whether a folder can't be read as a file, nor be a journal, and a device without room keeps nothing.

@@ -2,11 +2,11 @@ use crate::bytes::{
     DUMP, FIRST_JOURNAL, JOURNAL, JOURNAL_OF_ANN, NOBODY, READ, READ_AS_ENTRY, READS, TORN, TWICE,
     WRITES, WRITES_BY_TOKEN, WRITTEN,
 };
-use crate::common::{Ran, calls, check, words_of};
+use crate::checks::check;
 use cell_value::{Bytes, Items, Text};
 use conversation::Ended;
 use folder::MemoryFolder;
-use serving_tests::{Piece, TurnDoors};
+use serving_tests::{Piece, Ran, TurnDoors, calls, words_of};
 use sheets_cli::sheets_main;
 use sheets_http::{MemorySink, MemorySource};
 use std::alloc::Global;
@@ -393,7 +393,7 @@ fn is_answered(doors: &TurnDoors, answered: Option<&[u8]>) -> bool {
 }
 
 /// Runs the program with these words over a folder and doors, which have accepted no connection yet.
-fn run<R: AllocGlobal + Threads + Wait + Sync>(
+pub(crate) fn run<R: AllocGlobal + Threads + Wait + Sync>(
     rt: &R,
     words: &[&str],
     folder: &mut MemoryFolder,
@@ -422,7 +422,7 @@ fn run<R: AllocGlobal + Threads + Wait + Sync>(
 }
 
 /// Doors to which nobody comes.
-fn no_doors(alloc: Global) -> TurnDoors {
+pub(crate) fn no_doors(alloc: Global) -> TurnDoors {
     TurnDoors::new(Vec::new(alloc), Vec::new(alloc))
 }
 

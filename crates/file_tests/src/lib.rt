@@ -5,7 +5,9 @@
 #[cfg(test)]
 mod bytes;
 #[cfg(test)]
-mod common;
+mod checks;
+#[cfg(test)]
+mod club;
 #[cfg(test)]
 mod files;
 #[cfg(test)]

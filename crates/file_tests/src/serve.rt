@@ -1,10 +1,10 @@
 ghost use Rattle.std.specs.Prelude.{◌≡◌, [], IfSome};
 
-use crate::common::{Ran, calls, check, no_files, words_of};
+use crate::checks::check;
 use cell_value::{Bytes, Items, NoMemory};
 use connections::{Doors, MemoryDoors};
 use conversation::Ended;
-use serving_tests::{Piece, TurnDoors, TurnLink};
+use serving_tests::{Piece, Ran, TurnDoors, TurnLink, calls, no_files, words_of};
 use sheets_cli::sheets_main;
 use sheets_http::{MemorySink, MemorySource};
 use std::alloc::{AllocError, Global};

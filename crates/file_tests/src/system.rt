@@ -1,4 +1,4 @@
-use crate::common::check;
+use crate::checks::check;
 use cell_value::Failed;
 use sheets_cli::{Input, Output};
 use sheets_http::{Sink, SinkFault, Source};

@@ -1,4 +1,4 @@
-use crate::common::check;
+use crate::checks::check;
 use cell_value::Failed;
 use connections::Doors;
 use sheets_cli::TcpDoors;

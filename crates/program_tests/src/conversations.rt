@@ -1,4 +1,4 @@
-use crate::common::{Ran, calls, check, no_files, words_of};
+use crate::checks::check;
 use cell_value::Bytes;
 use connections::one_reply;
 use conversation::cut_off_laws;
@@ -31,7 +31,7 @@ use known_values::rows::{
     USERS, WRITES, WRITES_TO_LISTS, WRITES_TO_TWO_SHEETS,
 };
 use known_values::values::{VALUES, VALUES_OF_OTHERS};
-use serving_tests::TurnDoors;
+use serving_tests::{Ran, TurnDoors, calls, no_files, words_of};
 use sheet_engine::Sheets;
 use sheets_cli::sheets_main;
 use sheets_http::{MemorySink, MemorySource};

@@ -6,6 +6,6 @@
 #![tactic(auto)]
 
 #[cfg(test)]
-mod common;
+mod checks;
 #[cfg(test)]
 mod conversations;

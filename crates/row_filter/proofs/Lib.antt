@@ -1,1 +1,2 @@
-pub mod Ready
+pub mod Found
+pub mod Criteria

@@ -1,35 +1,38 @@
-ghost use Rattle.std.specs.Prelude.{◌≡◌, [], length, map, IfOk, OnOk};
+ghost use Rattle.std.specs.Prelude.{◌≡◌, length, map, IfOk};
 ghost use Rattle.std.specs.List.{AllZip};
 ghost use Rattle.basic_filter.specs.Hiding.{hides};
-ghost use Rattle.row_filter.specs.Ready.{HasHidden, IsSetOf, condition_alone, shows_listed};
+ghost use Rattle.row_filter.specs.Criteria.{IsReady, criterion_left, some_hides};
 
+use crate::criterion::ReadyCriterion;
 use basic_filter::{Criterion, Filter};
-use cell_value::{Duplicate, Items, NoMemory, Text, Value, show};
+use cell_value::{Items, NoMemory, Value, show};
 use std::alloc::Global;
-use std::collections::BTreeSet;
 use std::marker::Model;
 
-/// A filter that is asked of many rows: a hidden value is found without going over the others. Contracts
-/// see the list of the criteria.
+/// Criteria that were made ready, and what is left of them.
+type Parts<'a> = (Vec<ReadyCriterion<'a>>, Items<Criterion>);
+
+/// A filter that is asked of many rows: a row takes no more time than what its cells show, times the logarithm
+/// of the number of hidden values. Contracts see the list of the criteria.
 #[derive(Drop)]
 pub struct RowFilter<'a> {
     filter: &'a Filter,
-    hidden: Vec<BTreeSet<&'a str>>,
-    conditions: Filter,
+    ready: Vec<ReadyCriterion<'a>>,
+    left: Filter,
 }
 
 impl<'a> Model for RowFilter<'a> {
     ghost use Rattle.std.specs.Prelude.{◌≡◌, List, map};
     ghost use Rattle.std.specs.List.{AllZip};
     ghost use Rattle.basic_filter.specs.declared.types.Criterion.{Criterion};
-    ghost use Rattle.row_filter.specs.Ready.{HasHidden, condition_alone};
+    ghost use Rattle.row_filter.specs.Criteria.{IsReady, criterion_left};
 
     ghost Value = { List Criterion };
 
     ghost view = { λ f. f.filter.now.criteria };
 
-    ghost invariant = { λ f. AllZip HasHidden f.filter.now.criteria f.hidden.items
-        × (f.conditions.criteria ≡ map condition_alone f.filter.now.criteria) };
+    ghost invariant = { λ f. AllZip IsReady f.filter.now.criteria f.ready.items
+        × (f.left.criteria ≡ map criterion_left f.filter.now.criteria) };
 }
 
 impl<'a> RowFilter<'a> {
@@ -41,17 +44,15 @@ impl<'a> RowFilter<'a> {
     pub fn of(alloc: Global, filter: &'a Filter) -> Result<RowFilter<'a>, NoMemory>
         ensures { IfOk result (λ ready. ready ≡ filter.now.criteria) }
     {
-        let criteria = filter.criteria.as_slice();
-        let mut hidden = Vec::new(alloc);
-        add_sets(alloc, criteria, &mut hidden)?;
-        let conditions = Filter {
+        let (ready, criteria) = split(alloc, filter.criteria.as_slice())?;
+        let left = Filter {
             area: filter.area,
-            criteria: conditions_of(alloc, criteria)?,
+            criteria,
         };
         Ok(RowFilter {
             filter,
-            hidden,
-            conditions,
+            ready,
+            left,
         })
     }
 
@@ -72,74 +73,41 @@ impl<'a> RowFilter<'a> {
         requires { length values.now ≡ length self.now }
         ensures { IfOk result (λ hidden. hidden ≡ hides self.now values.now) }
     {
-        if shows_listed(alloc, self.hidden.as_slice(), values.as_slice())? {
+        if some_hides(alloc, self.ready.as_slice(), values.as_slice())? {
             return Ok(true);
         }
-        self.conditions.hides(alloc, values)
+        self.left.hides(alloc, values)
     }
 }
 
-/// Whether some cell shows a text of its set; each set has its value.
-fn shows_listed(alloc: Global, sets: &[BTreeSet<&str>], values: &[Value]) -> Result<bool, NoMemory>
-    ensures { IfOk result (λ listed. listed ≡ shows_listed sets.now values.now) }
+/// Whether some criterion hides what its cell shows; each has its value.
+fn some_hides(
+    alloc: Global,
+    criteria: &[ReadyCriterion],
+    values: &[Value],
+) -> Result<bool, NoMemory>
+    ensures { IfOk result (λ hidden. hidden ≡ some_hides criteria.now values.now) }
 {
-    for (set, value) in sets.iter().zip(values) {
+    for (criterion, value) in criteria.iter().zip(values) {
         let shown = show(alloc, value)?;
-        if set.contains(shown.as_str()) {
+        if criterion.hides(alloc, shown.as_str())? {
             return Ok(true);
         }
     }
     Ok(false)
 }
 
-/// Adds for each criterion the set of its hidden values.
-fn add_sets<'a>(
-    alloc: Global,
-    criteria: &'a [Criterion],
-    sets: &mut Vec<BTreeSet<&'a str>>,
-) -> Result<(), NoMemory>
-    requires { sets.old.items ≡ [] }
-    ensures { OnOk result (AllZip HasHidden criteria.now sets.new.items) }
+/// The two parts of each criterion: what was made ready of it, and what is left.
+fn split<'a>(alloc: Global, criteria: &'a [Criterion]) -> Result<Parts<'a>, NoMemory>
+    ensures ready { IfOk result (λ parts. AllZip IsReady criteria.now parts.0.items) }
+    ensures left { IfOk result (λ parts. parts.1 ≡ map criterion_left criteria.now) }
 {
+    let mut ready = Vec::new(alloc);
+    let mut left = Vec::new(alloc);
     for criterion in criteria {
-        sets.push(set_of(alloc, criterion.hidden.as_slice())?)?;
+        let one = ReadyCriterion::of(alloc, criterion)?;
+        left.push(one.left(alloc, criterion)?)?;
+        ready.push(one)?;
     }
-    Ok(())
-}
-
-/// A set of the texts, in which one is found without going over the others.
-fn set_of<'a>(alloc: Global, texts: &'a [Text]) -> Result<BTreeSet<&'a str>, NoMemory>
-    ensures { IfOk result (IsSetOf texts.now) }
-{
-    let mut set = BTreeSet::new(alloc);
-    for text in texts {
-        set.insert(text.as_str())?;
-    }
-    Ok(set)
-}
-
-/// The criteria without their hidden values.
-fn conditions_of(alloc: Global, criteria: &[Criterion]) -> Result<Items<Criterion>, NoMemory>
-    ensures { IfOk result (λ alone. alone ≡ map condition_alone criteria.now) }
-{
-    let mut alone = Vec::new(alloc);
-    for criterion in criteria {
-        alone.push(condition_alone(alloc, criterion)?)?;
-    }
-    Ok(Items::of(alone))
-}
-
-/// The criterion without its hidden values.
-fn condition_alone(alloc: Global, criterion: &Criterion) -> Result<Criterion, NoMemory>
-    ensures { IfOk result (λ alone. alone ≡ condition_alone criterion.now) }
-{
-    let condition = match &criterion.condition {
-        Some(condition) => Some(condition.duplicate()?),
-        None => None,
-    };
-    Ok(Criterion {
-        column: criterion.column,
-        hidden: Items::of(Vec::new(alloc)),
-        condition,
-    })
+    Ok((ready, Items::of(left)))
 }

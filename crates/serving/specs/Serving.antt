@@ -10,10 +10,13 @@ use Rattle.history_lock.specs.declared.view.Drawing.TheVariants.{Alone}
 use Rattle.history_lock.specs.Passes.{seen_by, number_of, count_of, drawing_of, met_by}
 use Rattle.history_lock.specs.declared.pass.Pass.{Pass}
 use Rattle.desk.specs.declared.desk.Desk.{Desk}
+use Rattle.desk.specs.declared.entry.Ask.{Ask}
 use Rattle.desk.specs.declared.entry.Entry.{Entry}
 use Rattle.desk.specs.declared.entry.Noted.{Noted}
 use Rattle.desk.specs.Points.{Keeps, caller_of, entries_of, last_counted}
 use Rattle.desk.specs.Desks.{IsPass, pair_at, list_at, callers_at}
+use Rattle.desk.specs.Histories.{AreAccepted}
+use Rattle.desk.specs.Steps.{Outcome}
 use Rattle.conversation.specs.declared.ended.Ended.TheVariants as how
 use Rattle.conversation.specs.Conversation.{at_moment, IsConversation, EndsAs, Counts, LosesFirst}
 use Rattle.connections.specs.Calls.{UserTable}
@@ -162,20 +165,22 @@ HasVisitor number count visits item =
     Contains (map visitor visits) (caller_of item) ⊎ ((caller_of item < count) × (caller_of item ≢ number))
 
 -- What serving many connections came to, by the pass that was given. The history is the entries of the list that the
--- desk told when it was closed, and its journal is kept; the keeper's count of faults is that of the list's last mark.
--- Each item since the opening is from one of the desk's callers. Where the pass alone drew numbers, each that it had
--- not seen is from the caller of a connection, or from one that had a number before.
-pub record AreServed {E K W A : Type 0} (answers : AnswersAt E K W A) (desk : Desk E K W A)
-    (users : UserTable) (pass : Pass Noted) (limit : ℕ) (end : Served) (shown shown' : Option Shown)
-    (entries : List Entry) (failures : ℕ) (kept : Option (List ℕ)) : Type 0 where
+-- desk told when it was closed, each accepted behind those before it. What is kept is its journal, or that of it and one
+-- entry more, which has a mark behind the last; the keeper's count of faults is that of the list's last mark. Each item
+-- since the opening is from one of the desk's callers. Where the pass alone drew numbers, each that it had not seen is
+-- from the caller of a connection, or from one that had a number before.
+pub record AreServed {E K W A : Type 0} (plain : List Entry → Ask → Outcome → Type 0) (answers : AnswersAt E K W A)
+    (desk : Desk E K W A) (users : UserTable) (pass : Pass Noted) (limit : ℕ) (end : Served)
+    (shown shown' : Option Shown) (entries : List Entry) (failures : ℕ) (kept : Option (List ℕ)) : Type 0 where
   pub told : List Noted
   pub talked : HaveTalked answers desk users (number_of pass) (seen_by pass) told limit end shown shown'
   pub numbered : All (λ item. caller_of item < callers_at desk) (drop (length (list_at desk)) told)
   pub visitors : drawing_of pass ≡ Alone
       → All (HasVisitor (number_of pass) (count_of pass) talked.visits) (drop (length (seen_by pass)) told)
   pub entries_are : entries ≡ entries_of told
+  pub accepted : AreAccepted plain entries
   pub counted : failures ≡ last_counted (pair_at desk).1 told
-  pub keeps : Keeps kept told
+  pub keeps : Keeps plain (pair_at desk).0 kept told
 
 -- ---- while connections are accepted
 

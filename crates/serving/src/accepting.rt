@@ -638,8 +638,8 @@ where
     )
 }
 
-// The law of steady doors, at a value.
-fn steady_doors<D: Doors>(doors: &D)
+/// The law of steady doors, at a value: their count of faults isn't at its last value. It does nothing when it runs.
+pub fn steady_doors<D: Doors>(doors: &D)
     ensures { IsTrue (D.steady doors.now) → D.failures doors.now < last_count }
 {
     let _ = doors;
@@ -702,8 +702,9 @@ where
 
     // What each connection was answered, what the doors show of it, and a history that has the calls of each. Where
     // the pass alone drew numbers, each entry that it had not seen is from the caller of a connection, or from one that
-    // had a number before. What the keeper has is the journal of the history.
-    ensures served { AreServed (IsAnswer E.plain K.failures K.steady) desk users.now pass limit result.0
+    // had a number before. What the keeper has is the journal of the history, or of it and one entry more, whose call
+    // was answered 503 behind the last.
+    ensures served { AreServed E.plain (IsAnswer E.plain K.failures K.steady) desk users.now pass limit result.0
         (D.shown doors.old) (D.shown doors.new) result.1 (K.failures result.2) (K.kept result.2) }
 
     // The doors are told to have failed only where they did in this call.

@@ -8,15 +8,16 @@ use Rattle.dimension_ops.specs.World.{opening_book, opening_world}
 use Rattle.sheets_json.specs.declared.answer.Answer.{Answer}
 use Rattle.batch_engine.specs.Calls.{Refusal, told_as}
 use Rattle.batch_engine.specs.Effects.{IsNext, world_after}
-use Rattle.desk.specs.Steps.{Answers, Outcome, entry_of, user_of}
+use Rattle.desk.specs.Entries.{asks_again}
+use Rattle.desk.specs.Steps.{Answers, Outcome, entry_of}
 use Rattle.desk.specs.declared.engine.Answered.{Answered}
 use Rattle.desk.specs.declared.entry.Ask.{Ask}
 use Rattle.desk.specs.declared.entry.Entry.{Entry}
 use Rattle.sheet_engine.specs.Answers.{Makes, as_fault, body_of, outcome_of, status_of, told_by}
-use Rattle.sheet_engine.specs.Replay.{Follows, IsAnsweredOn, Plain, ReplaysFrom, Stands, ask_of}
+use Rattle.sheet_engine.specs.Replay.{Follows, IsAnsweredOn, Plain, ReplaysFrom, Stands}
 use Rattle.sheet_engine.specs.declared.fault.Fault.{Fault}
 use Rattle.sheet_engine.proofs.Accepted.{accepted_next, becomes_next}
-use Rattle.sheet_engine.proofs.Serving.{IsWhole, accepted_call, whole}
+use Rattle.sheet_engine.proofs.Serving.{accepted_call, whole}
 
 pub told_as_fault : (judged : Result Answer Refusal) → told_by (told_as judged) ≡ as_fault judged
 told_as_fault (Result.Ok answer) = refl
@@ -34,21 +35,6 @@ opens (Result.Ok world) is stands = record {
 opens (Result.Err none) is stands = tt
 
 -- ---- entries
-
--- an ask whose user is known, and whose body has no content coding, is the one that its entry was
-pub is_its_entry : (caller : ℕ) (ask : Ask) → IsWhole ask → ask ≡ ask_of (entry_of caller ask)
-is_its_entry caller ask whole =
-    ap (λ (u : Option (List ℕ)). as_asked u ask.coded) (whole.user_is ∙ ap (λ u. Some (user_of u)) (sym whole.user_is))
-    ∙ ap (λ (c : Bool). as_asked (Some (user_of ask.user)) c) whole.coded_is
-  where
-    as_asked : Option (List ℕ) → Bool → Ask
-    as_asked user coded = record {
-      user = user;
-      project = ask.project;
-      target = ask.target;
-      coded = coded;
-      body = ask.body;
-    }
 
 -- one entry more
 pub replays_more : (start : NameWorld) (entries : List Entry) (entry : Entry) (world world' : NameWorld)
@@ -91,7 +77,7 @@ module _ (books : List PlaceBook) (ask : Ask) (entries : List Entry) (stands : S
             (record {
               outcome = outcome;
               effect = makes.effect;
-              answered = subst (λ a. IsAnsweredOn stands.world a outcome makes.effect) (is_its_entry caller ask w)
+              answered = subst (λ a. IsAnsweredOn stands.world a outcome makes.effect) (asks_again caller ask w.known w.coded_is)
                   answered_on;
               world_is = refl;
             });

@@ -22,13 +22,14 @@ use Rattle.sheets_json.specs.declared.call.Call.{Call}
 use Rattle.batch_engine.specs.Effects.{Effect, world_after}
 use Rattle.batch_engine.specs.Laws.{CallsAnsweredOnce}
 use Rattle.batch_engine.specs.declared.calls.Caller.{Caller}
+use Rattle.desk.specs.Histories.{asked_again}
 use Rattle.desk.specs.Steps.{HasOneCount, HasOneDump, HasOneOutcome, Outcome}
 use Rattle.desk.specs.declared.entry.Ask.{Ask}
 use Rattle.desk.specs.declared.entry.Entry.{Entry}
 use Rattle.sheet_engine.specs.Answers.{Ends, IsStep, as_fault, body_of, outcome_of}
 use Rattle.sheet_engine.specs.Asks.{AsksFor, IsAsked, IsAskedBy, asked_for, caller_of, made_by, method_of, target_of}
 use Rattle.sheet_engine.specs.Dump.{AreLines, Dump, IsLine, dump_calls}
-use Rattle.sheet_engine.specs.Replay.{Cells, IsAnsweredOn, Plain, ReplaysFrom, ask_of}
+use Rattle.sheet_engine.specs.Replay.{Cells, IsAnsweredOn, Plain, ReplaysFrom}
 use Rattle.sheet_engine.specs.declared.fault.Fault.{Fault}
 use Rattle.sheet_engine.specs.declared.fault.Fault.TheVariants as fault
 
@@ -191,7 +192,7 @@ module _ (one_call : HasOneCall) (calls : CallsAnsweredOnce) (apart : StandsForA
       → ReplaysFrom start entries world' → world ≡ world'
   replays_once start [] world world' is is' = is ∙ sym is'
   replays_once start (entry ∷ entries) world world' (between, one, others) (between', one', others') =
-      let same = answered_once start (ask_of entry) one.outcome one'.outcome one.effect one'.effect one.answered
+      let same = answered_once start (asked_again entry) one.outcome one'.outcome one.effect one'.effect one.answered
       one'.answered in
       let same_between = one.world_is ∙ ap (λ effect. world_after effect start) same.1 ∙ sym one'.world_is in
       replays_once between' entries world world' (subst (λ w. ReplaysFrom w entries world) same_between others) others'

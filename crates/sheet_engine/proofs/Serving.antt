@@ -54,8 +54,7 @@ was_call caller (Err found) is = absurd is
 
 -- a call's user is known, and its body has no content coding
 pub record IsWhole (ask : Ask) : Type 0 where
-  pub user : List ℕ
-  pub user_is : ask.user ≡ Some user
+  pub known : IsSome ask.user
   pub coded_is : ask.coded ≡ false
 
 pub whole : (books : List PlaceBook) (ask : Ask) (asked : Result (Caller × Call) Fault) → IsAsked books ask asked
@@ -66,8 +65,7 @@ whole books ask asked is call = go ask.user refl is
         → MatchOption user (asked ≡ Err fault.NoUser) (λ user. IsAskedBy user books ask asked) → IsWhole ask
     go None known is = absurd (subst IsCall is call)
     go (Some user) known is = record {
-      user = user;
-      user_is = known;
+      known = subst IsSome (sym known) refl;
       coded_is = uncoded books ask is.asks.routed
           (subst IsCall is.asks.asked_is (was_call (caller_of user ask) is.call (subst IsCall is.asked_is call)));
     }
@@ -111,5 +109,5 @@ served_outcome books ask asked told is = record {
   status_is = served_told told;
   accepted = λ accepts.
       let w = whole books ask asked is (accepted_call asked told accepts) in
-      (answered_status asked told accepts, subst IsSome (sym w.user_is) refl, w.coded_is);
+      (answered_status asked told accepts, w.known, w.coded_is);
 }

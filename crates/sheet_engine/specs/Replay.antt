@@ -1,6 +1,6 @@
 -- What the calls of a history make of the spreadsheets that there are in the beginning, by the names of their lines,
 -- and what one thread answers an ask behind them.
-use Rattle.std.specs.Prelude.{◌≡◌, ℕ, false, List, [], ◌∷◌, Result, Some}
+use Rattle.std.specs.Prelude.{◌≡◌, ℕ, List, [], ◌∷◌, Result}
 use Rattle.world_model.specs.Book.{PlaceBook}
 use Rattle.world_model.specs.Counts.{filled_in}
 use Rattle.world_model.specs.World.{NameWorld, WorldStandsFor}
@@ -9,6 +9,7 @@ use Rattle.sheets_json.specs.declared.answer.Answer.{Answer}
 use Rattle.sheets_json.specs.declared.call.Call.{Call}
 use Rattle.batch_engine.specs.Effects.{Effect, world_after}
 use Rattle.batch_engine.specs.declared.calls.Caller.{Caller}
+use Rattle.desk.specs.Histories.{asked_again}
 use Rattle.desk.specs.Steps.{Outcome}
 use Rattle.desk.specs.declared.entry.Ask.{Ask}
 use Rattle.desk.specs.declared.entry.Entry.{Entry}
@@ -25,21 +26,11 @@ pub record IsAnsweredOn (world : NameWorld) (ask : Ask) (outcome : Outcome) (eff
   pub is_step : IsStep books ask asked told effect
   pub outcome_is : outcome ≡ outcome_of asked told
 
--- the ask that an entry was: its user's, under its project, without a content coding
-abbrev pub ask_of : Entry → Ask
-ask_of entry = record {
-  user = Some entry.user;
-  project = entry.project;
-  target = entry.target;
-  coded = false;
-  body = entry.body;
-}
-
 -- the world after an entry is what its ask makes of the one before
 pub record Follows (world : NameWorld) (entry : Entry) (world' : NameWorld) : Type 0 where
   pub outcome : Outcome
   pub effect : Effect
-  pub answered : IsAnsweredOn world (ask_of entry) outcome effect
+  pub answered : IsAnsweredOn world (asked_again entry) outcome effect
   pub world_is : world' ≡ world_after effect world
 
 -- one entry after another

@@ -2,6 +2,9 @@
 use Rattle.std.specs.Prelude.{◌≡◌, ◌⊎◌, ℕ, List, Option, None, Some}
 use Rattle.command_line.specs.Words.{Meaning, run, serve, replay, workload, ReadsAs}
 use Rattle.commands.specs.Folders.{Asks, AsksForJournal}
+use Rattle.commands.specs.declared.finish.Finish.{Finish}
+use Rattle.commands.specs.declared.finish.Finish.TheVariants.{Served}
+use Rattle.conversation.specs.declared.ended.Ended.TheVariants.{NoMemory}
 use Rattle.folder.specs.Folder.{ShownFolder}
 
 -- the words are the command `run`, for some users
@@ -21,6 +24,11 @@ abbrev pub NamesJournal : List (List ℕ) → Type 0
 NamesJournal words =
     ((port limit : ℕ) × (users : Option (List ℕ)) × (name : List ℕ) × ReadsAs (serve port limit users (Some name)) words)
     ⊎ ReadsAsReplay words
+
+-- memory ran out before the words were read: three devices are as they were
+abbrev pub RanOut : {A B C : Type 0} → Finish → A → A → B → B → C → C → Type 0
+RanOut finish one one' other other' third third' =
+    (finish ≡ Served NoMemory) × (one' ≡ one) × (other' ≡ other) × (third' ≡ third)
 
 -- what a command asked of a folder: the file of users, and then the journal, that its words name
 abbrev pub IsAskedBy : Meaning → Option ShownFolder → Option ShownFolder → Type 0

@@ -95,7 +95,8 @@ fn load_fault(error: &Error, faults: &mut u64) -> LoadFault
     LoadFault::Failed
 }
 
-/// Opens a file to be read and written. With `make` one that is missing is made.
+/// Opens a file to be read and written. With `make` one that is missing is made, and it is locked until it is closed: one
+/// that another open has locked isn't opened, since each would cut off what the other has added.
 fn open_journal<R: Files<File = File>>(rt: &R, name: &str, make: bool) -> io::Result<File> {
     let file = OpenOptions::new()
         .read(true)
@@ -103,6 +104,7 @@ fn open_journal<R: Files<File = File>>(rt: &R, name: &str, make: bool) -> io::Re
         .create(make)
         .open(rt, name)?;
     if make {
+        file.try_lock()?;
         // Its name lasts from here on. Where the system can't see to that, the file is used all the same.
         let _ = keep_names(rt, folder_of(name));
     }

@@ -13,7 +13,7 @@ ghost use Rattle.commands.specs.Replaying.{Replays};
 ghost use Rattle.commands.specs.Running.{Runs};
 ghost use Rattle.commands.specs.Serving.{Serves};
 ghost use Rattle.commands.specs.Working.{Works};
-ghost use Rattle.sheets_cli.specs.Program.{IsAskedBy, NamesJournal, ReadsAsReplay, ReadsAsRun, ReadsAsServe};
+ghost use Rattle.sheets_cli.specs.Program.{IsAskedBy, NamesJournal, RanOut, ReadsAsReplay, ReadsAsRun, ReadsAsServe};
 
 use command_line::{Command, command_of};
 use commands::{
@@ -38,6 +38,8 @@ use std::thread::Threads;
 /// token in the file of users; where the words name none, from the user whom its token names. `replay` writes what the
 /// history of a journal comes to, and `workload` what a number of fixed calls comes to.
 ///
+/// Where memory runs out before the words are read, no command is done, and the status is that of want of memory.
+///
 /// No clause says that a wait ends, or that two connections are served at the same time.
 pub fn sheets_main<
     R: AllocGlobal + Threads + Wait + Sync,
@@ -57,26 +59,34 @@ pub fn sheets_main<
     // The doors have accepted no connection yet.
     requires { IfSome (D.shown doors.old) (λ shown. shown.connections ≡ []) }
 
-    // Words that are no command.
-    ensures usage { (result ≡ USAGE) ↔ ReadsAsNone (map string_bytes words.now) }
-    ensures usage_line { ReadsAsNone (map string_bytes words.now) → Says (O.written faults.old) (O.written faults.new)
+    // Words that are no command: that is told, or memory ran out before they were read.
+    ensures usage { result ≡ USAGE → ReadsAsNone (map string_bytes words.now) }
+    ensures usage_line { ReadsAsNone (map string_bytes words.now)
+        → ((result ≡ USAGE) × Says (O.written faults.old) (O.written faults.new)
         (O.sink_faults faults.old) (O.sink_faults faults.new)
-        (O.sink_shortages faults.old) (O.sink_shortages faults.new) (codes "usage\n") }
+        (O.sink_shortages faults.old) (O.sink_shortages faults.new) (codes "usage\n"))
+        ⊎ ((result ≡ NO_MEMORY) × Says (O.written faults.old) (O.written faults.new)
+        (O.sink_faults faults.old) (O.sink_faults faults.new)
+        (O.sink_shortages faults.old) (O.sink_shortages faults.new) (codes "no memory\n")) }
     ensures refused { ReadsAsNone (map string_bytes words.now)
         → (output.new ≡ output.old) × (folder.new ≡ folder.old) }
 
-    // Only `run` reads the input, and only `serve` asks the doors. The folder is asked for what the words name alone.
+    // Only `run` reads the input, and only `serve` asks the doors. The folder is asked for what the words name alone, or
+    // for nothing, where memory ran out before they were read.
     ensures untouched { ¬ (ReadsAsRun (map string_bytes words.now)) → input.new ≡ input.old }
     ensures unasked { ¬ (ReadsAsServe (map string_bytes words.now)) → doors.new ≡ doors.old }
     ensures asked { (command : Meaning) → ReadsAs command (map string_bytes words.now)
-        → IsAskedBy command (F.shown folder.old) (F.shown folder.new) }
+        → IsAskedBy command (F.shown folder.old) (F.shown folder.new)
+        ⊎ ((result ≡ NO_MEMORY) × (folder.new ≡ folder.old)) }
 
-    // The command `run`: how it ends, what was written, and the line on the faults.
+    // The command `run`: how it ends, what was written, and the line on the faults; or memory ran out before the words
+    // were read.
     ensures run { (users : Option (List ℕ)) → ReadsAs (run users) (map string_bytes words.now)
         → (finish : Finish) × (result ≡ status_of finish)
-        × Runs Plain users (F.shown folder.old) (I.left input.old)
+        × (Runs Plain users (F.shown folder.old) (I.left input.old)
         (O.written output.old) (O.written output.new)
         (O.sink_shortages output.old) (O.sink_shortages output.new) finish
+        ⊎ RanOut finish input.old input.new output.old output.new folder.old folder.new)
         × Says (O.written faults.old) (O.written faults.new) (O.sink_faults faults.old) (O.sink_faults faults.new)
         (O.sink_shortages faults.old) (O.sink_shortages faults.new) (line_of finish) }
 
@@ -88,14 +98,15 @@ pub fn sheets_main<
         ⊎ ((result ≡ READ_FAULT) ⊎ (result ≡ WRITE_FAULT))))) }
 
     // The command `serve`: how it ends, what the connections were answered and the doors show of them, what was
-    // written, and the line on the faults.
+    // written, and the line on the faults; or memory ran out before the words were read.
     ensures serve { (port : ℕ) → (limit : ℕ) → (users : Option (List ℕ)) → (journal : Option (List ℕ))
         → ReadsAs (serve port limit users journal) (map string_bytes words.now)
         → (finish : Finish) × (result ≡ status_of finish)
-        × Serves Sheets F.Kept (List PlaceBook) Reading Plain Cells F.Kept.failures F.Kept.steady port limit users
+        × (Serves Sheets F.Kept (List PlaceBook) Reading Plain Cells F.Kept.failures F.Kept.steady port limit users
         journal (F.shown folder.old) (F.shown folder.new)
         (at_moment (D.shown doors.old) (O.written output.old) (O.sink_shortages output.old))
         (at_moment (D.shown doors.new) (O.written output.new) (O.sink_shortages output.new)) finish
+        ⊎ RanOut finish output.old output.new folder.old folder.new doors.old doors.new)
         × Says (O.written faults.old) (O.written faults.new) (O.sink_faults faults.old) (O.sink_faults faults.new)
         (O.sink_shortages faults.old) (O.sink_shortages faults.new) (line_of finish) }
 
@@ -146,22 +157,24 @@ pub fn sheets_main<
     ensures folder { F.failures folder.old ≤ F.failures folder.new }
     ensures keepers { F.keeper_failures folder.old ≤ F.keeper_failures folder.new }
 {
-    match command_of(words) {
-        None => {
-            say(faults, b"usage\n");
-            USAGE
-        }
-        Some(Command::Run { users }) => {
+    let Ok(found) = command_of(rt.alloc(), words) else {
+        say(faults, b"no memory\n");
+        return NO_MEMORY;
+    };
+    let Some(command) = found else {
+        say(faults, b"usage\n");
+        return USAGE;
+    };
+    match command {
+        Command::Run { users } => {
             run::<_, Sheets, _, _, _>(rt, users, input, output, faults, folder)
         }
-        Some(
-            Command::Serve {
-                port,
-                limit,
-                users,
-                journal,
-            },
-        ) => {
+        Command::Serve {
+            port,
+            limit,
+            users,
+            journal,
+        } => {
             let wanted = Wanted {
                 port,
                 limit,
@@ -170,9 +183,9 @@ pub fn sheets_main<
             };
             serve::<_, Sheets, _, _, _>(rt, wanted, output, faults, folder, doors)
         }
-        Some(Command::Replay { journal }) => {
+        Command::Replay { journal } => {
             replay::<_, Sheets, _, _>(rt, journal, output, faults, folder)
         }
-        Some(Command::Workload { calls }) => workload::<_, Sheets, _>(rt, calls, output, faults),
+        Command::Workload { calls } => workload::<_, Sheets, _>(rt, calls, output, faults),
     }
 }

@@ -1,9 +1,9 @@
 use Rattle.std.proofs.Common.{Ok, Err, subst}
 use Rattle.std.proofs.lemmas.Result.{err_from_is_err_and}
 use Rattle.dimension_ops.specs.Rules.{IsUnlessNoMemory}
-use Rattle.batch_engine.specs.Members.{IsDoneTo}
-use Rattle.batch_engine.specs.Values.{IsCleared}
 use Rattle.sheets_json.specs.declared.answer.Answer.TheVariants as answer
+use Rattle.request_kinds.specs.Telling.{IsDoneTo}
+use Rattle.batch_engine.specs.Values.{IsCleared}
 use Rattle.batch_engine.proofs.Ranged.{made_alone, refused_alone}
 use Rattle.batch_engine.proofs.answers.clear.Goals as goal
 

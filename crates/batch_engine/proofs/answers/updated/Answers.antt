@@ -2,7 +2,7 @@ use Rattle.std.proofs.Common.{subst, sym, Err}
 use Rattle.std.proofs.lemmas.Result.{err_from_is_err_and}
 use Rattle.values_api.specs.Ranges.{Resolves}
 use Rattle.dimension_ops.specs.Rules.{IsUnlessNoMemory}
-use Rattle.batch_engine.specs.Members.{IsDoneTo}
+use Rattle.request_kinds.specs.Telling.{IsDoneTo}
 use Rattle.batch_engine.specs.Values.{IsUpdate, IsUpdated}
 use Rattle.batch_engine.proofs.Ranged.{change_refused, done_there}
 use Rattle.batch_engine.proofs.answers.updated.Goals as goal

@@ -1,5 +1,5 @@
-use Rattle.batch_engine.specs.Values.{IsWritten}
 use Rattle.sheets_json.specs.declared.answer.Answer.TheVariants as answer
+use Rattle.batch_engine.specs.Values.{IsWritten}
 use Rattle.batch_engine.proofs.Ranged.{made_alone}
 use Rattle.batch_engine.proofs.answers.write.Goals as goal
 

@@ -2,7 +2,7 @@ use Rattle.std.proofs.Common.{Err, Ok, subst}
 use Rattle.std.proofs.lemmas.Result.{err_from_is_err_and}
 use Rattle.dimension_ops.specs.Rules.{IsUnlessNoMemory}
 use Rattle.sheets_json.specs.declared.answer.Answer.TheVariants as answer
-use Rattle.batch_engine.specs.Members.{IsDoneTo}
+use Rattle.request_kinds.specs.Telling.{IsDoneTo}
 use Rattle.batch_engine.specs.Values.{IsAppended, inserts}
 use Rattle.batch_engine.proofs.Ranged.{made_alone, refused_alone}
 use Rattle.batch_engine.proofs.appends.append.Goals as goal

@@ -1,7 +1,7 @@
 use Rattle.std.proofs.Common.{subst, sym, Err}
 use Rattle.std.proofs.lemmas.Result.{err_from_is_err_and}
 use Rattle.dimension_ops.specs.Rules.{IsUnlessNoMemory}
-use Rattle.batch_engine.specs.Members.{IsDoneTo}
+use Rattle.request_kinds.specs.Telling.{IsDoneTo}
 use Rattle.batch_engine.specs.Ranges.{IsTarget}
 use Rattle.batch_engine.specs.Values.{IsAppendOn, IsAppended}
 use Rattle.batch_engine.proofs.Ranged.{change_refused, done_there}

@@ -2,8 +2,9 @@ use Rattle.std.proofs.Common.{◌+◌, subst, sym, get_or, Ok}
 use Rattle.std.proofs.lemmas.List.{get_or_read}
 use Rattle.json_shapes.specs.declared.fault.ShapeFault.TheVariants.{BadShape}
 use Rattle.json_requests.specs.declared.request.Step.TheVariants.{Shape}
-use Rattle.batch_engine.specs.Members.{AreDone, IsDoneTo}
-use Rattle.batch_engine.specs.Requests.{IsRequested}
+use Rattle.request_kinds.specs.Telling.{IsDoneTo}
+use Rattle.batch_engine.specs.Members.{AreDone}
+use Rattle.batch_engine.specs.Calls.{IsRequested}
 use Rattle.batch_engine.proofs.InTurns.{DoneTo, all_done, broken_there, done_so, none_done, one_more}
 use Rattle.batch_engine.proofs.batch.all_requested.Goals as goal
 

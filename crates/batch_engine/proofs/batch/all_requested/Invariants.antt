@@ -1,4 +1,4 @@
-use Rattle.batch_engine.specs.Requests.{IsRequested}
+use Rattle.batch_engine.specs.Calls.{IsRequested}
 use Rattle.batch_engine.proofs.InTurns.{DoneTo}
 use Rattle.batch_engine.proofs.batch.all_requested.Given as goal
 

@@ -1,8 +1,8 @@
 use Rattle.std.proofs.Common.{◌++◌, ◌∷◌, [], ap, ◌∙◌, subst, sym}
 use Rattle.dev_metadata.specs.declared.types.Item.{Item}
 use Rattle.world_model.specs.Sound.{IsItemWithin}
+use Rattle.request_kinds.specs.ListingLaws.{more_listed}
 use Rattle.batch_engine.specs.Filtered.{area_of_spot, areas_of_items}
-use Rattle.batch_engine.proofs.Listing.{more_listed}
 use Rattle.batch_engine.proofs.filtered.areas_of_items.Goals as goal
 
 pub put_area-requires : goal.put_area-requires

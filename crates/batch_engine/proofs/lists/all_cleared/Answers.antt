@@ -1,6 +1,7 @@
 use Rattle.std.proofs.Common.{[], ◌+◌, subst, sym, get_or, Ok}
 use Rattle.std.proofs.lemmas.List.{get_or_read}
-use Rattle.batch_engine.specs.Members.{AreDone, IsDoneTo}
+use Rattle.request_kinds.specs.Telling.{IsDoneTo}
+use Rattle.batch_engine.specs.Members.{AreDone}
 use Rattle.batch_engine.specs.Values.{IsCleared}
 use Rattle.batch_engine.proofs.InTurns.{DoneTo, all_done, broken_there, done_so, one_more}
 use Rattle.batch_engine.proofs.lists.all_cleared.Goals as goal

@@ -1,7 +1,8 @@
 use Rattle.std.proofs.Common.{◌+◌, subst, sym, get_or, Ok, Err}
 use Rattle.std.proofs.lemmas.List.{get_or_read}
 use Rattle.json_shapes.specs.declared.fault.ShapeFault.TheVariants.{BadShape}
-use Rattle.batch_engine.specs.Members.{AreDone, IsDoneTo}
+use Rattle.request_kinds.specs.Telling.{IsDoneTo}
+use Rattle.batch_engine.specs.Members.{AreDone}
 use Rattle.batch_engine.specs.Values.{IsUpdated}
 use Rattle.batch_engine.proofs.InTurns.{DoneTo, all_done, broken_there, done_so, one_more}
 use Rattle.batch_engine.proofs.lists.all_written.Goals as goal

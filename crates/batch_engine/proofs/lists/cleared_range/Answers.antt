@@ -1,6 +1,6 @@
 use Rattle.std.proofs.Common.{subst, sym}
 use Rattle.dimension_ops.specs.Rules.{IsUnlessNoMemory}
-use Rattle.batch_engine.specs.Members.{IsDoneTo}
+use Rattle.request_kinds.specs.Telling.{IsDoneTo}
 use Rattle.batch_engine.specs.Values.{IsCleared}
 use Rattle.batch_engine.proofs.lists.cleared_range.Goals as goal
 

@@ -1,6 +1,6 @@
 use Rattle.std.proofs.Common.{◌++◌, ◌∷◌, ◌∙◌, [], ap, sym, take}
 use Rattle.std.specs.Option.{option_copied}
-use Rattle.batch_engine.proofs.Listing.{all_read, one_read}
+use Rattle.request_kinds.specs.ListingLaws.{all_read, one_read}
 use Rattle.batch_engine.proofs.looks.ranges_of.Goals as goal
 
 pub loop-at-init : goal.loop-at-init

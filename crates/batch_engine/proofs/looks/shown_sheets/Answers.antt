@@ -3,8 +3,7 @@ use Rattle.std.proofs.lemmas.List.{length-map, take_all}
 use Rattle.world_model.specs.Sheet.{PlaceSheet}
 use Rattle.world_model.specs.Sound.{IsSheetSound}
 use Rattle.values_api.specs.Sheets.{stored_in}
-use Rattle.batch_engine.specs.Looks.{AreSheetsShown, IsGridShown, shown_sheet}
-use Rattle.batch_engine.specs.Protections.{shown_protections}
+use Rattle.batch_engine.specs.Looks.{AreSheetsShown, IsGridShown, shown_sheet, shown_protections}
 use Rattle.batch_engine.proofs.Looking.{shown_next}
 use Rattle.batch_engine.proofs.looks.shown_sheets.Goals as goal
 

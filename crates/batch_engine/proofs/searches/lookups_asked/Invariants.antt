@@ -1,5 +1,5 @@
 use Rattle.std.proofs.Common.{◌≡◌, take}
-use Rattle.batch_engine.specs.Metadata.{lookups_of}
+use Rattle.request_kinds.specs.Metadata.{lookups_of}
 use Rattle.batch_engine.specs.Searches.{asked_of}
 use Rattle.batch_engine.proofs.searches.lookups_asked.Given as goal
 

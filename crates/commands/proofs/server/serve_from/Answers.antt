@@ -8,7 +8,8 @@ use Rattle.commands.proofs.server.serve_from.Goals as goal
 pub returns-in-Err-clause-serves : goal.returns-in-Err-clause-serves
 returns-in-Err-clause-serves g c =
     no_doors refl (record { state_is = c.open.ensures.opened; written_is = refl })
-    (keeps_start (list_at c.args.desk) c.args.desk c.args.pass c.requires.desk _ _ _ _ _ c.close-keeper.ensures)
+    (keeps_start g.E.Engine.plain (list_at c.args.desk) c.args.desk c.args.pass c.requires.desk _ _ _ _
+    c.close-keeper.ensures)
 
 -- steady doors can be opened
 pub returns-in-Err-clause-steady_read : goal.returns-in-Err-clause-steady_read

@@ -1,6 +1,6 @@
-use Rattle.std.proofs.Common.{ap, subst, ◌∙◌}
+use Rattle.std.proofs.Common.{subst}
 use Rattle.desk.specs.declared.entry.Ask.{Ask}
-use Rattle.desk.specs.Histories.{asked_again, entry_in}
+use Rattle.desk.specs.Replaying.{entry_in}
 use Rattle.desk.proofs.Accepts.{no_texts, not_accepted, made_again}
 use Rattle.desk.proofs.Replies.{answers_none, answers_some}
 use Rattle.desk.proofs.replay.call_again.Goals as goal

@@ -1,10 +1,11 @@
-use Rattle.std.proofs.Common.{◌≡◌, ℕ, ◌+◌, [], ◌∷◌, ◌++◌, List, length, drop, Ok, sym, ap, subst, ◌∙◌, arith, length-append}
+use Rattle.std.proofs.Common.{◌≡◌, ℕ, ◌+◌, List, length, drop, Ok, sym, ap, subst, ◌∙◌, arith, length-append}
 use Rattle.std.proofs.lemmas.Bool.{false≢true}
 use Rattle.std.proofs.lemmas.Bool.Decides.{Decides-eqb}
 use Rattle.std.proofs.lemmas.Slice.Eq.{starts_is, strip_prefix_is}
 use Rattle.desk.specs.declared.entry.Entry.{Entry}
 use Rattle.desk.specs.Journal.{heading, journal_text, entry_text}
-use Rattle.desk.specs.Histories.{AreAccepted, IsHistory, IsBadAt, entry_in}
+use Rattle.desk.specs.Histories.{AreAccepted, IsHistory, IsBadAt}
+use Rattle.desk.specs.Replaying.{entry_in}
 use Rattle.desk.proofs.Lists.{few_entries, entry_length}
 use Rattle.desk.proofs.Accepts.{short_history, no_journal, bad_entry, read_more, read_history, accepted_more}
 use Rattle.desk.proofs.replay.replay_journal.Goals as goal

@@ -26,6 +26,7 @@ returns-clause-served g c =
           threads.result.0 shown (list_at c.args.desk) c.requires.pass.begins closed.alone talked threads.ensures.talked
           visits_are;
       entries_are = closed.entries_are;
+      accepted = closed.accepted;
       counted = closed.counted;
       keeps = closed.keeps;
     }

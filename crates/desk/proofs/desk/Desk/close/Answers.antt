@@ -1,5 +1,5 @@
-use Rattle.std.proofs.Common.{ℕ, ◌∙◌, ap}
-use Rattle.desk.specs.Points.{last_counted}
+use Rattle.std.proofs.Common.{ℕ, ◌∙◌, ap, subst}
+use Rattle.desk.specs.Points.{Keeps, last_counted}
 use Rattle.desk.proofs.desk.Desk.close.Goals as goal
 
 pub returns : goal.returns
@@ -15,5 +15,7 @@ returns g c =
       entries_are = c.into_history.ensures.history;
       counted = ap g.K.Keeper.failures c.into_history.ensures.keeper ∙ c.into_history.ensures.counted
           ∙ ap (λ (pair : ℕ × ℕ). last_counted pair.1 last.list) c.close.ensures.pair;
-      keeps = c.into_history.ensures.kept;
+      accepted = c.into_history.ensures.accepted;
+      keeps = subst (λ (pair : ℕ × ℕ). Keeps g.E.Engine.plain pair.0 (g.K.Keeper.kept c.into_history.result.1) last.list)
+          c.close.ensures.pair c.into_history.ensures.kept;
     }

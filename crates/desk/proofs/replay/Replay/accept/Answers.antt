@@ -1,6 +1,7 @@
 use Rattle.std.proofs.Common.{[], ◌∷◌, ◌++◌, List, ap, subst, ◌∙◌}
 use Rattle.desk.specs.declared.entry.Entry.{Entry}
-use Rattle.desk.specs.Histories.{IsAcceptedBehind, entry_in}
+use Rattle.desk.specs.Histories.{IsAcceptedBehind}
+use Rattle.desk.specs.Replaying.{entry_in}
 use Rattle.desk.specs.Points.{entries_of}
 use Rattle.desk.proofs.Accepts.{pushed, entries_more, replayed_more}
 use Rattle.desk.proofs.replay.Replay.accept.Goals as goal

@@ -6,7 +6,9 @@ use Rattle.desk.specs.declared.entry.Noted.{Noted}
 use Rattle.desk.specs.declared.entry.Noted.TheVariants as noted
 use Rattle.desk.specs.Noting.{piece_of, is_first, place_of, IsTornBehind, IsKept, IsMarked}
 use Rattle.desk.specs.Steps.{Outcome, entry_of, is_full, history_full}
+use Rattle.desk.specs.Histories.{IsAcceptedBehind}
 use Rattle.desk.specs.Points.{Telling, IsSound, entries_of, last_counted}
+use Rattle.desk.proofs.Accepts.{accepted_entry}
 use Rattle.desk.proofs.Journals.{place_within}
 use Rattle.desk.proofs.States.{sound_entry, sound_mark, full_journal, room_journal, total_journal, fields_fit, counts_fit, first_of, place_first, place_later, noted_kept, noted_marked, torn_behind}
 use Rattle.desk.proofs.Replies.{within_full, within_room, served_not, stepped, marked, no_growth_mark}
@@ -49,7 +51,7 @@ pub put_noted-requires-clause-at : goal.put_noted-requires-clause-at
 put_noted-requires-clause-at g c =
     let s = c.self.inside in
     subst (λ (n : ℕ). IfSome (g.K.Keeper.kept s.keeper) (λ bytes. n ≤ length bytes)) (sym (place_at g c))
-    (place_within (g.K.Keeper.kept s.keeper) s.list.items c.self.invariant.keeps)
+    (place_within g.E.Engine.plain s.limit (g.K.Keeper.kept s.keeper) s.list.items c.self.invariant.keeps)
 
 pub overflow_add-self : goal.overflow_add-self
 overflow_add-self g c =
@@ -73,7 +75,7 @@ marked_place g c =
 
 -- the state where the piece is kept
 kept_state : (g : given.Over) (c : goal.After-drop-piece-inside-in-Kept-1 g)
-    → IsSound g.E.Engine.stands c.args.world c.put_noted.new.list.items (c.self.inside.entries + 1)
+    → IsSound g.E.Engine.plain g.E.Engine.stands c.args.world c.put_noted.new.list.items (c.self.inside.entries + 1)
     c.saturating_add-total.result c.self.inside.limit c.self.inside.opened (g.K.Keeper.failures c.put_noted.new.keeper)
     (g.K.Keeper.kept c.put_noted.new.keeper)
     × IfSome (g.K.Keeper.kept c.put_noted.new.keeper) (λ b. b ≡ journal_text (entries_of c.put_noted.new.list.items))
@@ -86,17 +88,22 @@ kept_state g c =
           inv.bytes_is
     ] in
     let put = noted_kept _ c.in-Kept.is c.in_ok-put_noted.ensures.noted in
+    let made : Outcome = record { status = c.args.status; body = c.args.body; accepts = true } in
     let total = total_journal s.limit s.bytes c.entry_size.result c.saturating_add-total.result es c.args.ask.now
     inv.bytes_is c.entry_size.ensures c.saturating_add-total.ensures inv.limit_is c.args.caller
     c.if-self-total.false in
-    sound_entry g.E.Engine.stands s.world c.args.world s.list.items c.put_noted.new.list.items s.entries s.bytes
+    sound_entry g.E.Engine.plain g.E.Engine.stands s.world c.args.world s.list.items c.put_noted.new.list.items s.entries s.bytes
     c.saturating_add-total.result s.limit s.opened (g.K.Keeper.failures s.keeper)
     (g.K.Keeper.failures c.put_noted.new.keeper) (g.K.Keeper.kept s.keeper) (g.K.Keeper.kept c.put_noted.new.keeper)
     e c.as_slice.result.now c.if-first.at inv
     (subst (λ (x : Entry). g.E.Engine.stands c.args.world (es ++ x ∷ [])) (sym p.entry_is)
     (subst (λ (t : Telling _). g.E.Engine.stands c.args.world (entries_of t.list
     ++ entry_of c.args.caller c.args.ask.now ∷ [])) (sym c.self.view_is) (c.requires.world c.args.caller)))
-    (total ∙ ap (λ (x : Entry). length (journal_text (es ++ x ∷ []))) (sym p.entry_is))
+    (subst (IsAcceptedBehind g.E.Engine.plain es) (sym p.entry_is)
+    (accepted_entry g.E.Engine.plain c.served_outcomes.ensures es c.args.caller c.args.ask.now made p.texts
+    (subst (λ (t : Telling _). g.E.Engine.plain (entries_of t.list) c.args.ask.now made) (sym c.self.view_is)
+    c.requires.plain) refl))
+    (total ∙ ap (λ (x : Entry). length (journal_text (es ++ x ∷ []))) (sym p.entry_is)) c.if-self-total.false
     (c.as_slice.ensures ∙ p.piece_is ∙ ap (λ (b : Bool). piece_of b (entry_of c.args.caller c.args.ask.now))
     (first_of s.entries es inv.entries_is) ∙ ap (piece_of (is_first es)) (sym p.entry_is))
     place
@@ -129,19 +136,29 @@ returns-in-Kept-clause-happens g c =
 
 -- the state where the keeper failed
 marked_state : (g : given.Over) (c : goal.After-drop-world-in-Marked-1 g)
-    → IsSound g.E.Engine.stands c.self.inside.world c.put_noted.new.list.items c.self.inside.entries c.self.inside.bytes
+    → IsSound g.E.Engine.plain g.E.Engine.stands c.self.inside.world c.put_noted.new.list.items c.self.inside.entries c.self.inside.bytes
     c.self.inside.limit c.self.inside.opened (g.K.Keeper.failures c.put_noted.new.keeper)
     (g.K.Keeper.kept c.put_noted.new.keeper)
 marked_state g c =
-    let s = c.self.inside in let p = c.in_ok-entry.ensures in
+    let s = c.self.inside in let inv = c.self.invariant in let es = entries_of s.list.items in
+    let p = c.in_ok-entry.ensures in
+    let made : Outcome = record { status = c.args.status; body = c.args.body; accepts = true } in
+    let total = total_journal s.limit s.bytes c.entry_size.result c.saturating_add-total.result es c.args.ask.now
+    inv.bytes_is c.entry_size.ensures c.saturating_add-total.ensures inv.limit_is c.args.caller
+    c.if-self-total.false in
     let put = noted_marked _ c.in-Marked.before c.in-Marked.after c.in-Marked.is c.in_ok-put_noted.ensures.noted in
-    sound_mark g.E.Engine.stands s.world s.list.items c.put_noted.new.list.items s.entries s.bytes s.limit s.opened
+    sound_mark g.E.Engine.plain g.E.Engine.stands s.world s.list.items c.put_noted.new.list.items s.entries s.bytes s.limit s.opened
     (g.K.Keeper.failures s.keeper) (g.K.Keeper.failures c.put_noted.new.keeper) (g.K.Keeper.kept s.keeper)
     (g.K.Keeper.kept c.put_noted.new.keeper) _ c.in-Marked.before c.in-Marked.after c.as_slice.result.now
-    c.if-first.at c.self.invariant (marked_place g c)
+    c.if-first.at inv
+    (subst (IsAcceptedBehind g.E.Engine.plain es) (sym p.entry_is)
+    (accepted_entry g.E.Engine.plain c.served_outcomes.ensures es c.args.caller c.args.ask.now made p.texts
+    (subst (λ (t : Telling _). g.E.Engine.plain (entries_of t.list) c.args.ask.now made) (sym c.self.view_is)
+    c.requires.plain) refl))
+    (let size = ap (λ (x : Entry). length (journal_text (es ++ x ∷ []))) p.entry_is in
+    omega (arith, size, total, c.if-self-total.false)) (marked_place g c)
     (c.as_slice.ensures ∙ p.piece_is ∙ ap (λ (b : Bool). piece_of b (entry_of c.args.caller c.args.ask.now))
-    (first_of s.entries (entries_of s.list.items) c.self.invariant.entries_is)
-    ∙ ap (piece_of (is_first (entries_of s.list.items))) (sym p.entry_is))
+    (first_of s.entries es inv.entries_is) ∙ ap (piece_of (is_first es)) (sym p.entry_is))
     (subst (λ (l : List Noted). IsMarked c.in_ok-entry.field-0.entry c.in-Marked.before c.in-Marked.after c.if-first.at
     c.as_slice.result.now l c.put_noted.new.list.items (g.K.Keeper.kept s.keeper)
     (g.K.Keeper.kept c.put_noted.new.keeper) (g.K.Keeper.failures s.keeper)
@@ -182,7 +199,13 @@ returns-in-Marked-clause-kept g c =
     (put.list_is ∙ ap (λ (l : List Noted). l ++ noted.Mark c.in_ok-entry.field-0.entry c.in-Marked.before
     c.in-Marked.after ∷ []) (c.reserve.ensures.items ∙ ap (λ (t : Telling _). t.list) c.self.view_is))
 
--- ---- the count of faults, and what is torn
+-- ---- what is kept, the count of faults, and what is torn
+
+pub returns-in-Kept-clause-keeps : goal.returns-in-Kept-clause-keeps
+returns-in-Kept-clause-keeps g c = (kept_state g c).0.keeps
+
+pub returns-in-Marked-clause-keeps : goal.returns-in-Marked-clause-keeps
+returns-in-Marked-clause-keeps g c = (marked_state g c).keeps
 
 pub returns-in-Kept-clause-counted : goal.returns-in-Kept-clause-counted
 returns-in-Kept-clause-counted g c = (c.reply-reply.ensures.counted, (kept_state g c).0.failures_is)

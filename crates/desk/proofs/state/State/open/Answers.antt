@@ -1,9 +1,9 @@
-use Rattle.std.proofs.Common.{List, length, map, Err, sym, ap, subst, ◌∙◌}
+use Rattle.std.proofs.Common.{List, length, Err, sym, ap, subst, ◌∙◌}
 use Rattle.desk.specs.declared.entry.Entry.{Entry}
 use Rattle.desk.specs.declared.entry.Noted.{Noted}
 use Rattle.desk.specs.Points.{entries_of}
 use Rattle.desk.specs.Opening.{HasOpened}
-use Rattle.desk.proofs.Openings.{entries_alone, opened_keeps, opened_counts, empty_not_bad}
+use Rattle.desk.proofs.Openings.{entries_alone, opened_accepted, opened_keeps, opened_counts, empty_not_bad}
 use Rattle.desk.proofs.state.State.open.Goals as goal
 
 pub invariant_of-result : goal.invariant_of-result
@@ -13,6 +13,7 @@ invariant_of-result g c =
     let opened = subst (HasOpened g.E.Engine.plain c.args.limit kept) (sym parts.ensures.list) c.in-Ok.ensures.opened in
     record {
       world_is = parts.ensures.replayed.world_is;
+      accepted = opened_accepted g.E.Engine.plain c.args.limit kept list opened;
       entries_is = c.count-entries.ensures
           ∙ ap (λ (l : List Entry). length l)
           (sym (ap (λ (l : List Noted). entries_of l) parts.ensures.list ∙ entries_alone replay));

@@ -1,8 +1,0 @@
-use Rattle.std.proofs.Common.{◌∙◌, sym}
-use Rattle.std.proofs.lemmas.List.{append-nil}
-use Rattle.batch_engine.specs.Metadata.{locations_of}
-use Rattle.batch_engine.proofs.kinds.update_developer_metadata.locations_named.Goals as goal
-
-pub returns-in-None : goal.returns-in-None
-returns-in-None c =
-    rw c.in-None.is (c.in_ok-locations.ensures ∙ sym (append-nil (locations_of c.args.asked.now)))

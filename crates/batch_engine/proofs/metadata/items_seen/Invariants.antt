@@ -1,7 +1,0 @@
-use Rattle.std.proofs.Common.{◌≡◌, take}
-use Rattle.batch_engine.specs.Metadata.{items_seen}
-use Rattle.batch_engine.proofs.metadata.items_seen.Given as goal
-
--- so far the items with the ids before this one
-abbrev pub invariant-loop-id : goal.invariant-loop-id
-invariant-loop-id l = l.items.items ≡ items_seen l.fn.project (take l.id-index l.ids) l.fn.metadata

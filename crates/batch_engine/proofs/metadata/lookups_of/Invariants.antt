@@ -1,7 +1,0 @@
-use Rattle.std.proofs.Common.{◌≡◌, take}
-use Rattle.batch_engine.specs.Metadata.{lookups_of}
-use Rattle.batch_engine.proofs.metadata.lookups_of.Given as goal
-
--- so far what the look-ups before this one ask
-abbrev pub invariant-loop-one : goal.invariant-loop-one
-invariant-loop-one l = l.lookups.items ≡ lookups_of (take l.one-index l.asked)

@@ -1,0 +1,9 @@
+pub mod UntouchedLines
+pub mod UntouchedCells
+pub mod UntouchedWrites
+pub mod UntouchedKinds
+pub mod UntouchedRows
+pub mod UntouchedMerges
+pub mod UntouchedRange
+pub mod Untouched
+pub mod ProtectedParts
