@@ -42,6 +42,20 @@ fn are_counted(notes: &[Note], caller: u32, count: u64) -> bool {
 }
 
 #[test]
+fn two_callers_have_two_numbers(rt: HostRuntime) -> Result<(), Fail> {
+    let (lock, mut first) = open(rt.alloc(), Vec::new(rt.alloc()), 2)?;
+    let Ok(second) = lock.split(&rt, &mut first) else {
+        panic!(rt; "two callers have two numbers")
+    };
+    let further = lock.split(&rt, &mut first);
+    let number = second.number();
+    lock.meet(&mut first, second);
+    let book = lock.close(&rt, first);
+    assert!(rt; number == 1 && further.is_err() && book.length() == 0);
+    Ok(())
+}
+
+#[test]
 fn three_callers_have_three_numbers(rt: HostRuntime) -> Result<(), Fail> {
     let (lock, pass) = open(rt.alloc(), Vec::new(rt.alloc()), 3)?;
     let Ok((mut pass, first, second)) = two_more(&rt, &lock, pass, 5) else {
