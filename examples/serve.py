@@ -1,6 +1,6 @@
 #!/usr/bin/env python3
-"""Three requests by Python's standard library on one connection: a row is written behind the table in columns A to C,
-the table is read, and a sheet that isn't there is refused. Begin it with
+"""Four requests by Python's standard library on one connection: bo writes a row behind the table in columns A to C,
+reads the table, and protects its first row; ada, whom the protection denies that row, is refused. Begin it with
 
     ./sheets serve --port 8080 --limit 1
 
@@ -12,23 +12,25 @@ import json
 import sys
 
 BOOK = "/v4/spreadsheets/book1"
-USER = {"Authorization": "Bearer bo"}
+ROW = {"sheetId": 0, "startRowIndex": 0, "endRowIndex": 1}
 
 
-def ask(connection, method, target, value=None):
-    """The status and the value that a request is answered by."""
+def ask(connection, user, method, target, value=None):
+    """The status and the value that a user's request is answered by."""
     body = None if value is None else json.dumps(value)
-    connection.request(method, BOOK + target, body, USER)
+    connection.request(method, BOOK + target, body, {"Authorization": "Bearer " + user})
     response = connection.getresponse()
     return response.status, json.load(response)
 
 
 def main(port=8080):
     connection = http.client.HTTPConnection("127.0.0.1", port)
-    row = {"values": [["Cy", 3, 7]]}
-    print(*ask(connection, "POST", "/values/Sheet1!A:C:append?valueInputOption=RAW", row))
-    print(*ask(connection, "GET", "/values/Sheet1!A:C"))
-    print(*ask(connection, "GET", "/values/Nowhere!A1"))
+    values = {"values": [["Cy", 3, 7]]}
+    protect = {"requests": [{"addProtectedRange": {"protectedRange": {"range": ROW}}}]}
+    print(*ask(connection, "bo", "POST", "/values/Sheet1!A:C:append?valueInputOption=RAW", values))
+    print(*ask(connection, "bo", "GET", "/values/Sheet1!A:C"))
+    print(*ask(connection, "bo", "POST", ":batchUpdate", protect))
+    print(*ask(connection, "ada", "PUT", "/values/Sheet1!A1?valueInputOption=RAW", {"values": [["Ada"]]}))
     connection.close()
 
 
