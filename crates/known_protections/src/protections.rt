@@ -1001,8 +1001,8 @@ pub static MORE_PROTECTIONS: [Exchange; 13] = [
     ),
 ];
 
-/// More of these.
-pub static STILL_MORE_PROTECTIONS: [Exchange; 2] = [
+/// More of these, and writes to cells that no protected range denies their user.
+pub static STILL_MORE_PROTECTIONS: [Exchange; 6] = [
     (
         &[
             (
@@ -1036,6 +1036,104 @@ pub static STILL_MORE_PROTECTIONS: [Exchange; 2] = [
         FORBIDDEN,
         "",
         "{\"error\":{\"code\":403,\"message\":\"requests[0]: NotEditor\",\"status\":\"PERMISSION_DENIED\"}}",
+    ),
+    (
+        &[
+            (
+                "POST /v4/spreadsheets/book1:batchUpdate",
+                "Authorization: Bearer owner\r\nContent-Length: 169\r\n",
+                "{\"requests\":[{\"addProtectedRange\":{\"protectedRange\":{\"range\":{\"startRowIndex\":1,\"endRowIndex\":3,\"startColumnIndex\":1,\"endColumnIndex\":3},\"editors\":{\"users\":[\"ann\"]}}}}]}",
+            ),
+            (
+                "POST /v4/spreadsheets/book1:batchUpdate",
+                "Authorization: Bearer bob\r\nContent-Length: 93\r\n",
+                "{\"requests\":[{\"insertDimension\":{\"range\":{\"dimension\":\"ROWS\",\"startIndex\":1,\"endIndex\":2}}}]}",
+            ),
+            (
+                "PUT /v4/spreadsheets/book1/values/B2?valueInputOption=RAW",
+                "Authorization: Bearer bob\r\nContent-Length: 16\r\n",
+                "{\"values\":[[1]]}",
+            ),
+        ],
+        OK,
+        "",
+        "{\"spreadsheetId\":\"book1\",\"updatedCells\":1,\"updatedColumns\":1,\"updatedRange\":\"Sheet1!B2\",\"updatedRows\":1}",
+    ),
+    (
+        &[
+            (
+                "POST /v4/spreadsheets/book1:batchUpdate",
+                "Authorization: Bearer owner\r\nContent-Length: 169\r\n",
+                "{\"requests\":[{\"addProtectedRange\":{\"protectedRange\":{\"range\":{\"startRowIndex\":1,\"endRowIndex\":3,\"startColumnIndex\":1,\"endColumnIndex\":3},\"editors\":{\"users\":[\"ann\"]}}}}]}",
+            ),
+            (
+                "POST /v4/spreadsheets/book1:batchUpdate",
+                "Authorization: Bearer bob\r\nContent-Length: 93\r\n",
+                "{\"requests\":[{\"insertDimension\":{\"range\":{\"dimension\":\"ROWS\",\"startIndex\":1,\"endIndex\":2}}}]}",
+            ),
+            (
+                "PUT /v4/spreadsheets/book1/values/B2?valueInputOption=RAW",
+                "Authorization: Bearer bob\r\nContent-Length: 16\r\n",
+                "{\"values\":[[1]]}",
+            ),
+            (
+                "PUT /v4/spreadsheets/book1/values/B3?valueInputOption=RAW",
+                "Authorization: Bearer ann\r\nContent-Length: 16\r\n",
+                "{\"values\":[[1]]}",
+            ),
+        ],
+        OK,
+        "",
+        "{\"spreadsheetId\":\"book1\",\"updatedCells\":1,\"updatedColumns\":1,\"updatedRange\":\"Sheet1!B3\",\"updatedRows\":1}",
+    ),
+    (
+        &[
+            (
+                "POST /v4/spreadsheets/book1:batchUpdate",
+                "Authorization: Bearer owner\r\nContent-Length: 169\r\n",
+                "{\"requests\":[{\"addProtectedRange\":{\"protectedRange\":{\"range\":{\"startRowIndex\":1,\"endRowIndex\":3,\"startColumnIndex\":1,\"endColumnIndex\":3},\"editors\":{\"users\":[\"ann\"]}}}}]}",
+            ),
+            (
+                "POST /v4/spreadsheets/book1:batchUpdate",
+                "Authorization: Bearer bob\r\nContent-Length: 93\r\n",
+                "{\"requests\":[{\"insertDimension\":{\"range\":{\"dimension\":\"ROWS\",\"startIndex\":1,\"endIndex\":2}}}]}",
+            ),
+            (
+                "PUT /v4/spreadsheets/book1/values/B2?valueInputOption=RAW",
+                "Authorization: Bearer bob\r\nContent-Length: 16\r\n",
+                "{\"values\":[[1]]}",
+            ),
+            (
+                "PUT /v4/spreadsheets/book1/values/B3?valueInputOption=RAW",
+                "Authorization: Bearer ann\r\nContent-Length: 16\r\n",
+                "{\"values\":[[1]]}",
+            ),
+            (
+                "PUT /v4/spreadsheets/book1/values/B3?valueInputOption=RAW",
+                "Authorization: Bearer owner\r\nContent-Length: 16\r\n",
+                "{\"values\":[[1]]}",
+            ),
+        ],
+        OK,
+        "",
+        "{\"spreadsheetId\":\"book1\",\"updatedCells\":1,\"updatedColumns\":1,\"updatedRange\":\"Sheet1!B3\",\"updatedRows\":1}",
+    ),
+    (
+        &[
+            (
+                "POST /v4/spreadsheets/book1:batchUpdate",
+                "Authorization: Bearer owner\r\nContent-Length: 166\r\n",
+                "{\"requests\":[{\"addProtectedRange\":{\"protectedRange\":{\"range\":{},\"unprotectedRanges\":[{\"startRowIndex\":0,\"endRowIndex\":2,\"startColumnIndex\":0,\"endColumnIndex\":1}]}}}]}",
+            ),
+            (
+                "PUT /v4/spreadsheets/book1/values/A2?valueInputOption=RAW",
+                "Authorization: Bearer bob\r\nContent-Length: 16\r\n",
+                "{\"values\":[[1]]}",
+            ),
+        ],
+        OK,
+        "",
+        "{\"spreadsheetId\":\"book1\",\"updatedCells\":1,\"updatedColumns\":1,\"updatedRange\":\"Sheet1!A2\",\"updatedRows\":1}",
     ),
 ];
 

@@ -107,8 +107,8 @@ pub static VALUES: [Exchange; 6] = [
     ),
 ];
 
-/// Values that show nothing, cells of another sheet, several ranges, and a cell that is written to.
-pub static VALUES_OF_OTHERS: [Exchange; 5] = [
+/// Values that show nothing, cells of another sheet, several ranges, a cell that is written to, and a read by a filter.
+pub static VALUES_OF_OTHERS: [Exchange; 6] = [
     (
         &[
             (
@@ -196,5 +196,22 @@ pub static VALUES_OF_OTHERS: [Exchange; 5] = [
         OK,
         "",
         "{\"majorDimension\":\"ROWS\",\"range\":\"Sheet1!A1\",\"values\":[[\"41\"]]}",
+    ),
+    (
+        &[
+            (
+                "PUT /v4/spreadsheets/book1/values/A1:B1?valueInputOption=USER_ENTERED",
+                "Content-Length: 24\r\n",
+                "{\"values\":[[\"=B1+1\",2]]}",
+            ),
+            (
+                "POST /v4/spreadsheets/book1/values:batchGetByDataFilter",
+                "Content-Length: 37\r\n",
+                "{\"dataFilters\":[{\"a1Range\":\"A1:B1\"}]}",
+            ),
+        ],
+        OK,
+        "",
+        "{\"spreadsheetId\":\"book1\",\"valueRanges\":[{\"dataFilters\":[{\"a1Range\":\"A1:B1\"}],\"valueRange\":{\"majorDimension\":\"ROWS\",\"range\":\"Sheet1!A1:B1\",\"values\":[[\"3\",\"2\"]]}}]}",
     ),
 ];
