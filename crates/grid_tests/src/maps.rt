@@ -83,6 +83,17 @@ fn items_are_taken(rt: HostRuntime) {
         check(&rt, key, takes(&mut map, *key));
     }
     check(&rt, &"empty", is_empty(&map));
+    check(&rt, &"none", has_keys(&map, 0, u64::MAX, &[]));
+    check(&rt, &"again", puts(&mut map, 4_096));
+    check(&rt, &"one", has_keys(&map, 0, u64::MAX, &[4_096]));
+}
+
+/// Whether the key had no item, and has itself then.
+fn puts(map: &mut Option<SharedMap<u64>>, key: u64) -> bool {
+    match map {
+        Some(map) => is_put(map, key),
+        None => false,
+    }
 }
 
 /// Whether the key has itself as its item, which is taken.

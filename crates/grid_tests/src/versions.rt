@@ -5,7 +5,7 @@ use std::process::Abort;
 
 /// Writes to a map in turn: a key on the borders of parts or beside it, and what is put there; None
 /// where what it holds is taken.
-static WRITES: [(u64, Option<u64>); 14] = [
+static WRITES: [(u64, Option<u64>); 16] = [
     (63, Some(1)),
     (64, Some(2)),
     (63, Some(3)),
@@ -20,6 +20,8 @@ static WRITES: [(u64, Option<u64>); 14] = [
     (63, Some(9)),
     (4_294_967_295, Some(10)),
     (0, None),
+    (4_294_967_295, None),
+    (4_294_967_296, Some(11)),
 ];
 
 /// The keys that are looked up in each version, in order.

@@ -1,3 +1,4 @@
 pub mod Keys
 pub mod Maps
 pub mod Ordered
+pub mod Parts

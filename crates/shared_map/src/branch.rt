@@ -1,15 +1,17 @@
-ghost use Rattle.std.specs.Prelude.{◌≡◌, ◌+◌, ◌++◌, ◌<◌, ◌^◌, OnOk};
+ghost use Rattle.std.specs.Prelude.{◌≡◌, ℕ, ◌+◌, ◌++◌, ◌<◌, ◌^◌, length, None, IsTrue, IfOk, OnOk, OnErr};
 ghost use Rattle.std.specs.Option.{option_copied};
+ghost use Rattle.shared_map.specs.Finding.{FindsSame, Updates};
 ghost use Rattle.shared_map.specs.Found.{keys_found};
 ghost use Rattle.shared_map.specs.Places.{in_part, in_parts, place_at, positive};
 
 use crate::part::Part;
-use crate::places::reach;
+use crate::places::{reach, trim};
 use crate::shared::Shared;
 use cell_value::NoMemory;
 use std::alloc::Global;
 
-/// Parts of `SPAN` keys each. There are places up to the last part that was made.
+/// Parts of `SPAN` keys each. There are places up to the last part, or a few more where memory ran out
+/// within a call.
 #[derive(Drop)]
 pub struct Branch<C, const SPAN: u64> {
     alloc: Global,
@@ -53,6 +55,47 @@ impl<C: Part + Drop, const SPAN: u64> Branch<C, SPAN> {
             None => Ok(()),
         }
     }
+
+    /// [`Part::take`], which leaves the part.
+    fn take_out(&mut self, key: u64) -> Result<Option<C::Item>, NoMemory>
+        ensures item { IfOk result (λ item. item ≡ in_parts C.at (positive SPAN) self.old.parts.items key) }
+        ensures taken { OnOk result (Updates (in_parts C.at (positive SPAN) self.old.parts.items)
+            (in_parts C.at (positive SPAN) self.new.parts.items) key None) }
+        ensures unchanged { OnErr result (FindsSame (in_parts C.at (positive SPAN) self.old.parts.items)
+            (in_parts C.at (positive SPAN) self.new.parts.items)) }
+    {
+        let span = span::<SPAN>();
+        let index = key / span;
+        if index >= self.parts.len() as u64 {
+            return Ok(None);
+        }
+        match &mut self.parts[index as usize] {
+            Some(part) => part.take(key % span),
+            None => Ok(None),
+        }
+    }
+
+    /// Gives up the part at the index where it is empty, and the empty places behind the last part.
+    fn give_up(&mut self, index: u64)
+        ensures { FindsSame (in_parts C.at (positive SPAN) self.old.parts.items)
+            (in_parts C.at (positive SPAN) self.new.parts.items) }
+    {
+        if self.has_empty(index) {
+            self.parts[index as usize] = None;
+            trim(&mut self.parts);
+        }
+    }
+
+    /// Whether there is a part at the index, and it is empty.
+    fn has_empty(&self, index: u64) -> bool
+        ensures { IsTrue result → (index < length self.now.parts.items)
+            × ((key : ℕ) → in_part C.at (place_at self.now.parts.items index) key ≡ None) }
+    {
+        match self.part(index) {
+            Some(part) => part.is_empty(),
+            None => false,
+        }
+    }
 }
 
 impl<C: Part + Drop, const SPAN: u64> Part for Branch<C, SPAN> {
@@ -65,6 +108,10 @@ impl<C: Part + Drop, const SPAN: u64> Part for Branch<C, SPAN> {
             alloc,
             parts: Vec::new(alloc),
         }
+    }
+
+    fn is_empty(&self) -> bool {
+        self.parts.is_empty()
     }
 
     fn get(&self, key: u64) -> Option<&C::Item> {
@@ -104,15 +151,9 @@ impl<C: Part + Drop, const SPAN: u64> Part for Branch<C, SPAN> {
     }
 
     fn take(&mut self, key: u64) -> Result<Option<C::Item>, NoMemory> {
-        let span = span::<SPAN>();
-        let index = key / span;
-        if index >= self.parts.len() as u64 {
-            return Ok(None);
-        }
-        match &mut self.parts[index as usize] {
-            Some(part) => part.take(key % span),
-            None => Ok(None),
-        }
+        let item = self.take_out(key)?;
+        self.give_up(key / span::<SPAN>());
+        Ok(item)
     }
 
     fn copy(&self) -> Result<Branch<C, SPAN>, NoMemory> {

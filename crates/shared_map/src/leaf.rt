@@ -1,16 +1,32 @@
+ghost use Rattle.std.specs.Prelude.{◌≡◌, None, IfOk, OnOk, OnErr};
+ghost use Rattle.shared_map.specs.Finding.{FindsSame, Updates};
 ghost use Rattle.shared_map.specs.Places.{place_at};
 
 use crate::part::Part;
-use crate::places::reach;
+use crate::places::{reach, trim};
 use cell_value::{Duplicate, NoMemory};
 use std::alloc::Global;
 
 /// The items of a map's neighbouring keys, each at its place. There are places up to the last that
-/// was filled.
+/// is filled, or a few more where memory ran out within a call.
 #[derive(Drop)]
 pub struct Leaf<T> {
     alloc: Global,
     places: Vec<Option<T>>,
+}
+
+impl<T: Duplicate + Drop> Leaf<T> {
+    /// [`Part::take`], which leaves the places.
+    fn take_out(&mut self, key: u64) -> Result<Option<T>, NoMemory>
+        ensures item { IfOk result (λ item. item ≡ place_at self.old.places.items key) }
+        ensures taken { OnOk result (Updates (place_at self.old.places.items) (place_at self.new.places.items) key None) }
+        ensures unchanged { OnErr result (FindsSame (place_at self.old.places.items) (place_at self.new.places.items)) }
+    {
+        match self.places.get_mut(key as usize) {
+            Some(place) => Ok(place.take()),
+            None => Ok(None),
+        }
+    }
 }
 
 impl<T: Duplicate + Drop> Part for Leaf<T> {
@@ -23,6 +39,10 @@ impl<T: Duplicate + Drop> Part for Leaf<T> {
             alloc,
             places: Vec::new(alloc),
         }
+    }
+
+    fn is_empty(&self) -> bool {
+        self.places.is_empty()
     }
 
     fn get(&self, key: u64) -> Option<&T> {
@@ -47,10 +67,9 @@ impl<T: Duplicate + Drop> Part for Leaf<T> {
     }
 
     fn take(&mut self, key: u64) -> Result<Option<T>, NoMemory> {
-        match self.places.get_mut(key as usize) {
-            Some(place) => Ok(place.take()),
-            None => Ok(None),
-        }
+        let item = self.take_out(key)?;
+        trim(&mut self.places);
+        Ok(item)
     }
 
     fn copy(&self) -> Result<Leaf<T>, NoMemory> {

@@ -1,4 +1,4 @@
-ghost use Rattle.std.specs.Prelude.{◌≡◌, ℕ, ◌+◌, ◌++◌, ◌<◌, ◌^◌, Option, None, Some, IfOk, OnOk, OnErr, IfErr};
+ghost use Rattle.std.specs.Prelude.{◌≡◌, ℕ, ◌+◌, ◌++◌, ◌<◌, ◌^◌, Option, None, Some, IsTrue, IfOk, OnOk, OnErr, IfErr};
 ghost use Rattle.std.specs.Option.{option_copied, IsSome};
 ghost use Rattle.std.specs.Borrow.{sem, LendsSoOk};
 ghost use Rattle.shared_map.specs.Finding.{FindsSame, Updates};
@@ -18,6 +18,11 @@ pub trait Part {
     /// A part that holds nothing. It takes no memory.
     fn empty(alloc: Global) -> Self
         ensures { (key : ℕ) → at result key ≡ None };
+
+    /// Whether the part has no place, so that nothing is found in it. It may have places of which none
+    /// holds an item, where memory ran out within a call before.
+    fn is_empty(&self) -> bool
+        ensures { IsTrue result → (key : ℕ) → at self.now key ≡ None };
 
     /// The item at the key, lent.
     fn get(&self, key: u64) -> Option<&Self::Item>

@@ -1,4 +1,4 @@
-ghost use Rattle.std.specs.Prelude.{◌≡◌, ℕ, ◌+◌, ◌++◌, ◌<◌, ◌^◌, Option, None, Some, IfOk, OnOk, OnErr, IfErr};
+ghost use Rattle.std.specs.Prelude.{◌≡◌, ℕ, ◌+◌, ◌++◌, ◌<◌, ◌^◌, Option, None, Some, IsTrue, IfOk, OnOk, OnErr, IfErr};
 ghost use Rattle.std.specs.Option.{option_copied, IsSome};
 ghost use Rattle.std.specs.Borrow.{sem, LendsSoOk};
 ghost use Rattle.shared_map.specs.Finding.{FindsSame, Updates};
@@ -68,6 +68,13 @@ impl<C: Part + Drop> Shared<C> {
     {
         let shared = self.shared.clone()?;
         Ok(Shared { shared })
+    }
+
+    /// [`Part::is_empty`].
+    pub fn is_empty(&self) -> bool
+        ensures { IsTrue result → (key : ℕ) → C.at self.now key ≡ None }
+    {
+        self.shared.part.is_empty()
     }
 
     /// [`Part::get`].
