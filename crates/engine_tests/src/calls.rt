@@ -102,7 +102,7 @@ static READ: Row = Row {
 };
 
 #[test]
-fn what_one_pass_writes_the_other_reads(rt: HostRuntime) -> Result<(), Fail> {
+fn what_one_pass_writes_the_other_reads_once_they_met(rt: HostRuntime) -> Result<(), Fail> {
     let alloc = rt.alloc();
     let keeper = SteadyKeeper::new(Vec::new(alloc));
     let Ok((desk, mut first)) = Desk::<Sheets, SteadyKeeper>::open(alloc, keeper, 1000, 2) else {
@@ -113,10 +113,10 @@ fn what_one_pass_writes_the_other_reads(rt: HostRuntime) -> Result<(), Fail> {
     };
     let (first, written) = turn(&rt, alloc, &desk, first, &ONE);
     let (first, own) = turn(&rt, alloc, &desk, first, &READ);
-    let mut first = first;
+    let mut second = second;
+    desk.meet(&mut second, first);
     let (second, other) = turn(&rt, alloc, &desk, second, &READ);
-    desk.meet(&mut first, second);
-    let (history, _) = desk.close(&rt, first);
+    let (history, _) = desk.close(&rt, second);
     let Summary {
         accepted,
         cells,
