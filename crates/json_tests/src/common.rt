@@ -71,3 +71,15 @@ pub(crate) fn is_answer(alloc: Global, answer: &Answer, wanted: &str) -> bool {
         Err(_) => false,
     }
 }
+
+/// Ten letters.
+pub(crate) const TEN: &str = "aaaaaaaaaa";
+
+/// Ten times the text.
+pub(crate) fn ten_times(alloc: Global, text: &str) -> String {
+    let mut many = String::new(alloc);
+    for _ in 0..10 {
+        let _ = many.push_str(text);
+    }
+    many
+}

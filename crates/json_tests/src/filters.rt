@@ -133,3 +133,17 @@ fn filters_are_set(rt: HostRuntime) {
         check(&rt, row, holds);
     }
 }
+
+/// Requests to remove a filter that aren't taken: their kinds, their members, and why.
+static REFUSED: [(&str, &str, &str); 2] = [
+    ("clearBasicFilter", "{\"sheetId\":4,\"w\":1}", "Unsupported"),
+    ("clearBasicFilter", "{\"sheetId\":\"4\"}", "BadShape"),
+];
+
+#[test]
+fn other_filters_are_kept(rt: HostRuntime) {
+    for row in &REFUSED {
+        let holds = is_step(rt.alloc(), row.0, row.1, row.2);
+        check(&rt, row, holds);
+    }
+}

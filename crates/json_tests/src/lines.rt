@@ -63,3 +63,47 @@ fn lines_are_changed(rt: HostRuntime) {
         check(&rt, row, holds);
     }
 }
+
+/// Requests for rows and columns that aren't taken: their kinds, their members, and why.
+static REFUSED: [(&str, &str, &str); 8] = [
+    (
+        "insertDimension",
+        "{\"range\":{\"dimension\":\"ROWS\",\"endIndex\":1},\"w\":1}",
+        "Unsupported",
+    ),
+    (
+        "insertDimension",
+        "{\"range\":{\"dimension\":\"DIAGONAL\",\"endIndex\":1}}",
+        "BadShape",
+    ),
+    ("deleteDimension", "{}", "BadShape"),
+    ("deleteDimension", "{\"range\":[]}", "BadShape"),
+    (
+        "appendDimension",
+        "{\"dimension\":\"ROWS\",\"length\":1,\"w\":1}",
+        "Unsupported",
+    ),
+    (
+        "appendDimension",
+        "{\"dimension\":\"ROWS\",\"length\":\"1\"}",
+        "BadShape",
+    ),
+    (
+        "moveDimension",
+        "{\"source\":{\"dimension\":\"ROWS\"},\"destinationIndex\":4,\"w\":1}",
+        "Unsupported",
+    ),
+    (
+        "moveDimension",
+        "{\"source\":7,\"destinationIndex\":4}",
+        "BadShape",
+    ),
+];
+
+#[test]
+fn other_lines_are_refused(rt: HostRuntime) {
+    for row in &REFUSED {
+        let holds = is_step(rt.alloc(), row.0, row.1, row.2);
+        check(&rt, row, holds);
+    }
+}

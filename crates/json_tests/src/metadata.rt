@@ -1,5 +1,6 @@
-use crate::common::check;
+use crate::common::{TEN, check, joined, ten_times};
 use crate::steps::is_step;
+use std::alloc::Global;
 
 /// Requests for metadata: their kinds, their members, and what they are.
 static METADATA: [(&str, &str, &str); 22] = [
@@ -113,4 +114,72 @@ fn metadata_is_asked_for(rt: HostRuntime) {
         let holds = is_step(rt.alloc(), row.0, row.1, row.2);
         check(&rt, row, holds);
     }
+}
+
+/// Requests for metadata that aren't taken: their kinds, their members, and why.
+static REFUSED: [(&str, &str, &str); 4] = [
+    (
+        "createDeveloperMetadata",
+        "{\"developerMetadata\":{\"metadataKey\":7,\"location\":{\"sheetId\":2},\"visibility\":\"PROJECT\"}}",
+        "BadShape",
+    ),
+    (
+        "createDeveloperMetadata",
+        "{\"developerMetadata\":{\"metadataKey\":\"k\",\"location\":{\"sheetId\":2},\"visibility\":\"PROJECT\"},\"w\":1}",
+        "Unsupported",
+    ),
+    (
+        "updateDeveloperMetadata",
+        "{\"dataFilters\":[],\"developerMetadata\":{},\"fields\":\"*\",\"w\":1}",
+        "Unsupported",
+    ),
+    ("deleteDeveloperMetadata", "{\"dataFilter\":7}", "BadShape"),
+];
+
+#[test]
+fn other_metadata_is_refused(rt: HostRuntime) {
+    for row in &REFUSED {
+        let holds = is_step(rt.alloc(), row.0, row.1, row.2);
+        check(&rt, row, holds);
+    }
+}
+
+/// The members of a request for an item with this key.
+fn of_key(alloc: Global, key: &str) -> String {
+    joined(
+        alloc,
+        "{\"developerMetadata\":{\"metadataKey\":\"",
+        key,
+        "\",\"location\":{\"sheetId\":2},\"visibility\":\"PROJECT\"}}",
+    )
+}
+
+#[test]
+fn keys_have_a_thousand_bytes(rt: HostRuntime) {
+    let alloc = rt.alloc();
+    let hundred = ten_times(alloc, TEN);
+    let thousand = ten_times(alloc, hundred.as_str());
+    let members = of_key(alloc, thousand.as_str());
+    let wanted = joined(
+        alloc,
+        "CreateDeveloperMetadata { developer_metadata: NewMetadata { metadata_id: None, metadata_key: Text { text: \"",
+        thousand.as_str(),
+        "\" }, metadata_value: None, location: Sheet(2), visibility: Project } }",
+    );
+    let holds = is_step(
+        alloc,
+        "createDeveloperMetadata",
+        members.as_str(),
+        wanted.as_str(),
+    );
+    check(&rt, &"of a thousand", holds);
+    let longer = joined(alloc, "a", thousand.as_str(), "");
+    let members = of_key(alloc, longer.as_str());
+    let holds = is_step(
+        alloc,
+        "createDeveloperMetadata",
+        members.as_str(),
+        "BadShape",
+    );
+    check(&rt, &"of one more", holds);
 }

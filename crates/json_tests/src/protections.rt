@@ -103,3 +103,35 @@ fn ranges_are_protected(rt: HostRuntime) {
         check(&rt, row, holds);
     }
 }
+
+/// Requests for protected ranges that aren't taken: their kinds, their members, and why.
+static REFUSED: [(&str, &str, &str); 4] = [
+    (
+        "updateProtectedRange",
+        "{\"protectedRange\":{\"protectedRangeId\":\"3\"},\"fields\":\"*\"}",
+        "BadShape",
+    ),
+    (
+        "updateProtectedRange",
+        "{\"protectedRange\":{\"protectedRangeId\":3},\"fields\":\"*\",\"w\":1}",
+        "Unsupported",
+    ),
+    (
+        "deleteProtectedRange",
+        "{\"protectedRangeId\":3,\"w\":1}",
+        "Unsupported",
+    ),
+    (
+        "deleteProtectedRange",
+        "{\"protectedRangeId\":\"3\"}",
+        "BadShape",
+    ),
+];
+
+#[test]
+fn other_protections_are_refused(rt: HostRuntime) {
+    for row in &REFUSED {
+        let holds = is_step(rt.alloc(), row.0, row.1, row.2);
+        check(&rt, row, holds);
+    }
+}

@@ -1,6 +1,5 @@
-use crate::common::{check, joined};
+use crate::common::{TEN, check, joined, ten_times};
 use crate::steps::is_step;
-use std::alloc::Global;
 
 /// Requests for merged cells, and for new named ranges: their kinds, their members, and what they are.
 static NEW: [(&str, &str, &str); 25] = [
@@ -204,18 +203,6 @@ fn named_ranges_are_changed(rt: HostRuntime) {
     }
 }
 
-/// Ten letters.
-const TEN: &str = "aaaaaaaaaa";
-
-/// Ten times the text.
-fn ten_times(alloc: Global, text: &str) -> String {
-    let mut many = String::new(alloc);
-    for _ in 0..10 {
-        let _ = many.push_str(text);
-    }
-    many
-}
-
 #[test]
 fn ids_have_a_hundred_bytes(rt: HostRuntime) {
     let alloc = rt.alloc();
@@ -232,4 +219,11 @@ fn ids_have_a_hundred_bytes(rt: HostRuntime) {
     let members = joined(alloc, "{\"namedRangeId\":\"a", hundred.as_str(), "\"}");
     let holds = is_step(alloc, "deleteNamedRange", members.as_str(), "BadShape");
     check(&rt, &"of one more", holds);
+}
+
+#[test]
+fn a_number_is_no_name(rt: HostRuntime) {
+    let members = "{\"namedRange\":{\"namedRangeId\":\"nr1\",\"name\":7},\"fields\":\"name\"}";
+    let holds = is_step(rt.alloc(), "updateNamedRange", members, "BadShape");
+    check(&rt, &members, holds);
 }

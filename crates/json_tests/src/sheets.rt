@@ -157,3 +157,10 @@ fn sheets_are_changed(rt: HostRuntime) {
         check(&rt, row, holds);
     }
 }
+
+#[test]
+fn a_new_sheet_has_no_other_member(rt: HostRuntime) {
+    let members = "{\"x\":1}";
+    let holds = is_step(rt.alloc(), "addSheet", members, "Unsupported");
+    check(&rt, &members, holds);
+}
