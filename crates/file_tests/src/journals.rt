@@ -145,6 +145,16 @@ static COMMANDS: [Command; 13] = [
     ),
 ];
 
+/// Words that are no command.
+static NO_COMMANDS: [&[&str]; 6] = [
+    &["serve", "--port", "0", "--limit", "1"],
+    &["run", "--users"],
+    &["run", "--users", "-f"],
+    &["run", "--"],
+    &["workload", "01"],
+    &["replay"],
+];
+
 /// What a number of fixed calls comes to.
 static WORKLOADS: [Command; 3] = [
     (
@@ -329,6 +339,16 @@ static SERVED: [Served; 10] = [
 fn commands_with_files(rt: HostRuntime) {
     for row in &COMMANDS {
         check(&rt, &row.0, ends_so(&rt, row));
+    }
+}
+
+#[test]
+fn words_that_are_no_command(rt: HostRuntime) {
+    let alloc = rt.alloc();
+    for words in &NO_COMMANDS {
+        let mut folder = folder_of(alloc, Some(("-f", USERS)), "");
+        let ran = run(&rt, words, &mut folder, &mut no_doors(alloc), WRITES);
+        check(&rt, words, ran.is(2, b"", b"usage\n"));
     }
 }
 
