@@ -134,14 +134,19 @@ fn filters_are_set(rt: HostRuntime) {
     }
 }
 
-/// Requests to remove a filter that aren't taken: their kinds, their members, and why.
-static REFUSED: [(&str, &str, &str); 2] = [
+/// Requests for filters that aren't taken: their kinds, their members, and why.
+static REFUSED: [(&str, &str, &str); 3] = [
+    (
+        "setBasicFilter",
+        "{\"filter\":{\"range\":{}},\"w\":1}",
+        "Unsupported",
+    ),
     ("clearBasicFilter", "{\"sheetId\":4,\"w\":1}", "Unsupported"),
     ("clearBasicFilter", "{\"sheetId\":\"4\"}", "BadShape"),
 ];
 
 #[test]
-fn other_filters_are_kept(rt: HostRuntime) {
+fn other_filters_are_refused(rt: HostRuntime) {
     for row in &REFUSED {
         let holds = is_step(rt.alloc(), row.0, row.1, row.2);
         check(&rt, row, holds);

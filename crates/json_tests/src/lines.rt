@@ -65,7 +65,7 @@ fn lines_are_changed(rt: HostRuntime) {
 }
 
 /// Requests for rows and columns that aren't taken: their kinds, their members, and why.
-static REFUSED: [(&str, &str, &str); 8] = [
+static REFUSED: [(&str, &str, &str); 9] = [
     (
         "insertDimension",
         "{\"range\":{\"dimension\":\"ROWS\",\"endIndex\":1},\"w\":1}",
@@ -77,6 +77,11 @@ static REFUSED: [(&str, &str, &str); 8] = [
         "BadShape",
     ),
     ("deleteDimension", "{}", "BadShape"),
+    (
+        "deleteDimension",
+        "{\"range\":{\"dimension\":\"ROWS\"},\"w\":1}",
+        "Unsupported",
+    ),
     ("deleteDimension", "{\"range\":[]}", "BadShape"),
     (
         "appendDimension",

@@ -117,7 +117,7 @@ fn metadata_is_asked_for(rt: HostRuntime) {
 }
 
 /// Requests for metadata that aren't taken: their kinds, their members, and why.
-static REFUSED: [(&str, &str, &str); 4] = [
+static REFUSED: [(&str, &str, &str); 5] = [
     (
         "createDeveloperMetadata",
         "{\"developerMetadata\":{\"metadataKey\":7,\"location\":{\"sheetId\":2},\"visibility\":\"PROJECT\"}}",
@@ -134,6 +134,11 @@ static REFUSED: [(&str, &str, &str); 4] = [
         "Unsupported",
     ),
     ("deleteDeveloperMetadata", "{\"dataFilter\":7}", "BadShape"),
+    (
+        "deleteDeveloperMetadata",
+        "{\"dataFilter\":{\"developerMetadataLookup\":{}},\"w\":1}",
+        "Unsupported",
+    ),
 ];
 
 #[test]

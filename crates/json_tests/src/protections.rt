@@ -105,7 +105,12 @@ fn ranges_are_protected(rt: HostRuntime) {
 }
 
 /// Requests for protected ranges that aren't taken: their kinds, their members, and why.
-static REFUSED: [(&str, &str, &str); 4] = [
+static REFUSED: [(&str, &str, &str); 5] = [
+    (
+        "addProtectedRange",
+        "{\"protectedRange\":{\"range\":{}},\"w\":1}",
+        "Unsupported",
+    ),
     (
         "updateProtectedRange",
         "{\"protectedRange\":{\"protectedRangeId\":\"3\"},\"fields\":\"*\"}",

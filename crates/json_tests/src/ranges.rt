@@ -221,9 +221,29 @@ fn ids_have_a_hundred_bytes(rt: HostRuntime) {
     check(&rt, &"of one more", holds);
 }
 
+/// Requests for merged cells and named ranges that aren't taken: their kinds, their members, and why.
+static REFUSED: [(&str, &str, &str); 3] = [
+    (
+        "mergeCells",
+        "{\"range\":{},\"mergeType\":\"MERGE_ALL\",\"w\":1}",
+        "Unsupported",
+    ),
+    (
+        "addNamedRange",
+        "{\"namedRange\":{\"name\":\"x\",\"range\":{}},\"w\":1}",
+        "Unsupported",
+    ),
+    (
+        "updateNamedRange",
+        "{\"namedRange\":{\"namedRangeId\":\"nr1\",\"name\":7},\"fields\":\"name\"}",
+        "BadShape",
+    ),
+];
+
 #[test]
-fn a_number_is_no_name(rt: HostRuntime) {
-    let members = "{\"namedRange\":{\"namedRangeId\":\"nr1\",\"name\":7},\"fields\":\"name\"}";
-    let holds = is_step(rt.alloc(), "updateNamedRange", members, "BadShape");
-    check(&rt, &members, holds);
+fn other_names_and_merges_are_refused(rt: HostRuntime) {
+    for row in &REFUSED {
+        let holds = is_step(rt.alloc(), row.0, row.1, row.2);
+        check(&rt, row, holds);
+    }
 }
