@@ -37,9 +37,9 @@ def put(area, values, sheet="Sheet1", option="RAW", user=OWNER):
     return sent("PUT", target, {"values": values}, user)
 
 
-def batch(*requests):
+def batch(*requests, user=OWNER):
     """A batch of requests."""
-    return sent("POST", f"{BOOK}:batchUpdate", {"requests": requests})
+    return sent("POST", f"{BOOK}:batchUpdate", {"requests": requests}, user)
 
 
 def numbers(rows, columns=COLUMNS):

@@ -27,4 +27,4 @@ pub use reading::read_a1;
 pub use row::{NUMBERED_ROWS, read_row};
 pub use title::quote_name;
 pub use word::split_word;
-pub use writing::{is_one_line, write_a1};
+pub use writing::write_a1;

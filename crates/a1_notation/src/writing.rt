@@ -42,7 +42,7 @@ pub fn write_a1(
 }
 
 /// Whether a stretch of lines, from the first to the one before the end, has one line.
-pub fn is_one_line(lines: (u32, u32)) -> bool
+fn is_one_line(lines: (u32, u32)) -> bool
     ensures { result ≡ is_one_line lines }
 {
     lines.0 as u64 + 1 == lines.1 as u64

@@ -18,6 +18,7 @@ use Rattle.grid_range.specs.declared.area.Area.{Area}
 use Rattle.grid_range.specs.declared.axis.Axis.{Axis}
 use Rattle.grid_range.specs.declared.axis.Axis.TheVariants.{Rows, Columns}
 use Rattle.grid_range.specs.declared.band.Band.TheVariants.{Span}
+use Rattle.world_model.specs.declared.limits.TheConstants.{MOST_COLUMNS, MOST_ROWS}
 use Rattle.world_model.specs.Book.{PlaceBook}
 use Rattle.world_model.specs.Sheet.{PlaceSheet}
 use Rattle.world_model.specs.Sound.{IsItemWithin, IsSheetSound, IsSound, IsSpotWithin, place_sheet_with}
@@ -44,16 +45,16 @@ use Rattle.batch_engine.proofs.Judging.{SoFar, all_told, broken_told, one_more}
 -- ---- where items lie
 
 few_on : (sheets : List PlaceSheet) (axis : Axis) (line : ℕ) (sheet : PlaceSheet) → IsSheetSound sheets sheet
-    → line < lines_on axis sheet.table.rows sheet.table.cols → line < 1000000
+    → line < lines_on axis sheet.table.rows sheet.table.cols → line < MOST_ROWS
 few_on sheets Rows line sheet sound below =
-    let most : sheet.table.rows ≤ 1000000 = sound.rows.1 in omega (arith, most, below)
+    let most : sheet.table.rows ≤ MOST_ROWS = sound.rows.1 in omega (arith, most, below)
 few_on sheets Columns line sheet sound below =
-    let most : sheet.table.cols ≤ 18278 = sound.cols.1 in omega (arith, most, below)
+    let most : sheet.table.cols ≤ MOST_COLUMNS = sound.cols.1 in omega (arith, most, below)
 
 -- a line that is there is one of few
 pub few_lines : (book : PlaceBook) → IsSound book → (id : ℕ) (axis : Axis) (line : ℕ)
     → IsSomeAnd (place_sheet_with id book.sheets) (λ sheet. line < lines_on axis sheet.table.rows sheet.table.cols)
-    → line < 1000000
+    → line < MOST_ROWS
 few_lines book sound id axis line there =
     let (sheet, is, below) =
     some_and (λ (sheet : PlaceSheet). line < lines_on axis sheet.table.rows sheet.table.cols)

@@ -12,6 +12,7 @@ use Rattle.cell_value.specs.declared.cell.Value.{Value}
 use Rattle.grid_range.specs.Band.{Within, end_line, first_line}
 use Rattle.grid_range.specs.declared.band.Band.{Band}
 use Rattle.grid_range.specs.declared.band.Band.TheVariants.{Whole, From, Span}
+use Rattle.world_model.specs.declared.limits.TheConstants.{MOST_ROWS}
 use Rattle.world_model.specs.Book.{PlaceBook}
 use Rattle.world_model.specs.Sheet.{PlaceSheet}
 use Rattle.world_model.specs.Sound.{IsFilterOf, IsSheetSound, IsSound}
@@ -120,7 +121,7 @@ hidden_more rows row other long = by_place (other == row) refl
         (λ same. false≢true (sym is ∙ eq-eqb other row (sym same ∙ long)))
 
 -- nothing is told of a row behind the last
-behind_last : (rows : List DimensionProperties) (row : ℕ) → length rows ≤ row → is_told_hidden rows row ≡ false
+pub behind_last : (rows : List DimensionProperties) (row : ℕ) → length rows ≤ row → is_told_hidden rows row ≡ false
 behind_last [] row past = refl
 behind_last (first ∷ rows) zero past = absurd (let no : ⊥ = omega (arith, past) in no)
 behind_last (first ∷ rows) (suc row) past = behind_last rows row (omega (arith, past))
@@ -241,13 +242,13 @@ none_told book sheet = record {
 
 -- the rows of the range are few, and so are the columns of the criteria
 pub first_few : (sheets : List PlaceSheet) (sheet : PlaceSheet) (filter : Filter) → IsSheetSound sheets sheet
-    → IsFilterOf sheet filter → first_line filter.area.rows < 1000000
+    → IsFilterOf sheet filter → first_line filter.area.rows < MOST_ROWS
 first_few sheets sheet filter sound of =
     let there = first_there filter.area.rows sheet.table.rows of.within.0 sound.rows.0 in
     omega (arith, there, sound.rows.1)
 
 pub end_few : (sheets : List PlaceSheet) (sheet : PlaceSheet) (filter : Filter) → IsSheetSound sheets sheet
-    → IsFilterOf sheet filter → end_line filter.area.rows sheet.table.rows ≤ 1000000
+    → IsFilterOf sheet filter → end_line filter.area.rows sheet.table.rows ≤ MOST_ROWS
 end_few sheets sheet filter sound of =
     let there = end_there filter.area.rows sheet.table.rows of.within.0 in
     omega (arith, there, sound.rows.1)

@@ -10,7 +10,7 @@ use Rattle.world_model.specs.Sound.{IsSound}
 use Rattle.dimension_ops.specs.Rules.{IsUnlessNoMemory}
 use Rattle.dimension_ops.specs.declared.rule.RuleOr.{RuleOr}
 use Rattle.request_kinds.specs.Telling.{IsDoneTo}
-use Rattle.batch_engine.specs.Members.{AreDone, InTurn, ThenOn, Told, with_first}
+use Rattle.batch_engine.specs.Members.{AreDone, InTurn, ThenOn, ToldOfAll, with_first}
 use Rattle.batch_engine.specs.Calls.{as_told}
 use Rattle.batch_engine.proofs.Judged.{judged_so}
 use Rattle.batch_engine.proofs.Judging.{with_all, with_all_err, with_all_more, with_all_ok}
@@ -22,7 +22,7 @@ pub record DoneTo {M A : Type 0} (Is : PlaceBook → M → Result (A × List Boo
     (before : PlaceBook) (at : ℕ) (done : List A) (now : PlaceBook) : Type 0 where
   pub changes : List BookChange
   pub changed : AreChanges changes before now
-  pub on : (rest : Told A) (others : List BookChange) → InTurn Is at (drop at members) now rest others
+  pub on : (rest : ToldOfAll A) (others : List BookChange) → InTurn Is at (drop at members) now rest others
       → InTurn Is 0 members before (with_all done rest) (changes ++ others)
 
 module _ (turns : ChangesInTurn) {M A : Type 0} (Is : PlaceBook → M → Result (A × List BookChange) Rule → Type 0)
@@ -47,7 +47,7 @@ module _ (turns : ChangesInTurn) {M A : Type 0} (Is : PlaceBook → M → Result
           (Ok (last, made), holds, (next, rest, others, are, is, refl, refl)))));
     }
 
-    up_to_here : (told : Told A) → InTurn Is at (drop at members) now told []
+    up_to_here : (told : ToldOfAll A) → InTurn Is at (drop at members) now told []
         → InTurn Is 0 members before (with_all done told) so_far.changes
     up_to_here told is =
         subst (InTurn Is 0 members before (with_all done told)) (append-nil so_far.changes) (so_far.on told [] is)
@@ -76,10 +76,10 @@ module _ (turns : ChangesInTurn) {M A : Type 0} (Is : PlaceBook → M → Result
 module _ (apart : ChangesApart) (turns : ChangesInTurn) {M A : Type 0} (Is : PlaceBook → M → Result (A × List BookChange) Rule → Type 0)
     (once : (book : PlaceBook) → IsSound book → (member : M) (one other : Result (A × List BookChange) Rule)
     → Is book member one → Is book member other → one ≡ other) where
-  then_once : (IsRest : PlaceBook → Told A → List BookChange → Type 0)
-      (rest_once : (book : PlaceBook) → IsSound book → (told told' : Told A) (changes changes' : List BookChange)
+  then_once : (IsRest : PlaceBook → ToldOfAll A → List BookChange → Type 0)
+      (rest_once : (book : PlaceBook) → IsSound book → (told told' : ToldOfAll A) (changes changes' : List BookChange)
       → IsRest book told changes → IsRest book told' changes' → (told ≡ told') × (changes ≡ changes'))
-      → (at : ℕ) (one : Result (A × List BookChange) Rule) (before : PlaceBook) → IsSound before → (told told' : Told A)
+      → (at : ℕ) (one : Result (A × List BookChange) Rule) (before : PlaceBook) → IsSound before → (told told' : ToldOfAll A)
       (changes changes' : List BookChange) → ThenOn at one IsRest before told changes
       → ThenOn at one IsRest before told' changes' → (told ≡ told') × (changes ≡ changes')
   then_once IsRest rest_once at (Ok (first, made)) before sound told told' changes changes'
@@ -93,7 +93,7 @@ module _ (apart : ChangesApart) (turns : ChangesInTurn) {M A : Type 0} (Is : Pla
   then_once IsRest rest_once at (Err broken) before sound told told' changes changes' is is' =
       (is.0 ∙ sym is'.0, is.1 ∙ sym is'.1)
 
-  pub in_turn_once : (at : ℕ) (members : List M) (before : PlaceBook) → IsSound before → (told told' : Told A)
+  pub in_turn_once : (at : ℕ) (members : List M) (before : PlaceBook) → IsSound before → (told told' : ToldOfAll A)
       (changes changes' : List BookChange) → InTurn Is at members before told changes
       → InTurn Is at members before told' changes' → (told ≡ told') × (changes ≡ changes')
   in_turn_once at [] before sound told told' changes changes' is is' = (is.0 ∙ sym is'.0, is.1 ∙ sym is'.1)

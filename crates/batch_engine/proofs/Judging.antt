@@ -11,16 +11,16 @@ use Rattle.sheets_json.specs.declared.answer.ShownRange.{ShownRange}
 use Rattle.world_model.specs.Book.{PlaceBook}
 use Rattle.batch_engine.specs.Calls.{as_told}
 use Rattle.batch_engine.specs.Values.{IsShown}
-use Rattle.batch_engine.specs.Members.{InOrder, Told, with_first}
+use Rattle.batch_engine.specs.Members.{InOrder, ToldOfAll, with_first}
 use Rattle.batch_engine.proofs.Judged.{judged_so}
 
 module _ {A : Type 0} where
   -- what is told of members before others
-  abbrev pub with_all : List A → Told A → Told A
+  abbrev pub with_all : List A → ToldOfAll A → ToldOfAll A
   with_all [] rest = rest
   with_all (first ∷ later) rest = with_first first (with_all later rest)
 
-  pub with_all_more : (all : List A) (last : A) (rest : Told A)
+  pub with_all_more : (all : List A) (last : A) (rest : ToldOfAll A)
       → with_all (all ++ last ∷ []) rest ≡ with_all all (with_first last rest)
   with_all_more [] last rest = refl
   with_all_more (first ∷ later) last rest = ap (with_first first) (with_all_more later last rest)
@@ -36,7 +36,7 @@ module _ {A : Type 0} where
 module _ {M A : Type 0} (Is : M → Result A Rule → Type 0) (members : List M) where
   -- the members before a place are answered so: what is told of the others is told behind that
   abbrev pub SoFar : ℕ → List A → Type 0
-  SoFar at all = (rest : Told A) → InOrder Is at (drop at members) rest → InOrder Is 0 members (with_all all rest)
+  SoFar at all = (rest : ToldOfAll A) → InOrder Is at (drop at members) rest → InOrder Is 0 members (with_all all rest)
 
   module _ (at : ℕ) (all : List A) (so_far : SoFar at all) where
     pub one_more : (d : M) (last : A) → at < length members → Is (get_or members at d) (Ok last)

@@ -16,3 +16,4 @@ pub mod Searching
 pub mod Filtering
 pub mod RangesKept
 pub mod Protected
+pub mod Answering

@@ -56,7 +56,7 @@ use Rattle.batch_engine.specs.Calls.{AreMade, IsAppendOf, IsBatchOf, IsLookOf, I
 use Rattle.batch_engine.specs.Calls.{IsReadFilteredOf, IsReadOf, IsSearchOf, IsItemOf, IsSeen, IsWriteManyOf, IsWriteOf, OnBook, Refusal, alone, answered_at}
 use Rattle.batch_engine.specs.Calls.{answered_by, effect_of, effect_on, told_of, written_answer, IsRequested}
 use Rattle.batch_engine.specs.Filtered.{AreShownBy, Showing}
-use Rattle.batch_engine.specs.Members.{InOrder, Then, Told, with_first}
+use Rattle.batch_engine.specs.Members.{InOrder, Then, ToldOfAll, with_first}
 use Rattle.batch_engine.specs.Searches.{asked_or_broken, item_told, search_answer}
 use Rattle.batch_engine.specs.Laws.{IsOnce}
 use Rattle.batch_engine.proofs.Created.{create_once}
@@ -220,14 +220,14 @@ module _ (appends : AppendsOnce) (apart : ChangesApart) (user : List ℕ) (book 
 
 module _ {M A : Type 0} (Is : M → Result A Rule → Type 0)
     (once : (member : M) (one other : Result A Rule) → Is member one → Is member other → one ≡ other) where
-  then_once : (IsRest : Told A → Type 0) (rest_once : (one other : Told A) → IsRest one → IsRest other → one ≡ other)
-      → (at : ℕ) (first : Result A Rule) (told told' : Told A) → Then at first IsRest told → Then at first IsRest told'
+  then_once : (IsRest : ToldOfAll A → Type 0) (rest_once : (one other : ToldOfAll A) → IsRest one → IsRest other → one ≡ other)
+      → (at : ℕ) (first : Result A Rule) (told told' : ToldOfAll A) → Then at first IsRest told → Then at first IsRest told'
       → told ≡ told'
   then_once IsRest rest_once at (Ok first) told told' (rest, is, told_is) (rest', is', told_is') =
       told_is ∙ ap (with_first first) (rest_once rest rest' is is') ∙ sym told_is'
   then_once IsRest rest_once at (Err broken) told told' is is' = is ∙ sym is'
 
-  pub in_order_once : (at : ℕ) (members : List M) (told told' : Told A) → InOrder Is at members told
+  pub in_order_once : (at : ℕ) (members : List M) (told told' : ToldOfAll A) → InOrder Is at members told
       → InOrder Is at members told' → told ≡ told'
   in_order_once at [] told told' is is' = is ∙ sym is'
   in_order_once at (member ∷ members) told told' (one, holds, then) (other, holds', then') =
@@ -268,13 +268,13 @@ module _ {A : Type 0} where
 
 module _ (project : List ℕ) (filters : List (Reading MetadataLookup)) (book : PlaceBook) where
   -- the ids are those that are found
-  abbrev AreFound : List ℕ → Told MetadataLookup → Type 0
+  abbrev AreFound : List ℕ → ToldOfAll MetadataLookup → Type 0
   AreFound ids asked = IfOk asked (λ all. AreIdsInOrder (found_by_some (lookups_of all) project book.metadata) ids)
 
-  abbrev found_told : List ℕ → Told MetadataLookup → Result Answer Refusal
+  abbrev found_told : List ℕ → ToldOfAll MetadataLookup → Result Answer Refusal
   found_told ids asked = answered_at place.Filters (search_answer project ids book) asked
 
-  told_once : (asked : Told MetadataLookup) (ids ids' : List ℕ) → AreFound ids asked → AreFound ids' asked
+  told_once : (asked : ToldOfAll MetadataLookup) (ids ids' : List ℕ) → AreFound ids asked → AreFound ids' asked
       → found_told ids asked ≡ found_told ids' asked
   told_once (Ok all) ids ids' is is' =
       ap (λ ids. found_told ids (Ok all))
@@ -296,7 +296,7 @@ first_sound : (b : Bool) (book : PlaceBook) (rest : Option PlaceBook) → IsSoun
 first_sound true book rest sound behind = sound
 first_sound false book rest sound behind = behind
 
-found_sound : (id : List ℕ) (books : List PlaceBook) → All IsSound books → IfSome (book_with id books) IsSound
+pub found_sound : (id : List ℕ) (books : List PlaceBook) → All IsSound books → IfSome (book_with id books) IsSound
 found_sound id [] all = tt
 found_sound id (b ∷ bs) all =
     first_sound (bytes_eq b.id id) b (book_with id bs) (all 0 b (omega arith))

@@ -41,7 +41,7 @@ use Rattle.kept_cells.specs.Staying.{LeavesProtectedInParts}
 use Rattle.batch_engine.specs.Calls.{AreMade, IsAlone, IsAnswered, IsMade, OnBook, Refusal, effect_of, effect_on, written_answer, IsRequested}
 use Rattle.batch_engine.specs.Create.{IsCreateOf, unless_broken}
 use Rattle.batch_engine.specs.Effects.Effect.{Changes, Makes, Nothing}
-use Rattle.batch_engine.specs.Members.{InTurn, ThenOn, Told}
+use Rattle.batch_engine.specs.Members.{InTurn, ThenOn, ToldOfAll}
 use Rattle.batch_engine.specs.Values.{Appended, IsAppendOn, IsAppended, IsClear, IsCleared, IsUpdate, IsUpdated, IsWritten, OnRange, Wrote, appended_of, clear, done, inserts, refused, rule_of, update_of}
 use Rattle.batch_engine.specs.declared.calls.Caller.{Caller}
 
@@ -50,10 +50,10 @@ use Rattle.batch_engine.specs.declared.calls.Caller.{Caller}
 module _ (law : ProtectedCellsKeep) (user : List ℕ) {M A : Type 0} (Is : PlaceBook → M → Result (A × List BookChange) Rule → Type 0)
     (each : (book : PlaceBook) (member : M) (one : A) (changes : List BookChange) → Is book member (Ok (one, changes))
     → LeavesProtectedInParts user book changes) where
-  then_parts : (IsRest : PlaceBook → Told A → List BookChange → Type 0)
-      → ((book : PlaceBook) (told : Told A) (changes : List BookChange) → IsRest book told changes
+  then_parts : (IsRest : PlaceBook → ToldOfAll A → List BookChange → Type 0)
+      → ((book : PlaceBook) (told : ToldOfAll A) (changes : List BookChange) → IsRest book told changes
       → LeavesProtectedInParts user book changes)
-      → (at : ℕ) (member : M) (one : Result (A × List BookChange) Rule) (before : PlaceBook) (told : Told A)
+      → (at : ℕ) (member : M) (one : Result (A × List BookChange) Rule) (before : PlaceBook) (told : ToldOfAll A)
       (changes : List BookChange) → Is before member one → ThenOn at one IsRest before told changes
       → LeavesProtectedInParts user before changes
   then_parts IsRest rest_parts at member (Ok (first, made)) before told changes is
@@ -64,7 +64,7 @@ module _ (law : ProtectedCellsKeep) (user : List ℕ) {M A : Type 0} (Is : Place
   then_parts IsRest rest_parts at member (Err broken) before told changes is (told_is, changes_are) =
       subst (LeavesProtectedInParts user before) (sym changes_are) (law.nothing user before)
 
-  pub turn_parts : (at : ℕ) (members : List M) (before : PlaceBook) (told : Told A) (changes : List BookChange)
+  pub turn_parts : (at : ℕ) (members : List M) (before : PlaceBook) (told : ToldOfAll A) (changes : List BookChange)
       → InTurn Is at members before told changes → LeavesProtectedInParts user before changes
   turn_parts at [] before told changes (told_is, changes_are) =
       subst (LeavesProtectedInParts user before) (sym changes_are) (law.nothing user before)
@@ -203,7 +203,7 @@ module _ (law : ProtectedCellsKeep) (user : List ℕ) where
         let is = alone.answered in
         made_so book is.one (λ made own same. each made own (subst Is (sym same) is.is)) is.effect_is
 
-    all_so : {A : Type 0} (book : PlaceBook) (all : Told A) (made : List BookChange) → InParts book made
+    all_so : {A : Type 0} (book : PlaceBook) (all : ToldOfAll A) (made : List BookChange) → InParts book made
         → Changes id changes ≡ effect_of book all made → MakesParts id changes book
     all_so book (Ok all) made parts is =
         let same = same_effect id book.id changes made is in

@@ -33,7 +33,7 @@ use Rattle.request_kinds.specs.FoundLaws.{found_holds, found_passes}
 use Rattle.request_kinds.specs.ItemLaws.{IsSeenIn, seen_again}
 use Rattle.batch_engine.specs.Calls.{IsSearchOf, Refusal}
 use Rattle.batch_engine.specs.Effects.Effect.{Nothing}
-use Rattle.batch_engine.specs.Members.{InOrder, Then, Told, with_first}
+use Rattle.batch_engine.specs.Members.{InOrder, Then, ToldOfAll, with_first}
 use Rattle.batch_engine.specs.Searches.{AreMatched, IsSearchDone, IsSearched, asked_of, asked_or_broken, filters_met, matched, with_filters}
 use Rattle.batch_engine.specs.Values.{unless_empty}
 use Rattle.batch_engine.specs.declared.searches.Searched.{Searched}
@@ -66,7 +66,7 @@ module _ (project : List ℕ) (book : PlaceBook) where
   one_asked (Ok one) = Ok one.asked
   one_asked (Err broken) = Err broken
 
-  abbrev pub all_asked : Told Searched → Told MetadataLookup
+  abbrev pub all_asked : ToldOfAll Searched → ToldOfAll MetadataLookup
   all_asked (Ok all) = Ok (asked_of all)
   all_asked (Err broken) = Err broken
 
@@ -75,26 +75,26 @@ module _ (project : List ℕ) (book : PlaceBook) where
   is_asked given (Ok one) is = sym is.0
   is_asked given (Err broken) is = sym is
 
-  first_asked : (first : Searched) (rest : Told Searched)
+  first_asked : (first : Searched) (rest : ToldOfAll Searched)
       → all_asked (with_first first rest) ≡ with_first first.asked (all_asked rest)
   first_asked first (Ok all) = refl
   first_asked first (Err broken) = refl
 
-  abbrev Done : Told Searched → Type 0
+  abbrev Done : ToldOfAll Searched → Type 0
   Done told = IfOk told (All (IsSearchDone project book.metadata))
 
-  first_done : (first : Searched) (rest : Told Searched) → IsSearchDone project book.metadata first → Done rest
+  first_done : (first : Searched) (rest : ToldOfAll Searched) → IsSearchDone project book.metadata first → Done rest
       → Done (with_first first rest)
   first_done first (Ok all) is done = All-cons (IsSearchDone project book.metadata) first all is done
   first_done first (Err broken) is done = tt
 
   -- what is known of filters from a place on
-  abbrev Known : ℕ → List (Reading MetadataLookup) → Told Searched → Type 0
+  abbrev Known : ℕ → List (Reading MetadataLookup) → ToldOfAll Searched → Type 0
   Known at filters told = InOrder Asked at filters (all_asked told) × Done told
 
   then_known : (at : ℕ) (given : Reading MetadataLookup) (filters : List (Reading MetadataLookup)) (one : Result Searched Rule)
-      (told : Told Searched)
-      → ((rest : Told Searched) → InOrder (IsSearched project book) (at + 1) filters rest → Known (at + 1) filters rest)
+      (told : ToldOfAll Searched)
+      → ((rest : ToldOfAll Searched) → InOrder (IsSearched project book) (at + 1) filters rest → Known (at + 1) filters rest)
       → IsSearched project book given one
       → Then at one (InOrder (IsSearched project book) (at + 1) filters) told → Known at (given ∷ filters) told
   then_known at given filters (Ok first) told known is (rest, others, told_is) =
@@ -107,7 +107,7 @@ module _ (project : List ℕ) (book : PlaceBook) where
     subst Done (sym told_is) tt,
   )
 
-  pub all_known : (at : ℕ) (filters : List (Reading MetadataLookup)) (told : Told Searched)
+  pub all_known : (at : ℕ) (filters : List (Reading MetadataLookup)) (told : ToldOfAll Searched)
       → InOrder (IsSearched project book) at filters told → Known at filters told
   all_known at [] told is = (ap all_asked is, subst Done (sym is) (All-nil (IsSearchDone project book.metadata)))
   all_known at (given ∷ filters) told (one, is, then) =
@@ -249,15 +249,15 @@ id_found ids id (Err i) (bound, below, above) =
 
 -- ---- what a search is told
 
-module _ (project : List ℕ) (book : PlaceBook) (filters : List (Reading MetadataLookup)) (told : Told Searched)
+module _ (project : List ℕ) (book : PlaceBook) (filters : List (Reading MetadataLookup)) (told : ToldOfAll Searched)
     (in_order : InOrder (IsSearched project book) 0 filters told) where
   abbrev as_search : Option (List MatchedMetadata) → Result Answer Refusal
   as_search all = Ok (answer.Search all)
 
-  abbrev AreAsked : Told Searched → Type 0
+  abbrev AreAsked : ToldOfAll Searched → Type 0
   AreAsked told = InOrder (Asked project book) 0 filters (all_asked project book told)
 
-  are_asked : (other : Told Searched) → told ≡ other → AreAsked other
+  are_asked : (other : ToldOfAll Searched) → told ≡ other → AreAsked other
   are_asked other is = subst AreAsked is (all_known project book 0 filters told in_order).0
 
   pub all_done : (searched : List Searched) → told ≡ Ok searched → All (IsSearchDone project book.metadata) searched

@@ -41,7 +41,7 @@ use Rattle.batch_engine.specs.Effects.{Effect, IsNext}
 use Rattle.batch_engine.specs.Effects.Effect.{Nothing, Changes}
 use Rattle.batch_engine.specs.Filtered.{AreShownBy, Showing}
 use Rattle.batch_engine.specs.Looks.{IsSpreadsheetShown}
-use Rattle.batch_engine.specs.Members.{InOrder, InTurn, Told}
+use Rattle.batch_engine.specs.Members.{InOrder, InTurn, ToldOfAll}
 use Rattle.batch_engine.specs.Searches.{AreSearched, item_told, search_answer}
 use Rattle.batch_engine.specs.Values.{IsAppended, IsCleared, IsShown, IsUpdated, IsWritten, Wrote, inserts, rule_of}
 use Rattle.batch_engine.specs.declared.calls.Caller.{Caller}
@@ -114,18 +114,18 @@ IsClearOf user range book = IsMade (IsCleared user book (Ok range)) (λ text. an
 -- ---- calls on several ranges
 
 -- what is told of members is answered so; a rule is told with the place of the member that breaks it
-abbrev pub answered_at : {A : Type 0} → (ℕ → Place) → (List A → Answer) → Told A → Result Answer Refusal
+abbrev pub answered_at : {A : Type 0} → (ℕ → Place) → (List A → Answer) → ToldOfAll A → Result Answer Refusal
 answered_at at answer_of (Ok all) = Ok (answer_of all)
 answered_at at answer_of (Err (number, broken)) = Err (at number, broken)
 
-abbrev pub effect_of : {A : Type 0} → PlaceBook → Told A → List BookChange → Effect
+abbrev pub effect_of : {A : Type 0} → PlaceBook → ToldOfAll A → List BookChange → Effect
 effect_of book (Ok all) changes = Changes book.id changes
 effect_of book (Err refused_at) changes = Nothing
 
 -- ranges are read one after another
 pub record IsReadManyOf (ranges : List (List ℕ)) (dimension : Option Axis) (render : Option Render) (book : PlaceBook)
     (told : Result Answer Refusal) (effect : Effect) : Type 0 where
-  pub shown : Told ShownRange
+  pub shown : ToldOfAll ShownRange
   pub each : InOrder (IsShown dimension render book) 0 ranges shown
   pub told_is : told ≡ answered_at place.Ranges (λ all. answer.ReadMany book.id all) shown
   pub nothing : effect ≡ Nothing
@@ -134,7 +134,7 @@ pub record IsReadManyOf (ranges : List (List ℕ)) (dimension : Option Axis) (re
 pub record AreMade {M A : Type 0} (Is : PlaceBook → M → Result (A × List BookChange) Rule → Type 0) (members : List M)
     (at : ℕ → Place) (answer_of : List A → Answer) (book : PlaceBook) (told : Result Answer Refusal) (effect : Effect)
     : Type 0 where
-  pub all : Told A
+  pub all : ToldOfAll A
   pub changes : List BookChange
   pub each : InTurn Is 0 members book all changes
   pub told_is : told ≡ answered_at at answer_of all
@@ -186,7 +186,7 @@ IsItemOf project id book told effect = (told ≡ alone (item_told project id boo
 
 pub record IsSearchOf (project : List ℕ) (filters : List (Reading MetadataLookup)) (book : PlaceBook)
     (told : Result Answer Refusal) (effect : Effect) : Type 0 where
-  pub asked : Told MetadataLookup
+  pub asked : ToldOfAll MetadataLookup
   pub ids : List ℕ
   pub searched : AreSearched project filters book asked ids
   pub told_is : told ≡ answered_at place.Filters (search_answer project ids book) asked
@@ -195,7 +195,7 @@ pub record IsSearchOf (project : List ℕ) (filters : List (Reading MetadataLook
 -- what each filter shows, filter by filter
 pub record IsReadFilteredOf (project : List ℕ) (filters : List (Reading DataFilter)) (how : Showing) (book : PlaceBook)
     (told : Result Answer Refusal) (effect : Effect) : Type 0 where
-  pub shown : Told (List MatchedRange)
+  pub shown : ToldOfAll (List MatchedRange)
   pub each : InOrder (AreShownBy project how book) 0 filters shown
   pub told_is : told
       ≡ answered_at place.Filters (λ all. answer.ReadFiltered book.id (flat_map (λ part. part) all)) shown

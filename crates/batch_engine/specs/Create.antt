@@ -1,5 +1,5 @@
--- spreadsheets.create (Google Sheets API v4 reference, spreadsheets.create and Spreadsheet): a spreadsheet is made for its
--- caller, behind all others, and is told as a look at it shows it. The title where none is given is this project's
+-- spreadsheets.create (Google Sheets API v4 reference, spreadsheets.create and Spreadsheet): a spreadsheet is made for
+-- its caller, behind all others, and is told as a look at it shows it. The title where none is given is this project's
 -- profile.
 use Rattle.std.specs.Prelude.{◌≡◌, ℕ, List, [], length, unwrap_or, codes, Result, Ok, Err}
 use Rattle.world_model.specs.Book.{PlaceBook}

@@ -8,8 +8,8 @@ use Rattle.world_model.specs.BookChange.{BookChange, Named, changed_by_all}
 use Rattle.world_model.specs.Making.{made_by_name, with_named_book}
 use Rattle.world_model.specs.World.{NameWorld, WorldStandsFor, world_replaced}
 
--- nothing; or the spreadsheet with the id is changed, one change after another; or one is made by changes of a bare one,
--- which has no sheets, and stands behind all others
+-- nothing; or the spreadsheet with the id is changed, one change after another; or one is made by changes of a bare
+-- one, which has no sheets, and stands behind all others
 pub data Effect : Type 0 where
   Nothing : Effect
   Changes : (book : List ℕ) (changes : List BookChange) → Effect

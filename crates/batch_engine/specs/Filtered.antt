@@ -27,7 +27,7 @@ use Rattle.sheets_json.specs.declared.answer.ShownRange.{ShownRange}
 use Rattle.request_kinds.specs.Dimensions.{whole_sheet}
 use Rattle.request_kinds.specs.Metadata.{broken_by_lookups, items_seen, lookup_of}
 use Rattle.request_kinds.specs.Rows.{area_or_broken}
-use Rattle.batch_engine.specs.Members.{InOrder, Told}
+use Rattle.batch_engine.specs.Members.{InOrder, ToldOfAll}
 use Rattle.batch_engine.specs.Values.{axis_or_rows, is_columns, render_or_formatted, rule_of, shown_range}
 
 -- ---- the areas of a filter
@@ -111,12 +111,12 @@ AreShownBy project how book (Err shape) told = told ≡ Err (rule_of shape)
 -- ---- what the private functions hand to one another
 
 -- what filters show, one filter behind another, or the place of the first that breaks a rule, and the rule
-abbrev pub joined : Told (List MatchedRange) → Told MatchedRange
+abbrev pub joined : ToldOfAll (List MatchedRange) → ToldOfAll MatchedRange
 joined (Ok all) = Ok (flat_map (λ part. part) all)
 joined (Err broken) = Err broken
 
 pub record AreAllShown (project : List ℕ) (how : Showing) (book : PlaceBook) (filters : List (Reading DataFilter))
-    (told : Told MatchedRange) : Type 0 where
-  pub shown : Told (List MatchedRange)
+    (told : ToldOfAll MatchedRange) : Type 0 where
+  pub shown : ToldOfAll (List MatchedRange)
   pub each : InOrder (AreShownBy project how book) 0 filters shown
   pub told_is : told ≡ joined shown

@@ -11,3 +11,4 @@ pub mod Calls
 pub mod Protected
 pub mod Untouched
 pub mod Laws
+pub mod Answered

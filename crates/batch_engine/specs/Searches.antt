@@ -19,7 +19,7 @@ use Rattle.sheets_json.specs.declared.answer.Answer.{Answer}
 use Rattle.sheets_json.specs.declared.answer.Answer.TheVariants as answer
 use Rattle.sheets_json.specs.declared.answer.MatchedMetadata.{MatchedMetadata}
 use Rattle.request_kinds.specs.Metadata.{broken_by_lookups, items_seen, lookup_of, lookups_of}
-use Rattle.batch_engine.specs.Members.{InOrder, Told}
+use Rattle.batch_engine.specs.Members.{InOrder, ToldOfAll}
 use Rattle.batch_engine.specs.Values.{rule_of, unless_empty}
 use Rattle.batch_engine.specs.declared.searches.Searched.{Searched}
 
@@ -50,7 +50,7 @@ search_answer project ids book asked =
 -- filters are judged one after another; told are the items that the project sees and that one of them finds, in order
 -- of id
 pub record AreSearched (project : List ℕ) (filters : List (Reading MetadataLookup)) (book : PlaceBook)
-    (asked : Told MetadataLookup) (ids : List ℕ) : Type 0 where
+    (asked : ToldOfAll MetadataLookup) (ids : List ℕ) : Type 0 where
   pub each : InOrder (λ given one. one ≡ asked_or_broken book.sheets given) 0 filters asked
   pub in_order : IfOk asked (λ all. AreIdsInOrder (found_by_some (lookups_of all) project book.metadata) ids)
 

@@ -1,5 +1,5 @@
--- Cells that a call on a range doesn't touch keep what was entered into them, whoever's it is: what it makes leaves each
--- other cell than those that are written, emptied or cleared.
+-- Cells that a call on a range doesn't touch keep what was entered into them, whoever's it is: what it makes leaves
+-- each other cell than those that are written, emptied or cleared.
 use Rattle.std.specs.Prelude.{◌≡◌, ℕ, List, [], Some, Ok}
 use Rattle.cell_value.specs.declared.cell.Block.{Block}
 use Rattle.world_model.specs.Book.{PlaceBook}

@@ -1,6 +1,6 @@
--- What a user does on the cells of a range: they are shown, emptied or written, or values are appended to its table, and
--- what is told of it (Google Sheets API v4 reference, ValueRange, UpdateValuesResponse and AppendValuesResponse). What
--- touches a cell that a protected range denies the user is refused.
+-- What a user does on the cells of a range: they are shown, emptied or written, or values are appended to its table,
+-- and what is told of it (Google Sheets API v4 reference, ValueRange, UpdateValuesResponse and AppendValuesResponse).
+-- What touches a cell that a protected range denies the user is refused.
 use Rattle.std.specs.Prelude.{◌≡◌, ℕ, Bool, true, false, List, [], ◌∷◌, length, Option, Some, None, unwrap_or, Result, Ok, Err}
 use Rattle.std.specs.Prelude.{IsSomeAnd, MatchResult, option_map}
 use Rattle.grid_range.specs.declared.area.Area.{Area}

@@ -50,8 +50,8 @@ pub struct Applied {
     pub outcome: Outcome,
 }
 
-/// Makes a call of its caller on the spreadsheets, which stay as they are: what they are after it is told (Sheets API v4
-/// reference, spreadsheets, spreadsheets.values and spreadsheets.developerMetadata). A batch and a list are done in
+/// Makes a call of its caller on the spreadsheets, which stay as they are: what they are after it is told (Sheets API
+/// v4 reference, spreadsheets, spreadsheets.values and spreadsheets.developerMetadata). A batch and a list are done in
 /// their order, each member on what those before it leave, and the first member that breaks a rule refuses the call.
 ///
 /// # Errors

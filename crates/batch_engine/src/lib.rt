@@ -17,4 +17,4 @@ mod targets;
 mod totals;
 
 pub use calls::{Applied, Caller, Outcome, apply};
-pub use laws::{calls_answered_once, protected_cells_stay, ranges_keep_others};
+pub use laws::{calls_answered_once, looks_answered, protected_cells_stay, ranges_keep_others};

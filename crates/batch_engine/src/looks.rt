@@ -179,8 +179,8 @@ fn grid_shown(
     }
 }
 
-/// What the user is shown of the protected ranges of a sheet, in order of id. More than a `u32` counts aren't listed, as
-/// for want of memory; no request makes so many.
+/// What the user is shown of the protected ranges of a sheet, in order of id. More than a `u32` counts aren't listed,
+/// as for want of memory; no request makes so many.
 fn shown_protections(
     alloc: Global,
     book: &Book,

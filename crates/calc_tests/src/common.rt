@@ -1,4 +1,4 @@
-use cell_calc::{AreaCells, Argument, FilledCell, called_value, is_blank};
+use cell_calc::{AreaCells, Argument, FilledCell, HeldValue, called_value, is_blank};
 use cell_value::{Kind, NoMemory, Text, Value};
 use std::alloc::Global;
 use std::fmt::Debug;
@@ -127,7 +127,10 @@ fn filled<'a>(alloc: Global, values: &'a [Value]) -> Result<Vec<FilledCell<'a>>,
     let mut place = 0u64;
     for value in values {
         if !is_blank(value) {
-            filled.push(FilledCell { place, value })?;
+            filled.push(FilledCell {
+                place,
+                value: HeldValue::Lent(value),
+            })?;
         }
         place = place.saturating_add(1);
     }

@@ -3,7 +3,7 @@ ghost use Rattle.grid_range.specs.declared.band.Band.TheVariants.{Whole, From, S
 ghost use Rattle.cell_calc.specs.Lent.{AreCells};
 
 use crate::common::text;
-use cell_calc::{AreaCells, CellReader, FilledCell, is_blank};
+use cell_calc::{AreaCells, CellReader, FilledCell, HeldValue, is_blank};
 use cell_value::{Kind, NoMemory, Text, Value};
 use formula_reader::SheetNames;
 use grid_range::{Area, Band};
@@ -61,19 +61,19 @@ impl Spreadsheet {
         let mut filled = Vec::new(alloc);
         filled.push(FilledCell {
             place: 0,
-            value: &self.a1,
+            value: HeldValue::Lent(&self.a1),
         })?;
         filled.push(FilledCell {
             place: 1,
-            value: &self.b1,
+            value: HeldValue::Lent(&self.b1),
         })?;
         filled.push(FilledCell {
             place: 2,
-            value: &self.a2,
+            value: HeldValue::Lent(&self.a2),
         })?;
         filled.push(FilledCell {
             place: 4,
-            value: &self.a3,
+            value: HeldValue::Lent(&self.a3),
         })?;
         Ok(AreaCells {
             rows: 4,
@@ -225,7 +225,10 @@ fn one_cell<'a>(alloc: Global, value: &'a Value) -> Result<AreaCells<'a>, NoMemo
 {
     let mut filled = Vec::new(alloc);
     if !is_blank(value) {
-        filled.push(FilledCell { place: 0, value })?;
+        filled.push(FilledCell {
+            place: 0,
+            value: HeldValue::Lent(value),
+        })?;
     }
     Ok(AreaCells {
         rows: 1,
@@ -263,15 +266,15 @@ fn four_rows<'a>(
     let mut filled = Vec::new(alloc);
     filled.push(FilledCell {
         place: 0,
-        value: one,
+        value: HeldValue::Lent(one),
     })?;
     filled.push(FilledCell {
         place: 1,
-        value: two,
+        value: HeldValue::Lent(two),
     })?;
     filled.push(FilledCell {
         place: 2,
-        value: three,
+        value: HeldValue::Lent(three),
     })?;
     Ok(AreaCells {
         rows: 4,
@@ -305,11 +308,11 @@ fn three_rows<'a>(
     let mut filled = Vec::new(alloc);
     filled.push(FilledCell {
         place: 0,
-        value: one,
+        value: HeldValue::Lent(one),
     })?;
     filled.push(FilledCell {
         place: 1,
-        value: two,
+        value: HeldValue::Lent(two),
     })?;
     Ok(AreaCells {
         rows: 3,
@@ -335,11 +338,11 @@ fn two_columns<'a>(alloc: Global, one: &'a Value, two: &'a Value) -> Result<Area
     let mut filled = Vec::new(alloc);
     filled.push(FilledCell {
         place: 0,
-        value: one,
+        value: HeldValue::Lent(one),
     })?;
     filled.push(FilledCell {
         place: 1,
-        value: two,
+        value: HeldValue::Lent(two),
     })?;
     Ok(AreaCells {
         rows: 1,

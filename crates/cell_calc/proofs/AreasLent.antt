@@ -1,22 +1,22 @@
 -- The cells of an area that are lent, from what is stored and the values that are known.
 use Rattle.std.proofs.Common.{◌≡◌, ℕ, ◌+◌, ◌-◌, ◌*◌, ◌<◌, Bool, cond, List, [], ◌∷◌, ◌++◌, length, map, refl, ap, sym, ◌∙◌, arith, Contains, Option, Some, None}
 use Rattle.std.specs.Prelude.{flat_map, filter, unwrap_or, IsSomeAnd}
-use Rattle.std.specs.Option.{is_some, option_map_or}
+use Rattle.std.specs.Option.{is_some}
 use Rattle.std.proofs.lemmas.List.{map-append}
 use Rattle.std.proofs.lemmas.List.Kept.{IsStrictlySortedBy-filter}
 use Rattle.cell_value.specs.declared.cell.Value.{Value}
-use Rattle.cell_value.specs.declared.cell.Value.TheVariants.{Blank}
-use Rattle.cell_value.specs.Elements.{Contains-filter, Contains-filter_from}
+use Rattle.cell_value.specs.Elements.{Contains-head, Contains-cons, Contains-filter, Contains-filter_from}
 use Rattle.grid_range.specs.declared.area.Area.{Area}
 use Rattle.grid_range.specs.declared.band.Band.{Band}
 use Rattle.grid_range.specs.declared.band.Band.TheVariants.{Whole, From, Span}
 use Rattle.grid_range.specs.Area.{by_rows}
 use Rattle.grid_range.specs.Band.{HasLine, first_line, end_line}
 use Rattle.ref_rewrite.specs.declared.cell_content.Content.{Content}
+use Rattle.cell_calc.specs.declared.cells.StoredCell.{StoredCell}
 use Rattle.cell_calc.specs.Lent.{filled_from}
 use Rattle.cell_calc.specs.Book.{Place, lines_of, places_of}
-use Rattle.cell_calc.specs.Contents.{Contents, AreSound, AreStoredPlaces}
-use Rattle.cell_calc.specs.Known.{value_known, value_read, book_read, place_among, filled_at, cell_known}
+use Rattle.cell_calc.specs.Contents.{Contents, AreSound, AreStoredCells, AreStoredPlaces, AreOnSheet, cell_place}
+use Rattle.cell_calc.specs.Known.{value_known, value_read, value_stored, book_read, place_among, filled_at, cell_read}
 use Rattle.cell_calc.proofs.ReadsDecide.{has_lines}
 use Rattle.cell_calc.proofs.Filled.{sorted_alike, all_rows}
 use Rattle.cell_calc.proofs.Rectangle.{by_row, never_below, below_on, range_has, cells_have, cells_only, cells_sorted, kept, made_by_row}
@@ -38,11 +38,11 @@ nothing_before first width =
     let nought : 0 * width ≡ 0 = omega arith in
     sym (ap (λ n. n * width) none ∙ nought)
 
--- where something is stored what is known is read, and elsewhere nothing
-stored_alone : (content : Option Content) (place : ℕ) (value : Value)
-    → cond (is_some content) (filled_at place value) [] ≡ filled_at place (option_map_or (λ c. value) content Blank)
-stored_alone None place value = refl
-stored_alone (Some content) place value = refl
+-- nothing is read where nothing is stored
+stored_alone : (content : Option Content) (place : ℕ) (known : Value)
+    → cond (is_some content) (filled_at place (value_stored content known)) [] ≡ filled_at place (value_stored content known)
+stored_alone None place known = refl
+stored_alone (Some content) place known = refl
 
 -- how many cells some rows have
 module _ (read : Place → Value) (sheet : ℕ) (columns : List ℕ) where
@@ -105,17 +105,34 @@ module _ (contents : Contents) (known : Place → Option Value) (sound : AreSoun
       (are.exactly cell.0 cell.1).1
       ((has_lines area.rows size.0 cell.0 own.0, has_lines area.cols size.1 cell.1 own.1), found.1))
 
+  abbrev read : Place → Value
+  read = value_read contents known
+
+  -- what is read in a row and a column of the sheet, if it isn't blank, with its place among the area's cells
+  abbrev entry : ℕ × ℕ → List (ℕ × Value)
+  entry cell = filled_at (place_among area column_count cell.0 cell.1) (read (place_of cell))
+
+  -- what is read in cells that are stored
+  read_each : (cells : List StoredCell) → AreOnSheet contents area.sheet cells
+      → flat_map (cell_read known area column_count) cells ≡ flat_map entry (map cell_place cells)
+  read_each [] stored = refl
+  read_each (cell ∷ cells) stored =
+      ap (λ content. filled_at (place_among area column_count cell.row cell.column)
+      (value_stored content (value_known known (place_of (cell_place cell))))
+      ++ flat_map (cell_read known area column_count) cells)
+      (sym (stored cell (Contains-head cell cells)))
+      ∙ ap (λ l. entry (cell_place cell) ++ l) (read_each cells (λ other has. stored other (Contains-cons cell other cells has)))
+
   -- the cells that are lent
-  pub area_filled : (places : List (ℕ × ℕ)) → AreStoredPlaces contents area places
-      → flat_map (cell_known known area column_count) places
-      ≡ filled_from 0 (map (value_read contents known) (places_of (book_read contents known) area))
-  area_filled places are =
-      let read = value_read contents known in
-      let entries = λ (cell : ℕ × ℕ). filled_at (place_among area column_count cell.0 cell.1) (read (place_of cell)) in
-      ap (flat_map (cell_known known area column_count)) (places_are places are)
-      ∙ kept (cell_known known area column_count) entries is_stored
+  pub area_filled : (cells : List StoredCell) → AreStoredCells contents area cells
+      → flat_map (cell_read known area column_count) cells
+      ≡ filled_from 0 (map read (places_of (book_read contents known) area))
+  area_filled cells are =
+      read_each cells are.content
+      ∙ ap (flat_map entry) (places_are (map cell_place cells) are.places)
+      ∙ kept entry entry is_stored
       (λ cell. stored_alone (contents.content (place_of cell)) (place_among area column_count cell.0 cell.1) (value_known known (place_of cell)))
       (by_row rows columns)
-      ∙ made_by_row entries rows columns
+      ∙ made_by_row entry rows columns
       ∙ sym (all_rows read area.sheet (first_line area.rows) (first_line area.cols) column_count
       (first_line area.rows) row_count 0 (omega arith) (nothing_before (first_line area.rows) column_count))

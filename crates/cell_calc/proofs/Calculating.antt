@@ -9,21 +9,21 @@ use Rattle.std.proofs.lemmas.Result.{on_ok_weaker}
 use Rattle.cell_value.specs.declared.cell.Kind.TheVariants as kind
 use Rattle.cell_value.specs.declared.cell.Value.{Value}
 use Rattle.cell_value.specs.declared.cell.Value.TheVariants.{Blank, Error}
-use Rattle.cell_value.specs.Elements.{nothing_in, Contains-head, Contains-cons_cases, Contains-map}
+use Rattle.cell_value.specs.Elements.{nothing_in, Contains-head, Contains-cons_cases, Contains-map, Contains-map_from}
 use Rattle.grid_range.specs.declared.area.Area.{Area}
-use Rattle.ref_rewrite.specs.declared.cell_content.Content.{Content}
+use Rattle.cell_calc.specs.declared.cells.StoredCell.{StoredCell}
 use Rattle.cell_calc.specs.declared.mark.Mark.{Mark}
 use Rattle.cell_calc.specs.declared.mark.Mark.TheVariants.{Open, Endless, Known}
 use Rattle.cell_calc.specs.Book.{Book, Place, HoldsPlace}
-use Rattle.cell_calc.specs.Contents.{Contents, AreOf, AreSound, AreStoredPlaces}
+use Rattle.cell_calc.specs.Contents.{Contents, AreOf, AreSound, AreStoredCells, IsStoredFormula, cell_place}
 use Rattle.cell_calc.specs.CellValue.{HasValue}
 use Rattle.cell_calc.specs.declared.table.Table.{Table}
 use Rattle.cell_calc.specs.Marks.{place_of, marks_of, value_told}
 use Rattle.cell_calc.specs.Walk.{HeldBy, Holds, Goes}
-use Rattle.cell_calc.specs.Calculated.{IsValueIn, AreValues, AreAllValues, IsTableOf, IsStoredFormula, Calculates, SettlesAll, Calculated, whole_sheet}
+use Rattle.cell_calc.specs.Calculated.{IsValueIn, AreValues, AreAllValues, IsTableOf, Calculates, SettlesAll, Calculated, whole_sheet}
 use Rattle.cell_calc.proofs.Endless.{counts_are_bounds}
-use Rattle.cell_calc.proofs.Steps.{told_is_value}
-use Rattle.cell_calc.proofs.Going.{goes_nowhere, goes_on}
+use Rattle.cell_calc.proofs.Steps.{told_is_value, told_of_formula}
+use Rattle.cell_calc.proofs.Going.{goes_nowhere, goes_on, formula_is_some}
 
 plus_one : (n : ℕ) → n + 1 ≡ suc n
 plus_one n = omega arith
@@ -42,10 +42,6 @@ one_more_cases xs count x d y within is has =
       ]
     ]
 
-formula_is_some : (content : Option Content) → IsStoredFormula content → IsSome content
-formula_is_some None is = absurd is
-formula_is_some (Some content) is = refl
-
 sized : {A : Type 0} → (P : A → Type 0) (size : Option A) → IsSomeAnd size P → IsSome size
 sized P None has = absurd has
 sized P (Some size) has = refl
@@ -55,6 +51,7 @@ module _ (contents : Contents) where
   nothing_known marks none = record {
     right = λ book are. record {
       depth = 0;
+      formulas = λ place some. let no = none place in let never : ⊥ = cc in absurd never;
       known = λ place value is. let no = none place in let never : ⊥ = cc in absurd never;
       endless = λ place is. let no = none place in let never : ⊥ = cc in absurd never;
       opened = λ place is. let no = none place in let never : ⊥ = cc in absurd never;
@@ -64,17 +61,17 @@ module _ (contents : Contents) where
     all = λ place held. absurd (nothing_in held.0 held.1);
   }
 
-  pub one_more_cell : (sheet : ℕ) (cells : List (ℕ × ℕ)) (count : ℕ) (cell d : ℕ × ℕ) → count < length cells
+  pub one_more_cell : (sheet : ℕ) (cells : List StoredCell) (count : ℕ) (cell d : StoredCell) → count < length cells
       → cell ≡ get_or cells count d → (before middle after : Place → Option Mark)
       → SettlesAll contents sheet (take count cells) before middle → Goes contents middle [] after []
-      → (IsStoredFormula (contents.content (place_of (sheet, cell.0, cell.1))) → IsSome (after (place_of (sheet, cell.0, cell.1))))
+      → (IsStoredFormula (Some cell.content.now) → IsSome (after (place_of (sheet, cell.row, cell.column))))
       → SettlesAll contents sheet (take (count + 1) cells) before after
   one_more_cell sheet cells count cell d within is before middle after settles goes met = record {
     goes = goes_on contents before [] middle [] after [] settles.goes goes;
     all = λ other has formed. elim (one_more_cases cells count cell d other within is has) [
-      | inl earlier ↦ goes.stay (place_of (sheet, other.0, other.1)) (settles.all other earlier formed)
-      | inr same ↦ subst (λ c. IsSome (after (place_of (sheet, c.0, c.1)))) same
-          (met (subst (λ c. IsStoredFormula (contents.content (place_of (sheet, c.0, c.1)))) (sym same) formed))
+      | inl earlier ↦ goes.stay (place_of (sheet, other.row, other.column)) (settles.all other earlier formed)
+      | inr same ↦ subst (λ c. IsSome (after (place_of (sheet, c.row, c.column)))) same
+          (met (subst (λ c. IsStoredFormula (Some c.content.now)) (sym same) formed))
     ];
   }
 
@@ -84,17 +81,21 @@ module _ (contents : Contents) where
     all = λ cell has. absurd (nothing_in cell has);
   }
 
-  pub all_of_area : (area : Area) (places : List (ℕ × ℕ)) → AreStoredPlaces contents area places
-      → (before after : Place → Option Mark) → SettlesAll contents area.sheet places before after
+  pub all_of_area : (area : Area) (cells : List StoredCell) → AreStoredCells contents area cells
+      → (before after : Place → Option Mark) → SettlesAll contents area.sheet cells before after
       → Calculates contents area before after
-  all_of_area area places stored before after settles = record {
+  all_of_area area cells stored before after settles = record {
     goes = settles.goes;
     all = λ place holds formed.
         let at : place_of (area.sheet, place.row, place.column) ≡ place =
         ap (λ s. place_of (s, place.row, place.column)) holds.0 in
         let here = subst (λ p. IsStoredFormula (contents.content p)) (sym at) formed in
-        let has = (stored.exactly place.row place.column).1 (holds.1, formula_is_some (contents.content (place_of (area.sheet, place.row, place.column))) here) in
-        subst (λ p. IsSome (after p)) at (settles.all (place.row, place.column) has here);
+        let has = (stored.places.exactly place.row place.column).1 (holds.1, formula_is_some (contents.content (place_of (area.sheet, place.row, place.column))) here) in
+        let (cell, among, same) = Contains-map_from cell_place cells (place.row, place.column) has in
+        let there : place_of (area.sheet, cell.row, cell.column) ≡ place_of (area.sheet, place.row, place.column) =
+        ap (λ c. place_of (area.sheet, c.0, c.1)) same in
+        let formula = subst IsStoredFormula (sym (ap contents.content there) ∙ stored.content cell among) here in
+        subst (λ p. IsSome (after p)) (there ∙ at) (settles.all cell among formula);
   }
 
   pub one_more_area : (areas : List Area) (count : ℕ) (area d : Area) → count < length areas → area ≡ get_or areas count d
@@ -126,11 +127,12 @@ module _ (contents : Contents) where
       formulas = λ place formed held book are.
           some_told book are place (marks place) refl (calculated.all place held formed);
       others = λ place value is book are. other_value book are place value is;
+      only = λ place some book are. told_of_formula contents book are marks [] (calculated.right book are) place some;
     }
 
   -- one area more, whatever areas were calculated before
   pub one_area : (area : Area) (before after : Place → Option Mark)
-      → ((book : Book) → AreOf contents book → Holds contents book before []) → Calculates contents area before after
+      → ((book : Book) → AreOf contents book → Holds book before []) → Calculates contents area before after
       → Calculated contents (area ∷ []) after
   one_area area before after was calculates = record {
     right = λ book are. calculates.goes.right book are (was book are);
@@ -141,7 +143,7 @@ module _ (contents : Contents) where
   }
 
   module _ (area : Area) (areas : List Area) (before after : Place → Option Mark)
-      (was : (book : Book) → AreOf contents book → Holds contents book before []) (calculates : Calculates contents area before after)
+      (was : (book : Book) → AreOf contents book → Holds book before []) (calculates : Calculates contents area before after)
       (values : AreValues contents areas (λ place. value_told (before place))) where
     calculated : Calculated contents (area ∷ []) after
     calculated = one_area area before after was calculates
@@ -171,6 +173,7 @@ module _ (contents : Contents) where
         | inr earlier ↦ value_kept place formed (held.0, earlier, held.2) (after place) refl
       ];
       others = (are_values (area ∷ []) after calculated).others;
+      only = (are_values (area ∷ []) after calculated).only;
     }
 
   module _ {T E : Type 0} (area : Area) (before after : Table) (was : IsTableOf contents before) (r : Result T E)
@@ -194,4 +197,5 @@ module _ (contents : Contents) where
         values.formulas place formed
         (whole_sheet place.sheet, Contains-map whole_sheet contents.sheets place.sheet has, (refl, (tt, tt)));
     others = values.others;
+    only = values.only;
   }

@@ -1,14 +1,15 @@
 -- A path that meets a cycle: from each of its cells walks have no end.
-use Rattle.std.proofs.Common.{◌≡◌, ◌⊎◌, ℕ, zero, suc, List, [], ◌∷◌, Option, Some, None, refl, ap, sym, subst, ◌∙◌, inl, inr}
+use Rattle.std.proofs.Common.{◌≡◌, ◌⊎◌, ℕ, zero, suc, true, List, [], ◌∷◌, Option, Some, None, refl, ap, sym, subst, ◌∙◌, inl, inr}
+use Rattle.std.specs.Option.{IsSome}
 use Rattle.std.specs.List.{AllByRecursion}
+use Rattle.std.proofs.lemmas.Bool.{false≢true}
 use Rattle.cell_calc.specs.declared.mark.Mark.{Mark}
 use Rattle.cell_calc.specs.declared.mark.Mark.TheVariants.{Open, Endless, Known}
 use Rattle.cell_calc.specs.declared.mark.Found.TheVariants.{New, Circular, Settled}
 use Rattle.cell_calc.specs.declared.walk.Frame.{Frame}
 use Rattle.cell_calc.specs.Book.{Book, Place, IsFormula}
-use Rattle.cell_calc.specs.Contents.{Contents}
 use Rattle.cell_calc.specs.CellValue.{Reads, Walks}
-use Rattle.cell_calc.specs.Marks.{IsKnown, found_by}
+use Rattle.cell_calc.specs.Marks.{IsKnown, found_by, is_known}
 use Rattle.cell_calc.specs.Walk.{place_at, OnPath, Waits, IsReadBy, IsLinked, Holds, Closes}
 use Rattle.cell_calc.proofs.Marking.{here, cases}
 
@@ -29,6 +30,12 @@ found_circular None is = let no : ⊥ = cc in absurd no
 found_circular (Some Open) is = inl refl
 found_circular (Some Endless) is = inr refl
 found_circular (Some (Known value)) is = let no : ⊥ = cc in absurd no
+
+pub is_known_found : (mark : Option Mark) → is_known mark ≡ true → IsKnown mark
+is_known_found None is = false≢true is
+is_known_found (Some Open) is = false≢true is
+is_known_found (Some Endless) is = false≢true is
+is_known_found (Some (Known value)) is = tt
 
 -- a place is one of the path, or keeps its mark
 pub closed_cases : (before : Place → Option Mark) (path : List Frame) (after : Place → Option Mark) → Closes before path after
@@ -78,19 +85,23 @@ module _ (book : Book) where
       onward path place reads linked (Walks book steps) (goes steps (path_walks path place reads linked formulas goes steps))
       (path_walks path place reads linked formulas goes steps) other on
 
-  formulas_on : (contents : Contents) (marks : Place → Option Mark) (path : List Frame)
-      → AllByRecursion (Waits contents book marks) path → (place : Place) → OnPath path place → IsFormula (book.cells place)
-  formulas_on contents marks [] waits place on = absurd on
-  formulas_on contents marks (frame ∷ below) (wait, waits) place (inl at) =
+  formulas_on : (marks : Place → Option Mark) (path : List Frame)
+      → AllByRecursion (Waits book marks) path → (place : Place) → OnPath path place → IsFormula (book.cells place)
+  formulas_on marks [] waits place on = absurd on
+  formulas_on marks (frame ∷ below) (wait, waits) place (inl at) =
       subst (λ p. IsFormula (book.cells p)) at (subst IsFormula (sym wait.is) tt)
-  formulas_on contents marks (frame ∷ below) (wait, waits) place (inr on) =
-      formulas_on contents marks below waits place on
+  formulas_on marks (frame ∷ below) (wait, waits) place (inr on) =
+      formulas_on marks below waits place on
 
-  pub close : (contents : Contents) (marks : Place → Option Mark) (path : List Frame) → Holds contents book marks path
+  pub close : (marks : Place → Option Mark) (path : List Frame) → Holds book marks path
       → (place : Place) → IsReadBy book path place → (marks place ≡ Some Open) ⊎ (marks place ≡ Some Endless)
-      → (after : Place → Option Mark) → Closes marks path after → Holds contents book after []
-  close contents marks path h place reads circular after closes = record {
+      → (after : Place → Option Mark) → Closes marks path after → Holds book after []
+  close marks path h place reads circular after closes = record {
     depth = h.depth;
+    formulas = λ other some. elim (closed_cases marks path after closes other) [
+      | inl (on, is) ↦ formulas_on marks path h.waits other on
+      | inr same ↦ h.formulas other (subst IsSome same some)
+    ];
     known = λ other v now. elim (closed_cases marks path after closes other) [
       | inl (on, is) ↦ let no : ⊥ = cc in absurd no
       | inr same ↦ h.known other v (sym same ∙ now)
@@ -116,4 +127,4 @@ module _ (book : Book) where
       ]
 
       walks : (steps : ℕ) (other : Place) → OnPath path other → Walks book steps other
-      walks = path_walks path place reads h.linked (formulas_on contents marks path h.waits) goes
+      walks = path_walks path place reads h.linked (formulas_on marks path h.waits) goes

@@ -10,7 +10,7 @@ use Rattle.cell_calc.specs.declared.arguments.FilledCell.{FilledCell}
 use Rattle.cell_calc.specs.LogicFunctions.{is_blank}
 use Rattle.cell_calc.specs.LookUpFunctions.{is_match, beside_matches}
 use Rattle.cell_calc.specs.GatheringFunctions.{is_number_or_error}
-use Rattle.cell_calc.specs.Lent.{filled_from, place_and_value}
+use Rattle.cell_calc.specs.Lent.{filled_from, place_and_value, value_held}
 use Rattle.cell_calc.specs.Found.{value_in_place, first_match, is_matching, matches_in, value_if}
 
 blank_is : (value : Value) → is_blank value ≡ true → value ≡ Blank
@@ -47,7 +47,7 @@ paired place (pair ∷ later) = cond (pair.0 == place) pair.1 (paired place late
 in_place_paired : (place : ℕ) (cells : List FilledCell) → value_in_place place cells ≡ paired place (map place_and_value cells)
 in_place_paired place [] = refl
 in_place_paired place (cell ∷ cells) =
-    ap (λ rest. cond (cell.place == place) cell.value.now rest) (in_place_paired place cells)
+    ap (λ rest. cond (cell.place == place) (value_held cell.value) rest) (in_place_paired place cells)
 
 paired_other : (place from : ℕ) (value : Value) (rest : Pairs) → place < from → paired place ((from, value) ∷ rest) ≡ paired place rest
 paired_other place from value rest below =
@@ -105,7 +105,7 @@ matched key (pair ∷ later) = cond (is_match key pair.1) (Some pair.0) (matched
 first_matched : (key : Value) (cells : List FilledCell) → first_match key cells ≡ matched key (map place_and_value cells)
 first_matched key [] = refl
 first_matched key (cell ∷ cells) =
-    ap (λ rest. cond (is_match key cell.value.now) (Some cell.place) rest) (first_matched key cells)
+    ap (λ rest. cond (is_match key (value_held cell.value)) (Some cell.place) rest) (first_matched key cells)
 
 matched_from : (key : Value) (from at : ℕ) (values : List Value) → at ≡ suc from
     → option_map suc (matched key (filled_from from values)) ≡ position_from (is_match key) at values
@@ -158,7 +158,7 @@ matches_paired : (key : Value) (cells : List FilledCell)
     → length (filter (is_matching key) cells) ≡ length (filter (λ pair. is_match key pair.1) (map place_and_value cells))
 matches_paired key [] = refl
 matches_paired key (cell ∷ cells) =
-    elim (is_match key cell.value.now) as (λ b.
+    elim (is_match key (value_held cell.value)) as (λ b.
     length (cond b (cell ∷ filter (is_matching key) cells) (filter (is_matching key) cells))
     ≡ length (cond b (place_and_value cell ∷ filter (λ pair. is_match key pair.1) (map place_and_value cells))
     (filter (λ pair. is_match key pair.1) (map place_and_value cells)))) [
@@ -182,7 +182,7 @@ in_cells_paired : (key : Value) (place : ℕ) (cells : List FilledCell)
     → matches_in key cells place ≡ in_pairs key place (map place_and_value cells)
 in_cells_paired key place [] = refl
 in_cells_paired key place (cell ∷ cells) =
-    ap (λ rest. (cell.place == place && is_match key cell.value.now) || rest) (in_cells_paired key place cells)
+    ap (λ rest. (cell.place == place && is_match key (value_held cell.value)) || rest) (in_cells_paired key place cells)
 
 in_before : (key : Value) (place from : ℕ) (values : List Value) → place < from
     → in_pairs key place (filled_from from values) ≡ false

@@ -1,43 +1,53 @@
 -- What the functions of the walk do, by its steps.
-use Rattle.std.proofs.Common.{◌≡◌, ◌⊎◌, ℕ, List, [], ◌∷◌, ◌++◌, Contains, Option, Some, None, Result, refl, ap, sym, subst, ◌∙◌, inl, inr}
+use Rattle.std.proofs.Common.{◌≡◌, ◌⊎◌, ℕ, true, List, [], ◌∷◌, ◌++◌, Contains, Option, Some, None, refl, ap, sym, subst, ◌∙◌, inl, inr}
 use Rattle.std.specs.Option.{IsSome}
-use Rattle.std.specs.Result.{OnOk}
 use Rattle.std.proofs.Math.Path.{fun_ext}
 use Rattle.std.proofs.lemmas.List.Elements.{Contains-append_cases, Contains-append_left, Contains-append_right}
-use Rattle.std.proofs.lemmas.Result.{on_ok_weaker}
 use Rattle.cell_value.specs.declared.cell.Kind.TheVariants as kind
 use Rattle.cell_value.specs.declared.cell.Value.{Value}
 use Rattle.cell_value.specs.declared.cell.Value.TheVariants.{Error}
-use Rattle.cell_value.specs.Elements.{nothing_in, Contains-head, Contains-cons_cases}
+use Rattle.cell_value.specs.Elements.{nothing_in, Contains-head, Contains-cons_cases, Contains-map_from}
 use Rattle.grid_range.specs.declared.area.Area.{Area}
 use Rattle.ref_rewrite.specs.declared.cell_content.Content.{Content}
 use Rattle.ref_rewrite.specs.declared.cell_content.Content.TheVariants.{Number, Text, Truth, Formula}
 use Rattle.formula_reader.specs.Only.{IsOnly}
 use Rattle.formula_reader.specs.declared.tree.Tree.{Tree}
 use Rattle.formula_reader.specs.Tree.{Expression, expression_of}
+use Rattle.cell_calc.specs.declared.cells.StoredCell.{StoredCell}
 use Rattle.cell_calc.specs.declared.mark.Mark.{Mark}
 use Rattle.cell_calc.specs.declared.mark.Mark.TheVariants.{Open, Endless, Known}
 use Rattle.cell_calc.specs.declared.mark.Found.TheVariants.{Circular, Settled}
 use Rattle.cell_calc.specs.declared.walk.Frame.{Frame}
-use Rattle.cell_calc.specs.Book.{Book, Place, Cell, stored, formula, IsFormula, HoldsPlace}
-use Rattle.cell_calc.specs.Contents.{Contents, AreOf, AreStoredPlaces, IsCell, IsTreeWithin}
+use Rattle.cell_calc.specs.Book.{Book, Place, Cell, formula, IsFormula, HoldsPlace}
+use Rattle.cell_calc.specs.Contents.{Contents, AreOf, AreStoredCells, AreStoredPlaces, IsCell, IsStoredFormula, IsTreeWithin, cell_place}
 use Rattle.cell_calc.specs.CellValue.{areas_of, Reads}
 use Rattle.cell_calc.specs.FormulaValue.{value_of_cell}
 use Rattle.cell_calc.specs.Known.{book_read, value_read}
 use Rattle.cell_calc.specs.Marks.{place_of, IsMarked, IsKnown, value_told, found_by}
-use Rattle.cell_calc.specs.Walk.{HeldBy, place_at, Waits, Holds, Stay, Goes, Meets, Closes, IsCut, IsTreeAt, IsKnownAs, Learns}
+use Rattle.cell_calc.specs.Walk.{HeldBy, place_at, Waits, Holds, Stay, Goes, Passes, Meets, Closes, IsCut, IsTreeAt, is_settled_by, AreSettled, IsAreaSettled, AreAreasSettled}
 use Rattle.cell_calc.proofs.OneAnswer.{one_answer}
-use Rattle.cell_calc.proofs.Marking.{some_is, here, mark_stays, known_stays, value_known_of}
+use Rattle.cell_calc.proofs.Marking.{some_is, here, mark_stays, value_known_of}
 use Rattle.cell_calc.proofs.Steps.{learn, leave, wait_on, enter}
-use Rattle.cell_calc.proofs.Closing.{found_settled, found_circular, closed_cases, close}
+use Rattle.cell_calc.proofs.Closing.{found_settled, found_circular, is_known_found, closed_cases, close}
 
--- a cell without a formula is only one
-pub only_cell : (content : Content) (one : Cell) (value : Value) → IsCell (Some content) one
-    → IsCell (Some content) (stored value) → one ≡ stored value
-only_cell (Number number) one value is other = is ∙ sym other
-only_cell (Text text) one value is other = is ∙ sym other
-only_cell (Truth truth) one value is other = is ∙ sym other
-only_cell (Formula text) one value is other = absurd (subst IsFormula (sym other.2) tt)
+-- what is stored where a formula stands is a formula
+pub formula_stored : (found : Option Content) (cell : Cell) → IsCell found cell → IsFormula cell → IsStoredFormula found
+formula_stored None cell is formed = subst IsFormula is formed
+formula_stored (Some (Number number)) cell is formed = subst IsFormula is formed
+formula_stored (Some (Text text)) cell is formed = subst IsFormula is formed
+formula_stored (Some (Truth truth)) cell is formed = subst IsFormula is formed
+formula_stored (Some (Formula text)) cell is formed = tt
+
+pub settled_known : (mark : Option Mark) (content : Content) → IsStoredFormula (Some content)
+    → is_settled_by mark content ≡ true → IsKnown mark
+settled_known mark (Number number) formed is = absurd formed
+settled_known mark (Text text) formed is = absurd formed
+settled_known mark (Truth truth) formed is = absurd formed
+settled_known mark (Formula text) formed is = is_known_found mark is
+
+pub formula_is_some : (content : Option Content) → IsStoredFormula content → IsSome content
+formula_is_some None is = absurd is
+formula_is_some (Some content) is = refl
 
 module _ (contents : Contents) where
   pub goes_nowhere : (marks : Place → Option Mark) (path : List Frame) → Goes contents marks path marks path
@@ -83,12 +93,12 @@ module _ (contents : Contents) where
     stay = mark_stays before (place_at frame) (Known value) after marked;
   }
     where
-      right : (book : Book) → AreOf contents book → Holds contents book before (frame ∷ below) → Holds contents book after below
+      right : (book : Book) → AreOf contents book → Holds book before (frame ∷ below) → Holds book after below
       right book are h =
           let wait = h.waits.0 in
           leave contents book are after frame below
-          (learn contents book are before (frame ∷ below) h (place_at frame) value
-          (λ next reads some. elim (wait.covers next reads some) [
+          (learn contents book are before (frame ∷ below) h (place_at frame) value (subst IsFormula (sym wait.is) tt)
+          (λ next reads formed. elim (wait.covers next reads formed) [
             | inl known ↦ known
             | inr (area, has, holds) ↦ absurd (nothing_in area (subst (λ l. Contains l area) none has))
           ])
@@ -106,57 +116,29 @@ module _ (contents : Contents) where
       (subst (λ t. value ≡ value_by before (formula (Some (expression_of t)))) (sym same) is) after
       (subst (λ k. IsMarked before (place_of k) (Known value) after) (sym at) marked)
 
-  -- a cell that reads nothing comes to be known, whatever the path is
-  pub learned : (place : Place) (before : Place → Option Mark) (cell : Cell) (value : Value)
-      → ((named : List ℕ → Option Area) (next : Place) → Reads named cell next → ⊥) → value ≡ value_by before cell
-      → ((book : Book) → AreOf contents book → book.cells place ≡ cell)
-      → (after : Place → Option Mark) → IsMarked before place (Known value) after → Learns contents before after
-  learned place before cell value alone is at after marked = record {
-    goes = λ path. record {
-      right = λ book are h.
-          learn contents book are before path h place value
-          (λ next read some. absurd (alone book.named next (subst (λ c. Reads book.named c next) (at book are) read)))
-          (is ∙ ap (value_by before) (sym (at book are))) after marked;
-      stay = mark_stays before place (Known value) after marked;
-    };
-    still = known_stays before place (Known value) after marked tt;
-  }
-
-  -- a cell that reads nothing is known at once
-  pub known_at_once : (place : Place) (before : Place → Option Mark) (path : List Frame) (cell : Cell) (value : Value)
-      → ((named : List ℕ → Option Area) (next : Place) → Reads named cell next → ⊥) → value ≡ value_by before cell
-      → ((book : Book) → AreOf contents book → book.cells place ≡ cell)
+  -- a formula whose areas hold known formulas alone is known at once
+  pub known_at_once : (place : Place) (before : Place → Option Mark) (path : List Frame) (tree : Option Expression)
+      (value : Value)
+      → ((book : Book) → AreOf contents book → (next : Place) → Reads book.named (formula tree) next
+      → IsStoredFormula (contents.content next) → IsKnown (before next))
+      → value ≡ value_by before (formula tree) → IsTreeAt contents place tree
       → (after : Place → Option Mark) → IsMarked before place (Known value) after
       → Meets contents place before path after path
-  known_at_once place before path cell value alone is at after marked = record {
-    right = λ book are reads h. ((learned place before cell value alone is at after marked).goes path).right book are h;
+  known_at_once place before path tree value settled is at after marked = record {
+    right = λ book are reads h.
+        learn contents book are before path h place value (subst IsFormula (sym (at book are)) tt)
+        (λ next read formed.
+        settled book are next (subst (λ c. Reads book.named c next) (at book are) read)
+        (formula_stored (contents.content next) (book.cells next) (are.cells next) formed))
+        (is ∙ ap (value_by before) (sym (at book are))) after marked;
     stay = mark_stays before place (Known value) after marked;
     met = some_is (after place) (Known value) (here before place (Known value) after marked);
   }
-
-  pub stored_at_once : (place : Place) (before : Place → Option Mark) (path : List Frame) (value : Value)
-      → ((book : Book) → AreOf contents book → book.cells place ≡ stored value)
-      → (after : Place → Option Mark) → IsMarked before place (Known value) after
-      → Meets contents place before path after path
-  stored_at_once place before path value at after marked =
-      known_at_once place before path (stored value) value (λ named next reads. reads) refl at after marked
 
   -- what is stored is that cell
   pub cell_at : (place : Place) (found : Option Content) → contents.content place ≡ found → (book : Book)
       → AreOf contents book → IsCell found (book.cells place)
   cell_at place found is book are = subst (λ o. IsCell o (book.cells place)) is (are.cells place)
-
-  -- what is stored comes to be known
-  pub stored_known : {T E : Type 0} → (place : Place) (before : Place → Option Mark) (path : List Frame) (content : Content)
-      (value : Value) (r : Result T E) → IsCell (Some content) (stored value) → contents.content place ≡ Some content
-      → (after : Place → Option Mark)
-      → ((cell : Cell) → IsCell (Some content) cell → OnOk r (IsKnownAs contents before place cell after))
-      → OnOk r (Meets contents place before path after path)
-  stored_known place before path content value r is at after known =
-      on_ok_weaker r
-      (λ found. known_at_once place before path (stored value) found.0 (λ named next reads. reads) found.1
-      (λ book are. only_cell content (book.cells place) value (cell_at place (Some content) at book are) is) after found.2)
-      (known (stored value) is)
 
   pub tree_at : (place : Place) (text : _) (tree : Option Expression) → contents.content place ≡ Some (Formula text)
       → IsOnly (IsTreeWithin text) tree → IsTreeAt contents place tree
@@ -169,11 +151,23 @@ module _ (contents : Contents) where
       → (after : Place → Option Mark) → IsMarked before place (Known (Error kind.Error)) after
       → Meets contents place before path after path
   treeless_at_once place before path at after marked =
-      known_at_once place before path (formula None) (Error kind.Error) (λ named next reads. reads) refl at after marked
+      known_at_once place before path None (Error kind.Error) (λ book are next reads. absurd reads) refl at after marked
 
   same_areas : (book : Book) → AreOf contents book → (tree : Expression)
       → areas_of contents.named tree ≡ areas_of book.named tree
   same_areas book are tree = ap (λ named. areas_of named tree) (sym (fun_ext are.named))
+
+  -- a formula that waits for none comes to be known
+  pub evaluated : (place : Place) (before : Place → Option Mark) (path : List Frame) (tree : Expression) (areas : List Area)
+      (value : Value) → AreAreasSettled contents before areas → areas ≡ areas_of contents.named tree
+      → value ≡ value_by before (formula (Some tree)) → IsTreeAt contents place (Some tree)
+      → (after : Place → Option Mark) → IsMarked before place (Known value) after
+      → Meets contents place before path after path
+  evaluated place before path tree areas value settled all is at after marked =
+      known_at_once place before path (Some tree) value
+      (λ book are next reads formed.
+      settled reads.0 (subst (λ l. Contains l reads.0) (sym (all ∙ same_areas book are tree)) reads.1) next reads.2 formed)
+      is at after marked
 
   pub entered : (before : Place → Option Mark) (path : List Frame) (frame : Frame)
       → IsTreeAt contents (place_at frame) (Some (expression_of frame.tree)) → before (place_at frame) ≡ None
@@ -200,7 +194,7 @@ module _ (contents : Contents) where
   pub closed : (place : Place) (before : Place → Option Mark) (path : List Frame) → found_by (before place) ≡ Circular
       → (after : Place → Option Mark) → Closes before path after → Meets contents place before path after []
   closed place before path is after closes = record {
-    right = λ book are reads h. close book contents before path h place reads (found_circular (before place) is) after closes;
+    right = λ book are reads h. close book before path h place reads (found_circular (before place) is) after closes;
     stay = stay;
     met = stay place (elim (found_circular (before place) is) [
       | inl waits ↦ some_is (before place) Open waits
@@ -215,21 +209,21 @@ module _ (contents : Contents) where
       ]
 
   -- a formula waits with other areas
-  waits_with : (book : Book) (marks : Place → Option Mark) (whole frame : Frame) → Waits contents book marks whole
+  waits_with : (book : Book) (marks : Place → Option Mark) (whole frame : Frame) → Waits book marks whole
       → place_at frame ≡ place_at whole → frame.tree ≡ whole.tree
       → ((place : Place) → HeldBy frame.rest.items place → HeldBy whole.rest.items place)
-      → ((place : Place) → HeldBy whole.rest.items place → IsSome (contents.content place)
+      → ((place : Place) → HeldBy whole.rest.items place → IsFormula (book.cells place)
       → IsKnown (marks place) ⊎ HeldBy frame.rest.items place)
       → ((key : ℕ × ℕ × ℕ) → Contains frame.noted.items key
       → Reads book.named (book.cells (place_at whole)) (place_of key))
-      → Waits contents book marks frame
+      → Waits book marks frame
   waits_with book marks whole frame wait at tree fewer left notes = record {
     is = same ∙ wait.is ∙ ap (λ t. formula (Some (expression_of t))) (sym tree);
     within = λ place held. subst (λ cell. Reads book.named cell place) (sym same) (wait.within place (fewer place held));
-    covers = λ place reads some.
-        elim (wait.covers place (subst (λ cell. Reads book.named cell place) same reads) some) [
+    covers = λ place reads formed.
+        elim (wait.covers place (subst (λ cell. Reads book.named cell place) same reads) formed) [
           | inl known ↦ inl known
-          | inr held ↦ left place held some
+          | inr held ↦ left place held formed
         ];
     noted = λ key has. subst (λ cell. Reads book.named cell (place_of key)) (sym same) (notes key has);
   }
@@ -260,16 +254,16 @@ module _ (contents : Contents) where
           ]
         ]
 
-    -- the formula waits no more for an area whose cells are known
+    -- the formula waits no more for an area whose formulas are known
     pub dropped : (marks : Place → Option Mark) (below : List Frame) → whole.noted.items ≡ frame.noted.items
-        → ((place : Place) → HoldsPlace area place → IsSome (contents.content place) → IsKnown (marks place))
+        → IsAreaSettled contents marks area
         → Goes contents marks (whole ∷ below) marks (frame ∷ below)
-    dropped marks below noted known = record {
+    dropped marks below noted settled = record {
       right = λ book are h.
           wait_on contents book are marks whole frame below h (ap place_of (sym cut.place))
           (waits_with book marks whole frame h.waits.0 (ap place_of (sym cut.place)) (sym cut.tree) held_more
-          (λ place held some. elim (held_cases place held) [
-            | inl holds ↦ inl (known place holds some)
+          (λ place held formed. elim (held_cases place held) [
+            | inl holds ↦ inl (settled place holds (formula_stored (contents.content place) (book.cells place) (are.cells place) formed))
             | inr left ↦ inr left
           ])
           (λ key has. h.waits.0.noted key (subst (λ l. Contains l key) (sym noted) has)));
@@ -285,7 +279,7 @@ module _ (contents : Contents) where
           wait_on contents book are marks whole next below h at
           (waits_with book marks whole next h.waits.0 at (other.tree ∙ sym cut.tree)
           (λ place held. subst (λ l. HeldBy l place) rest held)
-          (λ place held some. inr (subst (λ l. HeldBy l place) (sym rest) held))
+          (λ place held formed. inr (subst (λ l. HeldBy l place) (sym rest) held))
           (λ key has. h.waits.0.within (place_of key) (held_last (place_of key) (holds key has))));
       stay = λ place some. some;
     }
@@ -300,26 +294,26 @@ module _ (contents : Contents) where
   pub went_on : (whole frame : Frame) (key : ℕ × ℕ × ℕ) → frame.place ≡ whole.place → frame.tree ≡ whole.tree
       → frame.rest.items ≡ whole.rest.items → whole.noted.items ≡ frame.noted.items ++ key ∷ []
       → (before : Place → Option Mark) (below : List Frame) (after : Place → Option Mark) (next : List Frame)
-      → Meets contents (place_of key) before (frame ∷ below) after next → Goes contents before (whole ∷ below) after next
-  went_on whole frame key place tree rest noted before below after next meets = record {
+      → Passes contents (place_of key) before (frame ∷ below) after next → Goes contents before (whole ∷ below) after next
+  went_on whole frame key place tree rest noted before below after next passes = record {
     right = right;
-    stay = meets.stay;
+    stay = passes.stay;
   }
     where
       at : place_at frame ≡ place_at whole
       at = ap place_of place
 
-      right : (book : Book) → AreOf contents book → Holds contents book before (whole ∷ below) → Holds contents book after next
+      right : (book : Book) → AreOf contents book → Holds book before (whole ∷ below) → Holds book after next
       right book are h =
           let wait = waits_with book before whole frame h.waits.0 at tree
           (λ p held. subst (λ l. HeldBy l p) rest held)
-          (λ p held some. inr (subst (λ l. HeldBy l p) (sym rest) held))
+          (λ p held formed. inr (subst (λ l. HeldBy l p) (sym rest) held))
           (λ k has. h.waits.0.noted k
           (subst (λ l. Contains l k) (sym noted) (Contains-append_left frame.noted.items (key ∷ []) k has))) in
           let reads = h.waits.0.noted key
           (subst (λ l. Contains l key) (sym noted)
           (Contains-append_right frame.noted.items (key ∷ []) key (Contains-head key []))) in
-          meets.right book are
+          passes.right book are
           (subst (λ p. Reads book.named (book.cells p) (place_of key)) (sym at) reads)
           (wait_on contents book are before whole frame below h at wait)
 
@@ -335,22 +329,58 @@ module _ (contents : Contents) where
         (wait_on contents book are before whole frame below h (ap place_of place)
         (waits_with book before whole frame h.waits.0 (ap place_of place) tree
         (λ p held. subst (λ l. HeldBy l p) rest held)
-        (λ p held some. inr (subst (λ l. HeldBy l p) (sym rest) held))
+        (λ p held formed. inr (subst (λ l. HeldBy l p) (sym rest) held))
         (λ key has. h.waits.0.noted key (fewer key has))));
     stay = goes.stay;
   }
 
-  -- where each stored cell of an area is known
-  pub all_known : (marks : Place → Option Mark) (area : Area) (places : List (ℕ × ℕ)) → AreStoredPlaces contents area places
-      → ((cell : ℕ × ℕ) → Contains places cell → IsKnown (marks (place_of (area.sheet, cell.0, cell.1))))
-      → (place : Place) → HoldsPlace area place → IsSome (contents.content place) → IsKnown (marks place)
-  all_known marks area places filled known place (sheet, holds) some =
-      let at : place_of (area.sheet, place.row, place.column) ≡ place =
-      ap (λ s. place_of (s, place.row, place.column)) sheet in
-      let has = (filled.exactly place.row place.column).1 (holds, subst (λ p. IsSome (contents.content p)) (sym at) some) in
-      subst (λ p. IsKnown (marks p)) at (known (place.row, place.column) has)
+  -- where each formula in the cells of an area is known
+  module _ (marks : Place → Option Mark) (area : Area) (cells : List StoredCell) (stored : AreStoredCells contents area cells)
+      (settled : AreSettled marks area.sheet cells) where
+    pub all_known : IsAreaSettled contents marks area
+    all_known place holds formed =
+        let at : place_of (area.sheet, place.row, place.column) ≡ place =
+        ap (λ s. place_of (s, place.row, place.column)) holds.0 in
+        let here = subst (λ p. IsStoredFormula (contents.content p)) (sym at) formed in
+        let has = (stored.places.exactly place.row place.column).1
+        (holds.1, formula_is_some (contents.content (place_of (area.sheet, place.row, place.column))) here) in
+        let (cell, among, same) = Contains-map_from cell_place cells (place.row, place.column) has in
+        let there : place_of (area.sheet, cell.row, cell.column) ≡ place_of (area.sheet, place.row, place.column) =
+        ap (λ c. place_of (area.sheet, c.0, c.1)) same in
+        let content = stored.content cell among in
+        let known = settled_known (marks (place_of (area.sheet, cell.row, cell.column))) cell.content.now
+        (subst IsStoredFormula (sym (ap contents.content there) ∙ content) here) (settled cell among) in
+        subst (λ p. IsKnown (marks p)) (there ∙ at) known
 
   -- what is stored in an area lies in it
   pub held_place : (area : Area) (places : List (ℕ × ℕ)) → AreStoredPlaces contents area places
       → (key : ℕ × ℕ × ℕ) → key.0 ≡ area.sheet → Contains places (key.1, key.2) → HoldsPlace area (place_of key)
   held_place area places filled key sheet has = (sym sheet, ((filled.exactly key.1 key.2).0 has).0)
+
+  -- a formula that is met is passed
+  pub passed : (place : Place) (before : Place → Option Mark) (path : List Frame) (after : Place → Option Mark)
+      (next : List Frame) → Meets contents place before path after next → Passes contents place before path after next
+  passed place before path after next meets = record { right = meets.right; stay = meets.stay }
+
+  -- a cell without a formula is passed
+  pub passed_over : (place : Place) (marks : Place → Option Mark) (path : List Frame)
+      → Passes contents place marks path marks path
+  passed_over place marks path = record { right = λ book are reads h. h; stay = λ other some. some }
+
+  -- a formula that was put on the path waits there
+  pub entered_by : (before : Place → Option Mark) (path : List Frame) (key : ℕ × ℕ × ℕ) (tree : Tree)
+      → IsTreeAt contents (place_of key) (Some (expression_of tree)) → before (place_of key) ≡ None
+      → {areas : List Area} → areas ≡ areas_of contents.named (expression_of tree)
+      → (after : Place → Option Mark) (next : List Frame)
+      → (frame : Frame) × (frame.place ≡ key) × (frame.tree ≡ tree) × (frame.rest.items ≡ areas) × (frame.noted.items ≡ [])
+      × IsMarked before (place_of key) Open after × (next ≡ frame ∷ path)
+      → Meets contents (place_of key) before path after next
+  entered_by before path key tree at none all after next (frame, place, same, rest, noted, marked, put) =
+      subst (λ k. Meets contents (place_of k) before path after next) place
+      (subst (Meets contents (place_at frame) before path after) (sym put)
+      (entered before path frame
+      (subst (λ k. IsTreeAt contents (place_of k) (Some (expression_of frame.tree))) (sym place)
+      (subst (λ t. IsTreeAt contents (place_of key) (Some (expression_of t))) (sym same) at))
+      (subst (λ k. before (place_of k) ≡ None) (sym place) none)
+      (rest ∙ all ∙ ap (λ t. areas_of contents.named (expression_of t)) (sym same)) noted after
+      (subst (λ k. IsMarked before (place_of k) Open after) (sym place) marked)))

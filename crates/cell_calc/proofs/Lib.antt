@@ -16,6 +16,7 @@ pub mod OneAnswer
 pub mod TreesWithin
 pub mod Stored
 pub mod OneValue
+pub mod EachValue
 pub mod Depth
 pub mod Marking
 pub mod Steps

@@ -30,7 +30,7 @@ use Rattle.cell_calc.proofs.Marking.{same_place, is_itself}
 use Rattle.cell_calc.proofs.Rectangle.{by_row, cells_have, range_has}
 
 -- it can't be that there is none
-abbrev NotNone : Type 0 → Type 0
+abbrev pub NotNone : Type 0 → Type 0
 NotNone A = (A → ⊥) → ⊥
 
 -- a cell that is a formula is stored
@@ -141,7 +141,7 @@ module _ (contents : Contents) (one : HasOneTree) where
         subst (λ o. IsCell o (cells place)) is
         (are place (stored_among place (subst IsSome (sym is) refl)))
 
-    some_book : NotNone ((book : Book) × AreOf contents book)
+    pub some_book : NotNone ((book : Book) × AreOf contents book)
     some_book none = some_cells (all_places contents.sheets) (λ (cells, are).
         none (
           record {
@@ -230,7 +230,7 @@ module _ (contents : Contents) (one : HasOneTree) where
       formula_among place is =
           stored_among place (some_stored (contents.content place) (book.cells place) (are.cells place) is)
 
-      formulas_of : (listed : List Place) × AreFormulas book listed
+      pub formulas_of : (listed : List Place) × AreFormulas book listed
       formulas_of =
           let (listed, l) = all_listed (all_places contents.sheets) in (
             listed,

@@ -12,7 +12,7 @@ use Rattle.cell_calc.specs.declared.functions.gathering.Taking.TheVariants.{Numb
 use Rattle.cell_calc.specs.Arguments.{Given, error_given}
 use Rattle.cell_calc.specs.GatheringFunctions.{values_taken, all_good, gathered}
 use Rattle.cell_calc.specs.Outcome.{leftmost, error_or}
-use Rattle.cell_calc.specs.Lent.{filled_from, place_and_value, StandsFor, StandFor}
+use Rattle.cell_calc.specs.Lent.{filled_from, place_and_value, StandsFor, StandFor, value_held}
 use Rattle.cell_calc.specs.Taken.{is_taken, cell_taken, taken_of, all_taken, error_lent}
 
 -- a test that blank doesn't pass leaves the same of cells and of those that hold something
@@ -42,10 +42,10 @@ cells_filter : (taking : Taking) (cells : List FilledCell)
     → flat_map (cell_taken taking) cells ≡ filter (is_taken taking) (map (λ p. p.1) (map place_and_value cells))
 cells_filter taking [] = refl
 cells_filter taking (cell ∷ cells) =
-    elim (is_taken taking cell.value.now) as (λ b. cond b (cell.value.now ∷ []) [] ++ flat_map (cell_taken taking) cells
-    ≡ cond b (cell.value.now ∷ filter (is_taken taking) (map (λ p. p.1) (map place_and_value cells)))
+    elim (is_taken taking (value_held cell.value)) as (λ b. cond b (value_held cell.value ∷ []) [] ++ flat_map (cell_taken taking) cells
+    ≡ cond b (value_held cell.value ∷ filter (is_taken taking) (map (λ p. p.1) (map place_and_value cells)))
     (filter (is_taken taking) (map (λ p. p.1) (map place_and_value cells)))) [
-      | true ↦ ap (λ l. cell.value.now ∷ l) (cells_filter taking cells)
+      | true ↦ ap (λ l. value_held cell.value ∷ l) (cells_filter taking cells)
       | false ↦ cells_filter taking cells
     ]
 

@@ -1,6 +1,6 @@
 -- A spreadsheet by what is stored in it, and the cells that its formulas read (Google Sheets API v4 reference,
 -- Spreadsheet, SheetProperties, CellData, `userEnteredValue`, and NamedRange).
-use Rattle.std.specs.Prelude.{◌≡◌, ◌≢◌, ◌↔◌, ℕ, ◌<◌, ⊤, List, Contains, Option, Some, None, unwrap_or, IfSome, IsSomeAnd}
+use Rattle.std.specs.Prelude.{◌≡◌, ◌≢◌, ◌↔◌, ℕ, ◌<◌, ⊤, List, Contains, map, Option, Some, None, unwrap_or, IfSome, IsSomeAnd}
 use Rattle.std.specs.Option.{IsSome}
 use Rattle.std.specs.List.{All, AllPairs}
 use Rattle.std.specs.List.Sorted.{IsStrictlySortedBy}
@@ -15,6 +15,7 @@ use Rattle.ref_rewrite.specs.declared.pieces.Piece.TheVariants as piece
 use Rattle.formula_reader.specs.Tree.{Expression}
 use Rattle.formula_reader.specs.Only.{IsOnly}
 use Rattle.formula_reader.specs.Symbols.{IsTreeOf, KeepsLimits}
+use Rattle.cell_calc.specs.declared.cells.StoredCell.{StoredCell}
 use Rattle.cell_calc.specs.Book.{Book, Place, Cell, stored, formula}
 
 -- the ids of the sheets, how many rows and columns a sheet has, what is stored in a place, and the area of the
@@ -63,6 +64,27 @@ pub record AreStoredPlaces (contents : Contents) (area : Area) (places : List (�
   pub exactly : (row column : ℕ) → Contains places (row, column)
       ↔ (Holds area row column
       × IsSome (contents.content (record { sheet = area.sheet; row = row; column = column })))
+
+abbrev pub cell_place : StoredCell → ℕ × ℕ
+cell_place cell = (cell.row, cell.column)
+
+-- in each of these cells of the sheet that is stored which it has
+abbrev pub AreOnSheet : Contents → ℕ → List StoredCell → Type 0
+AreOnSheet contents sheet cells = (cell : StoredCell) → Contains cells cell
+    → contents.content (record { sheet = sheet; row = cell.row; column = cell.column }) ≡ Some cell.content.now
+
+-- these are the cells of the area in which something is stored, by rows, each with what is stored there
+pub record AreStoredCells (contents : Contents) (area : Area) (cells : List StoredCell) : Type 0 where
+  pub places : AreStoredPlaces contents area (map cell_place cells)
+  pub content : AreOnSheet contents area.sheet cells
+
+-- a formula is stored
+abbrev pub IsStoredFormula : Option Content → Type 0
+IsStoredFormula None = ⊥
+IsStoredFormula (Some (Number number)) = ⊥
+IsStoredFormula (Some (Text text)) = ⊥
+IsStoredFormula (Some (Truth truth)) = ⊥
+IsStoredFormula (Some (Formula text)) = ⊤
 
 -- the formula has that tree, and passes no limit of reading; a formula that passes one has no tree
 abbrev pub IsTreeWithin : StoredFormula → Expression → Type 0

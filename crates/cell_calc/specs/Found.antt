@@ -6,14 +6,15 @@ use Rattle.cell_value.specs.declared.cell.Value.TheVariants.{Blank}
 use Rattle.cell_calc.specs.declared.arguments.FilledCell.{FilledCell}
 use Rattle.cell_calc.specs.LookUpFunctions.{is_match}
 use Rattle.cell_calc.specs.GatheringFunctions.{is_number_or_error}
+use Rattle.cell_calc.specs.Lent.{value_held}
 
 -- the value in a place, blank where no cell has it
 abbrev pub value_in_place : ℕ → List FilledCell → Value
 value_in_place place [] = Blank
-value_in_place place (cell ∷ later) = if cell.place == place then cell.value.now else value_in_place place later
+value_in_place place (cell ∷ later) = if cell.place == place then value_held cell.value else value_in_place place later
 
 abbrev pub is_matching : Value → FilledCell → Bool
-is_matching key cell = is_match key cell.value.now
+is_matching key cell = is_match key (value_held cell.value)
 
 -- the place of the first cell that matches, counted from 0
 abbrev pub first_match : Value → List FilledCell → Option ℕ
@@ -26,4 +27,4 @@ matches_in key cells place = list_any (λ cell. cell.place == place && is_matchi
 
 -- the value of a cell that is a number or an error, if its place passes
 abbrev pub value_if : (ℕ → Bool) → FilledCell → List Value
-value_if test cell = if test cell.place && is_number_or_error cell.value.now then cell.value.now ∷ [] else []
+value_if test cell = if test cell.place && is_number_or_error (value_held cell.value) then value_held cell.value ∷ [] else []

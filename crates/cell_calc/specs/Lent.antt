@@ -7,6 +7,8 @@ use Rattle.cell_calc.specs.declared.arguments.Argument.{Argument}
 use Rattle.cell_calc.specs.declared.arguments.Argument.TheVariants.{Single, Area}
 use Rattle.cell_calc.specs.declared.arguments.AreaCells.{AreaCells}
 use Rattle.cell_calc.specs.declared.arguments.FilledCell.{FilledCell}
+use Rattle.cell_calc.specs.declared.arguments.HeldValue.{HeldValue}
+use Rattle.cell_calc.specs.declared.arguments.HeldValue.TheVariants.{Lent, Own}
 use Rattle.cell_calc.specs.LogicFunctions.{is_blank}
 use Rattle.cell_calc.specs.Arguments.{Cells, Given, single, area}
 
@@ -16,8 +18,13 @@ filled_from place [] = []
 filled_from place (value ∷ later) =
     if is_blank value then filled_from (suc place) later else (place, value) ∷ filled_from (suc place) later
 
+-- the value that a cell holds
+abbrev pub value_held : HeldValue → Value
+value_held (Lent value) = value.now
+value_held (Own value) = value
+
 abbrev pub place_and_value : FilledCell → ℕ × Value
-place_and_value cell = (cell.place, cell.value.now)
+place_and_value cell = (cell.place, value_held cell.value)
 
 pub record AreCells (lent : AreaCells) (cells : Cells) : Type 0 where
   pub rows : lent.rows ≡ cells.rows

@@ -1,5 +1,5 @@
 -- What is known of the values of cells while they are calculated: of each place a mark, where it has one.
-use Rattle.std.specs.Prelude.{◌≡◌, ℕ, ⊤, Bool, ◌==◌, ◌&&◌, cond, Option, Some, None}
+use Rattle.std.specs.Prelude.{◌≡◌, ℕ, ⊤, Bool, true, false, ◌==◌, ◌&&◌, cond, Option, Some, None}
 use Rattle.std.specs.HashMap.{get}
 use Rattle.cell_value.specs.declared.cell.Kind.TheVariants as kind
 use Rattle.cell_value.specs.declared.cell.Value.{Value}
@@ -46,6 +46,13 @@ IsKnown None = ⊥
 IsKnown (Some Open) = ⊥
 IsKnown (Some Endless) = ⊥
 IsKnown (Some (Known value)) = ⊤
+
+-- whether it is known
+abbrev pub is_known : Option Mark → Bool
+is_known None = false
+is_known (Some Open) = false
+is_known (Some Endless) = false
+is_known (Some (Known value)) = true
 
 -- the values that a table tells
 abbrev pub values_of : Table → Place → Option Value

@@ -11,6 +11,7 @@ use Rattle.cell_calc.specs.declared.functions.gathering.Taking.{Taking}
 use Rattle.cell_calc.specs.declared.functions.gathering.Taking.TheVariants.{Numbers, NumbersAndErrors, TruthsAndErrors, Filled}
 use Rattle.cell_calc.specs.LogicFunctions.{is_number}
 use Rattle.cell_calc.specs.GatheringFunctions.{is_number_or_error, is_truth_or_error, is_filled}
+use Rattle.cell_calc.specs.Lent.{value_held}
 
 abbrev pub is_taken : Taking → Value → Bool
 is_taken Numbers = is_number
@@ -20,7 +21,7 @@ is_taken Filled = is_filled
 
 -- the value of a cell that holds something, if it is taken
 abbrev pub cell_taken : Taking → FilledCell → List Value
-cell_taken taking cell = if is_taken taking cell.value.now then cell.value.now ∷ [] else []
+cell_taken taking cell = if is_taken taking (value_held cell.value) then value_held cell.value ∷ [] else []
 
 -- the values of an argument: itself, or the cells that are taken
 abbrev pub taken_of : Taking → Argument → List Value

@@ -1,20 +1,21 @@
 -- The walk that finds values: a path of formulas, each of which waits for cells that it reads, the first one above
 -- the others.
-use Rattle.std.specs.Prelude.{◌≡◌, ◌≢◌, ◌⊎◌, ℕ, ⊤, List, [], ◌∷◌, ◌++◌, Contains, Option, Some}
+use Rattle.std.specs.Prelude.{◌≡◌, ◌≢◌, ◌⊎◌, ℕ, ⊤, Bool, true, List, [], ◌∷◌, ◌++◌, Contains, map, Option, Some}
 use Rattle.std.specs.Option.{IsSome}
 use Rattle.std.specs.List.{AllByRecursion}
 use Rattle.cell_value.specs.declared.cell.Value.{Value}
+use Rattle.ref_rewrite.specs.declared.cell_content.Content.{Content}
+use Rattle.ref_rewrite.specs.declared.cell_content.Content.TheVariants as content
 use Rattle.grid_range.specs.declared.area.Area.{Area}
 use Rattle.formula_reader.specs.Tree.{Expression, expression_of}
+use Rattle.cell_calc.specs.declared.cells.StoredCell.{StoredCell}
 use Rattle.cell_calc.specs.declared.mark.Mark.{Mark}
 use Rattle.cell_calc.specs.declared.mark.Mark.TheVariants.{Open, Endless, Known}
 use Rattle.cell_calc.specs.declared.walk.Frame.{Frame}
-use Rattle.cell_calc.specs.Book.{Book, Place, Cell, formula, HoldsPlace}
-use Rattle.cell_calc.specs.Contents.{Contents, AreOf}
+use Rattle.cell_calc.specs.Book.{Book, Place, formula, IsFormula, HoldsPlace}
+use Rattle.cell_calc.specs.Contents.{Contents, AreOf, IsStoredFormula, cell_place}
 use Rattle.cell_calc.specs.CellValue.{Reads, Walks, value_in}
-use Rattle.cell_calc.specs.FormulaValue.{value_of_cell}
-use Rattle.cell_calc.specs.Known.{book_read, value_read}
-use Rattle.cell_calc.specs.Marks.{place_of, value_told, IsMarked, IsKnown}
+use Rattle.cell_calc.specs.Marks.{place_of, is_known, IsMarked, IsKnown}
 
 -- one of the areas holds the place
 abbrev pub HeldBy : List Area → Place → Type 0
@@ -29,12 +30,12 @@ OnPath [] place = ⊥
 OnPath (frame ∷ below) place = (place_at frame ≡ place) ⊎ OnPath below place
 
 -- a formula waits with the areas that it has left: it reads the cells that they hold, and those that it noted, and
--- what else it reads of what is stored is known
-pub record Waits (contents : Contents) (book : Book) (marks : Place → Option Mark) (frame : Frame) : Type 0 where
+-- the other formulas that it reads are known
+pub record Waits (book : Book) (marks : Place → Option Mark) (frame : Frame) : Type 0 where
   pub is : book.cells (place_at frame) ≡ formula (Some (expression_of frame.tree))
   pub within : (place : Place) → HeldBy frame.rest.items place → Reads book.named (book.cells (place_at frame)) place
   pub covers : (place : Place) → Reads book.named (book.cells (place_at frame)) place
-      → IsSome (contents.content place) → IsKnown (marks place) ⊎ HeldBy frame.rest.items place
+      → IsFormula (book.cells place) → IsKnown (marks place) ⊎ HeldBy frame.rest.items place
   pub noted : (key : ℕ × ℕ × ℕ) → Contains frame.noted.items key
       → Reads book.named (book.cells (place_at frame)) (place_of key)
 
@@ -48,15 +49,16 @@ abbrev pub IsLinked : Book → List Frame → Type 0
 IsLinked book [] = ⊤
 IsLinked book (frame ∷ below) = IsReadBy book below (place_at frame) × IsLinked book below
 
--- the marks are right, and so is the path. No walk of so many steps starts at a known cell
-pub record Holds (contents : Contents) (book : Book) (marks : Place → Option Mark) (path : List Frame) : Type 0 where
+-- the marks are right and of formulas alone, and the path is right. No walk of so many steps starts at a known cell
+pub record Holds (book : Book) (marks : Place → Option Mark) (path : List Frame) : Type 0 where
   pub depth : ℕ
+  pub formulas : (place : Place) → IsSome (marks place) → IsFormula (book.cells place)
   pub known : (place : Place) (value : Value) → marks place ≡ Some (Known value)
       → (Walks book depth place → ⊥) × (value_in book depth place ≡ value)
   pub endless : (place : Place) → marks place ≡ Some Endless → (steps : ℕ) → Walks book steps place
   pub opened : (place : Place) → marks place ≡ Some Open → OnPath path place
   pub linked : IsLinked book path
-  pub waits : AllByRecursion (Waits contents book marks) path
+  pub waits : AllByRecursion (Waits book marks) path
 
 -- what has a mark keeps one
 abbrev pub Stay : (Place → Option Mark) → (Place → Option Mark) → Type 0
@@ -65,14 +67,21 @@ Stay before after = (place : Place) → IsSome (before place) → IsSome (after 
 -- marks and a path that are right come to others that are right, whatever spreadsheet is stored
 pub record Goes (contents : Contents) (before : Place → Option Mark) (path : List Frame)
     (after : Place → Option Mark) (next : List Frame) : Type 0 where
-  pub right : (book : Book) → AreOf contents book → Holds contents book before path → Holds contents book after next
+  pub right : (book : Book) → AreOf contents book → Holds book before path → Holds book after next
   pub stay : Stay before after
 
--- the same where the path's first formula reads a place, which then has a mark
+-- the same where the path's first formula reads a place
+pub record Passes (contents : Contents) (place : Place) (before : Place → Option Mark) (path : List Frame)
+    (after : Place → Option Mark) (next : List Frame) : Type 0 where
+  pub right : (book : Book) → AreOf contents book → IsReadBy book path place → Holds book before path
+      → Holds book after next
+  pub stay : Stay before after
+
+-- and where the place then has a mark
 pub record Meets (contents : Contents) (place : Place) (before : Place → Option Mark) (path : List Frame)
     (after : Place → Option Mark) (next : List Frame) : Type 0 where
-  pub right : (book : Book) → AreOf contents book → IsReadBy book path place → Holds contents book before path
-      → Holds contents book after next
+  pub right : (book : Book) → AreOf contents book → IsReadBy book path place → Holds book before path
+      → Holds book after next
   pub stay : Stay before after
   pub met : IsSome (after place)
 
@@ -92,32 +101,41 @@ pub record IsCut (whole frame : Frame) (area : Area) : Type 0 where
 abbrev pub IsTreeAt : Contents → Place → Option Expression → Type 0
 IsTreeAt contents place tree = (book : Book) → AreOf contents book → book.cells place ≡ formula tree
 
--- the place has the value of the cell by what was known
-abbrev pub IsKnownAs : Contents → (Place → Option Mark) → Place → Cell → (Place → Option Mark) → Type 0
-IsKnownAs contents before place cell after =
-    (value : Value)
-    × (value ≡ value_of_cell (book_read contents (λ other. value_told (before other)))
-    (value_read contents (λ other. value_told (before other))) cell)
-    × IsMarked before place (Known value) after
-
 -- a place is noted behind others, or there is no room for it among them
 abbrev pub IsNoted : ℕ × ℕ × ℕ → List (ℕ × ℕ × ℕ) → List (ℕ × ℕ × ℕ) → Type 0
 IsNoted key before after = (after ≡ before ++ key ∷ []) ⊎ ((after ≢ []) × (after ≡ before))
 
--- marks come to others, whatever the path is, and what was known stays known
-pub record Learns (contents : Contents) (before after : Place → Option Mark) : Type 0 where
-  pub goes : (path : List Frame) → Goes contents before path after path
-  pub still : (place : Place) → IsKnown (before place) → IsKnown (after place)
+-- what is stored is no formula, or one whose mark tells that it is known
+abbrev pub is_settled_by : Option Mark → Content → Bool
+is_settled_by mark (content.Number number) = true
+is_settled_by mark (content.Text text) = true
+is_settled_by mark (content.Truth truth) = true
+is_settled_by mark (content.Formula text) = is_known mark
 
--- a cell comes to be known, or is noted
-pub record LooksAt (contents : Contents) (key : ℕ × ℕ × ℕ) (before : Place → Option Mark) (noted : List (ℕ × ℕ × ℕ))
-    (after : Place → Option Mark) (next : List (ℕ × ℕ × ℕ)) : Type 0 where
-  pub learns : Learns contents before after
-  pub met : (IsKnown (after (place_of key)) × (next ≡ noted)) ⊎ IsNoted key noted next
+-- a cell of the sheet has no formula, or one that is known
+abbrev pub is_settled : (Place → Option Mark) → ℕ → StoredCell → Bool
+is_settled marks sheet cell = is_settled_by (marks (place_of (sheet, cell.row, cell.column))) cell.content.now
 
--- of cells of a sheet some are noted; if none is, those in these first rows and columns are known
-pub record Notes (contents : Contents) (sheet : ℕ) (cells first : List (ℕ × ℕ)) (before : Place → Option Mark)
-    (noted : List (ℕ × ℕ × ℕ)) (after : Place → Option Mark) : Type 0 where
-  pub learns : Learns contents before after
-  pub known : noted ≡ [] → (cell : ℕ × ℕ) → Contains first cell → IsKnown (after (place_of (sheet, cell.0, cell.1)))
-  pub among : (key : ℕ × ℕ × ℕ) → Contains noted key → (key.0 ≡ sheet) × Contains cells (key.1, key.2)
+-- all of these cells of the sheet
+abbrev pub AreSettled : (Place → Option Mark) → ℕ → List StoredCell → Type 0
+AreSettled marks sheet cells = (cell : StoredCell) → Contains cells cell → is_settled marks sheet cell ≡ true
+
+-- the formulas that the area holds are known
+abbrev pub IsAreaSettled : Contents → (Place → Option Mark) → Area → Type 0
+IsAreaSettled contents marks area =
+    (place : Place) → HoldsPlace area place → IsStoredFormula (contents.content place) → IsKnown (marks place)
+
+-- and those that all areas hold
+abbrev pub AreAreasSettled : Contents → (Place → Option Mark) → List Area → Type 0
+AreAreasSettled contents marks areas = (area : Area) → Contains areas area → IsAreaSettled contents marks area
+
+-- a cell of a sheet is settled, or is noted
+abbrev pub LooksAt : (Place → Option Mark) → ℕ → StoredCell → List (ℕ × ℕ × ℕ) → List (ℕ × ℕ × ℕ) → Type 0
+LooksAt marks sheet cell noted next =
+    ((is_settled marks sheet cell ≡ true) × (next ≡ noted)) ⊎ IsNoted (sheet, cell.row, cell.column) noted next
+
+-- of cells of a sheet some are noted; if none is, the first ones are settled
+pub record Notes (marks : Place → Option Mark) (sheet : ℕ) (cells first : List StoredCell) (noted : List (ℕ × ℕ × ℕ)) : Type 0 where
+  pub settled : noted ≡ [] → AreSettled marks sheet first
+  pub among : (key : ℕ × ℕ × ℕ) → Contains noted key
+      → (key.0 ≡ sheet) × Contains (map cell_place cells) (key.1, key.2)

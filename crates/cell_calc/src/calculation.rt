@@ -1,13 +1,14 @@
-ghost use Rattle.std.specs.Prelude.{◌≡◌, ◌↔◌, List, [], ◌∷◌, map, IfOk, OnOk, IsTrue};
-ghost use Rattle.std.specs.Option.{IsSome, option_copied};
+ghost use Rattle.std.specs.Prelude.{◌≡◌, List, [], ◌∷◌, Some, map, IfOk, OnOk};
+ghost use Rattle.std.specs.Option.{IsSome};
 ghost use Rattle.grid_range.specs.declared.area.Area.{Area};
-ghost use Rattle.cell_calc.specs.Calculated.{AreValues, AreAllValues, IsTableOf, Calculates, SettlesAll, IsStoredFormula, whole_sheet};
+ghost use Rattle.cell_calc.specs.Calculated.{AreValues, AreAllValues, IsTableOf, Calculates, SettlesAll, whole_sheet};
+ghost use Rattle.cell_calc.specs.Contents.{AreOnSheet, IsStoredFormula};
 ghost use Rattle.cell_calc.specs.Marks.{place_of, marks_of, values_of};
 ghost use Rattle.cell_calc.specs.Walk.{Goes};
 
-use crate::cells::CellsOf;
+use crate::cells::{CellsOf, StoredCell};
 use crate::mark::Key;
-use crate::stored_places::stored_places;
+use crate::stored_cells::stored_cells;
 use crate::table::Table;
 use crate::walk::settle;
 use cell_value::NoMemory;
@@ -15,7 +16,7 @@ use grid_range::{Area, Band};
 use ref_rewrite::Content;
 use std::alloc::Global;
 
-/// The values of all formulas of a spreadsheet, and of the cells that they read.
+/// The values of all formulas of a spreadsheet, and of no other cells.
 ///
 /// # Errors
 ///
@@ -51,8 +52,8 @@ fn whole_sheet(sheet: u32) -> Area
     }
 }
 
-/// The values of the formulas in the areas, and of the cells that they read and those that these read, each
-/// calculated once. A formula from which walks over formulas that it reads have no end is
+/// The values of the formulas in the areas, and of those that they read and those that these read, each calculated
+/// once, and of no other cells. A formula from which walks over formulas that it reads have no end is
 /// [`Kind::Ref`](cell_value::Kind::Ref), and one without a tree [`Kind::Error`](cell_value::Kind::Error).
 ///
 /// # Errors
@@ -103,8 +104,8 @@ fn calculate_area<C: CellsOf>(
 ) -> Result<(), NoMemory>
     ensures { OnOk result (Calculates (C.contents cells.now) area.now (marks_of table.old) (marks_of table.new)) }
 {
-    let places = stored_places(alloc, cells, area)?;
-    settle_all(alloc, cells, table, area.sheet, places.as_slice())
+    let stored = stored_cells(alloc, cells, area)?;
+    settle_all(alloc, cells, table, area.sheet, stored.as_slice())
 }
 
 /// Comes to know the values of the formulas in these cells of the sheet.
@@ -113,40 +114,38 @@ fn settle_all<C: CellsOf>(
     cells: &C,
     table: &mut Table,
     sheet: u32,
-    places: &[(u32, u32)],
+    stored: &[StoredCell<'_>],
 ) -> Result<(), NoMemory>
-    ensures { OnOk result (SettlesAll (C.contents cells.now) sheet places.now (marks_of table.old)
+    requires { AreOnSheet (C.contents cells.now) sheet stored.now }
+    ensures { OnOk result (SettlesAll (C.contents cells.now) sheet stored.now (marks_of table.old)
         (marks_of table.new)) }
 {
-    for cell in places {
-        settle_formula(alloc, cells, table, (sheet, cell.0, cell.1))?;
+    for cell in stored {
+        settle_content(
+            alloc,
+            cells,
+            table,
+            (sheet, cell.row, cell.column),
+            cell.content,
+        )?;
     }
     Ok(())
 }
 
 /// Comes to know the value of a cell, if it is a formula.
-fn settle_formula<C: CellsOf>(
+fn settle_content<C: CellsOf>(
     alloc: Global,
     cells: &C,
     table: &mut Table,
     place: Key,
+    content: &Content,
 ) -> Result<(), NoMemory>
+    requires { (C.contents cells.now).content (place_of place) ≡ Some content.now }
     ensures goes { OnOk result (Goes (C.contents cells.now) (marks_of table.old) [] (marks_of table.new) []) }
-    ensures met { OnOk result (IsStoredFormula ((C.contents cells.now).content (place_of place))
-        → IsSome (marks_of table.new (place_of place))) }
-{
-    if is_formula(cells.content(place.0, place.1, place.2)) {
-        settle(alloc, cells, table, place)
-    } else {
-        Ok(())
-    }
-}
-
-fn is_formula(content: Option<&Content>) -> bool
-    ensures { IsTrue result ↔ IsStoredFormula (option_copied content.entry) }
+    ensures met { OnOk result (IsStoredFormula (Some content.now) → IsSome (marks_of table.new (place_of place))) }
 {
     match content {
-        Some(content) => matches!(content, Content::Formula(_)),
-        None => false,
+        Content::Formula(text) => settle(alloc, cells, table, place, text),
+        Content::Number(_) | Content::Text(_) | Content::Truth(_) => Ok(()),
     }
 }

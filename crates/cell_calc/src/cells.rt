@@ -1,10 +1,22 @@
 ghost use Rattle.std.specs.Prelude.{◌≡◌, IfOk};
 ghost use Rattle.std.specs.Option.{option_copied};
-ghost use Rattle.cell_calc.specs.Contents.{Contents, AreSound, AreStoredPlaces};
+ghost use Rattle.cell_calc.specs.Contents.{Contents, AreSound, AreStoredCells};
 
 use cell_value::{Items, NoMemory};
 use grid_range::Area;
 use ref_rewrite::Content;
+use std::alloc::Global;
+
+/// A cell of a sheet in which something is stored.
+#[derive(Clone, Copy)]
+pub struct StoredCell<'a> {
+    /// Its row, counted from 0.
+    pub row: u32,
+    /// Its column, counted from 0.
+    pub column: u32,
+    /// What is stored there, lent.
+    pub content: &'a Content,
+}
 
 /// The cells of a spreadsheet, as they are stored (Google Sheets API v4 reference, Spreadsheet, CellData,
 /// `userEnteredValue`). Lines are counted from 0.
@@ -25,13 +37,13 @@ pub trait CellsOf {
         ensures { option_copied result
             ≡ (contents self.now).content (record { sheet = sheet; row = row; column = column }) };
 
-    /// The rows and columns of the area's places where something is stored, by rows.
+    /// The cells of the area in which something is stored, by rows, with what is stored there, lent.
     ///
     /// # Errors
     ///
     /// [`NoMemory`] where memory runs out.
-    fn places(&self, area: &Area) -> Result<Items<(u32, u32)>, NoMemory>
-        ensures { IfOk result (AreStoredPlaces (contents self.now) area.now) };
+    fn cells(&self, alloc: Global, area: &Area) -> Result<Vec<StoredCell<'_>>, NoMemory>
+        ensures { IfOk result (λ cells. AreStoredCells (contents self.now) area.now cells.items) };
 
     /// The area of the named range that the word names; None where it names none.
     fn name(&self, word: &str) -> Option<Area>

@@ -28,7 +28,10 @@ pub fn value_of_tree<R: CellReader>(
     ensures { IfOk result (λ value. value ≡
         value_of (given_by (R.book reader.now) (R.read reader.now) (expression_of tree.now))) }
 {
-    value_alone(given(alloc, reader, tree)?)
+    match tree {
+        Tree::Ref(area) => reader.value_alone(alloc, area),
+        _ => value_alone(given(alloc, reader, tree)?),
+    }
 }
 
 /// What the tree gives to a function, whose argument it is.

@@ -1,18 +1,20 @@
-ghost use Rattle.std.specs.Prelude.{◌≡◌, ◌+◌, ◌-◌, ◌*◌, ◌++◌, IfOk, OnOk, Option, map, flat_map};
+ghost use Rattle.std.specs.Prelude.{◌≡◌, ◌+◌, ◌-◌, ◌*◌, ◌++◌, IfOk, OnOk, Option, Some, map, flat_map, unwrap_or};
 ghost use Rattle.std.specs.Option.{option_copied};
 ghost use Rattle.cell_value.specs.declared.cell.Value.{Value};
+ghost use Rattle.cell_value.specs.declared.cell.Value.TheVariants.{Blank};
 ghost use Rattle.grid_range.specs.Band.{first_line, end_line};
 ghost use Rattle.cell_calc.specs.Book.{Place};
-ghost use Rattle.cell_calc.specs.Lent.{place_and_value};
-ghost use Rattle.cell_calc.specs.Known.{book_read, cell_known, filled_at, place_among, value_read};
+ghost use Rattle.cell_calc.specs.Lent.{place_and_value, value_held};
+ghost use Rattle.cell_calc.specs.Known.{book_read, cell_read, filled_at, place_among, value_known, value_read, value_stored};
 
-use crate::arguments::{AreaCells, FilledCell};
-use crate::cells::CellsOf;
-use crate::functions::is_blank;
+use crate::arguments::{AreaCells, FilledCell, HeldValue};
+use crate::cells::{CellsOf, StoredCell};
+use crate::functions::{is_blank, value_of_cells};
 use crate::reader::CellReader;
-use crate::stored_places::stored_places;
-use cell_value::{NoMemory, Value};
+use crate::stored_cells::{only_cell, stored_cells};
+use cell_value::{Duplicate, NoMemory, Value};
 use grid_range::{Area, Band};
+use ref_rewrite::Content;
 use std::alloc::Global;
 
 /// Values by their places.
@@ -44,13 +46,20 @@ impl<'a, C: CellsOf, V: ValuesOf> CellReader for KnownCells<'a, C, V> {
         self.cells.stay_sound();
         let (rows, columns) = self.cells.size(area.sheet).unwrap_or((0, 0));
         let columns = line_count(area.cols, columns);
-        let places = stored_places(alloc, self.cells, area)?;
-        let filled = filled_cells(alloc, self.values, area, columns, places.as_slice())?;
+        let stored = stored_cells(alloc, self.cells, area)?;
+        let filled = filled_cells(alloc, self.values, area, columns, stored.as_slice())?;
         Ok(AreaCells {
             rows: line_count(area.rows, rows),
             columns,
             filled,
         })
+    }
+
+    fn value_alone(&self, alloc: Global, area: &Area) -> Result<Value, NoMemory> {
+        match only_cell(area) {
+            Some((row, column)) => value_at(self.cells, self.values, area.sheet, row, column),
+            None => value_of_cells(&self.cells(alloc, area)?),
+        }
     }
 
     fn named(&self, word: &str) -> Option<Area> {
@@ -65,39 +74,92 @@ fn line_count(band: Band, count: u32) -> u32
     band.end_line(count).saturating_sub(band.first_line())
 }
 
-/// The cells in these rows and columns of the area's sheet whose values are known and aren't blank, with their
-/// places among the cells of the area.
+/// Those of the cells of the area's sheet whose values are known and aren't blank, with their places among the cells
+/// of the area.
 fn filled_cells<'a, V: ValuesOf>(
     alloc: Global,
     values: &'a V,
     area: &Area,
     columns: u32,
-    places: &[(u32, u32)],
+    cells: &[StoredCell<'_>],
 ) -> Result<Vec<FilledCell<'a>>, NoMemory>
     ensures { IfOk result (λ filled. map place_and_value filled.items
-        ≡ flat_map (cell_known (V.known values.now) area.now columns) places.now) }
+        ≡ flat_map (cell_read (V.known values.now) area.now columns) cells.now) }
 {
     let mut filled = Vec::new(alloc);
-    for cell in places {
-        add_known(&mut filled, values, area, columns, *cell)?;
+    for cell in cells {
+        add_cell(&mut filled, values, area, columns, cell)?;
     }
     Ok(filled)
 }
 
-/// Puts the cell in the row and column behind others, if its value is known and isn't blank.
-fn add_known<'a, V: ValuesOf>(
+/// Puts the cell behind others, if its value is known and isn't blank.
+fn add_cell<'a, V: ValuesOf>(
     filled: &mut Vec<FilledCell<'a>>,
     values: &'a V,
     area: &Area,
     columns: u32,
-    cell: (u32, u32),
+    cell: &StoredCell<'_>,
 ) -> Result<(), NoMemory>
     ensures { OnOk result (map place_and_value filled.new.items
-        ≡ map place_and_value filled.old.items ++ cell_known (V.known values.now) area.now columns cell) }
+        ≡ map place_and_value filled.old.items ++ cell_read (V.known values.now) area.now columns cell.now) }
 {
-    match values.known_value(area.sheet, cell.0, cell.1) {
-        Some(value) => add_filled(filled, place_among(area, columns, cell.0, cell.1), value),
-        None => Ok(()),
+    let value = value_in(values, area.sheet, cell)?;
+    add_filled(
+        filled,
+        place_among(area, columns, cell.row, cell.column),
+        value,
+    )
+}
+
+/// The value that is read in a place.
+fn value_at<C: CellsOf, V: ValuesOf>(
+    cells: &C,
+    values: &V,
+    sheet: u32,
+    row: u32,
+    column: u32,
+) -> Result<Value, NoMemory>
+    ensures { IfOk result (λ value. value ≡ value_read (C.contents cells.now) (V.known values.now)
+        (record { sheet = sheet; row = row; column = column })) }
+{
+    match cells.content(sheet, row, column) {
+        Some(content) => {
+            let cell = StoredCell {
+                row,
+                column,
+                content,
+            };
+            value_in(values, sheet, &cell)?.into_value()
+        }
+        None => Ok(Value::Blank),
+    }
+}
+
+/// What is stored in the cell of the sheet, or the value of its formula that is known; Blank where none is.
+fn value_in<'a, V: ValuesOf>(
+    values: &'a V,
+    sheet: u32,
+    cell: &StoredCell<'_>,
+) -> Result<HeldValue<'a>, NoMemory>
+    ensures { IfOk result (λ held. value_held held ≡ value_stored (Some cell.now.content.now)
+        (value_known (V.known values.now) (record { sheet = sheet; row = cell.now.row; column = cell.now.column }))) }
+{
+    match cell.content {
+        Content::Number(number) => Ok(HeldValue::Own(Value::Number(*number))),
+        Content::Text(text) => Ok(HeldValue::Own(Value::Text(text.duplicate()?))),
+        Content::Truth(truth) => Ok(HeldValue::Own(Value::Truth(*truth))),
+        Content::Formula(_) => Ok(lent_or_blank(values.known_value(sheet, cell.row, cell.column))),
+    }
+}
+
+/// The value, or Blank where there is none.
+fn lent_or_blank<'a>(value: Option<&'a Value>) -> HeldValue<'a>
+    ensures { value_held result ≡ unwrap_or (option_copied value.entry) Blank }
+{
+    match value {
+        Some(value) => HeldValue::Lent(value),
+        None => HeldValue::Own(Value::Blank),
     }
 }
 
@@ -105,12 +167,12 @@ fn add_known<'a, V: ValuesOf>(
 fn add_filled<'a>(
     filled: &mut Vec<FilledCell<'a>>,
     place: u64,
-    value: &'a Value,
+    value: HeldValue<'a>,
 ) -> Result<(), NoMemory>
     ensures { OnOk result (map place_and_value filled.new.items
-        ≡ map place_and_value filled.old.items ++ filled_at place value.now) }
+        ≡ map place_and_value filled.old.items ++ filled_at place (value_held value.entry)) }
 {
-    if !is_blank(value) {
+    if !is_blank(value.get()) {
         filled.push(FilledCell { place, value })?;
     }
     Ok(())

@@ -1,6 +1,6 @@
 //! Laws of the values of cells, as functions that do nothing, whose contracts are the laws.
 
-ghost use Rattle.cell_calc.specs.Calculated.{StoredValues, ValuesOnce};
+ghost use Rattle.cell_calc.specs.Calculated.{HasValues, StoredValues, ValuesOnce};
 ghost use Rattle.cell_calc.specs.CellValue.{CountsAreBounds, ReadsDecide};
 
 use formula_reader::has_one_tree;
@@ -22,6 +22,13 @@ pub fn reads_decide()
 /// A place has one value at most.
 pub fn values_once()
     ensures { ValuesOnce }
+{
+    has_one_tree();
+}
+
+/// Each place has a value.
+pub fn has_values()
+    ensures { HasValues }
 {
     has_one_tree();
 }

@@ -17,13 +17,13 @@ mod mark;
 mod operators;
 mod outcome;
 mod reader;
-mod stored_places;
+mod stored_cells;
 mod table;
 mod walk;
 
-pub use arguments::{AreaCells, Argument, FilledCell};
+pub use arguments::{AreaCells, Argument, FilledCell, HeldValue};
 pub use calculation::{calculate, calculate_for, calculate_more};
-pub use cells::CellsOf;
+pub use cells::{CellsOf, StoredCell};
 pub use content_value::value_of_content;
 pub use evaluation::value_of_tree;
 pub use functions::{
@@ -34,7 +34,7 @@ pub use functions::{
     sum_value, text_length, unless_it_fails, whole_quotient,
 };
 pub use known::{KnownCells, ValuesOf};
-pub use laws::{counts_are_bounds, reads_decide, stored_values, values_once};
+pub use laws::{counts_are_bounds, has_values, reads_decide, stored_values, values_once};
 pub use operators::{negation, operation};
 pub use reader::CellReader;
 pub use table::Table;

@@ -1,5 +1,5 @@
 ghost use Rattle.std.specs.Prelude.{◌≡◌, Some};
-ghost use Rattle.cell_calc.specs.Marks.{found_by};
+ghost use Rattle.cell_calc.specs.Marks.{found_by, is_known};
 
 use cell_value::Value;
 
@@ -29,6 +29,12 @@ pub(crate) enum Found {
 }
 
 impl Mark {
+    pub(crate) fn is_known(&self) -> bool
+        ensures { result ≡ is_known (Some self.now) }
+    {
+        matches!(self, Mark::Known(_))
+    }
+
     pub(crate) fn found(&self) -> Found
         ensures { result ≡ found_by (Some self.now) }
     {

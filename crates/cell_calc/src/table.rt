@@ -9,7 +9,7 @@ use cell_value::{Kind, NoMemory, Value};
 use std::alloc::Global;
 use std::collections::HashMap;
 
-/// The values of cells that were calculated.
+/// The values of formulas that were calculated.
 #[derive(Drop)]
 pub struct Table {
     marks: HashMap<Key, Mark>,
@@ -24,7 +24,7 @@ impl Table {
     ghost use Rattle.cell_calc.specs.Calculated.{IsTableOf};
     ghost use Rattle.cell_calc.specs.Contents.{Contents};
     ghost use Rattle.cell_calc.specs.Known.{value_known};
-    ghost use Rattle.cell_calc.specs.Marks.{place_of, marks_of, IsMarked, value_told, values_of, found_by};
+    ghost use Rattle.cell_calc.specs.Marks.{place_of, marks_of, IsMarked, value_told, values_of, found_by, is_known};
 
     /// A table of no values.
     pub fn new(alloc: Global) -> Table
@@ -38,7 +38,7 @@ impl Table {
         }
     }
 
-    /// The value in the place, lent; Blank where the table has none.
+    /// The value of the formula in the place, lent; Blank where the table has none.
     pub fn value(&self, sheet: u32, row: u32, column: u32) -> &Value
         ensures { result.now
             ≡ value_known (values_of self.now) (record { sheet = sheet; row = row; column = column }) }
@@ -74,6 +74,15 @@ impl Table {
         match self.marks.get(&key) {
             Some(mark) => mark.found(),
             None => Found::New,
+        }
+    }
+
+    pub(crate) fn is_known(&self, key: Key) -> bool
+        ensures { result ≡ is_known (marks_of self.now (place_of key)) }
+    {
+        match self.marks.get(&key) {
+            Some(mark) => mark.is_known(),
+            None => false,
         }
     }
 

@@ -1,21 +1,24 @@
-ghost use Rattle.std.specs.Prelude.{◌≡◌, [], ◌∷◌, List, IfOk, OnOk, Some, None, option_map};
+ghost use Rattle.std.specs.Prelude.{◌≡◌, [], ◌∷◌, List, IfOk, OnOk, IsTrue, Some, None, option_map};
 ghost use Rattle.ref_rewrite.specs.declared.cell_content.Content.TheVariants as content;
+ghost use Rattle.std.specs.List.{list_all};
 ghost use Rattle.formula_reader.specs.Tree.{expression_of};
 ghost use Rattle.cell_calc.specs.declared.walk.Frame.{Frame};
-ghost use Rattle.cell_calc.specs.Book.{Cell, formula};
-ghost use Rattle.cell_calc.specs.Contents.{IsCell};
+ghost use Rattle.cell_calc.specs.declared.mark.Mark.TheVariants.{Open};
+ghost use Rattle.cell_calc.specs.Book.{formula};
+ghost use Rattle.cell_calc.specs.Calculated.{one_cell};
 ghost use Rattle.cell_calc.specs.FormulaValue.{value_of_cell};
 ghost use Rattle.cell_calc.specs.Known.{book_read, value_read};
-ghost use Rattle.cell_calc.specs.Marks.{place_of, marks_of, values_of};
-ghost use Rattle.cell_calc.specs.Walk.{Goes, Meets, Closes, IsCut, IsTreeAt, IsKnownAs, LooksAt, IsNoted, Notes};
+ghost use Rattle.cell_calc.specs.Marks.{place_of, marks_of, values_of, IsMarked};
+ghost use Rattle.cell_calc.specs.Walk.{Goes, Passes, Meets, Closes, IsCut, IsTreeAt, LooksAt, IsNoted, Notes};
+ghost use Rattle.cell_calc.specs.Walk.{is_settled, AreSettled, IsAreaSettled, AreAreasSettled};
 
 use crate::areas::add_areas;
-use crate::cells::CellsOf;
-use crate::content_value::{tree_within, value_of_content};
+use crate::cells::{CellsOf, StoredCell};
+use crate::content_value::tree_within;
 use crate::evaluation::value_of_tree;
 use crate::known::KnownCells;
 use crate::mark::{Found, Key, Mark};
-use crate::stored_places::stored_places;
+use crate::stored_cells::{only_cell, stored_cells};
 use crate::table::Table;
 use cell_value::{Kind, NoMemory, Value};
 use formula_reader::Tree;
@@ -38,18 +41,19 @@ pub(crate) struct Frame {
     noted: Vec<Key>,
 }
 
-/// Comes to know the value of the cell, and of the cells that it reads and those that they read.
+/// Comes to know the value of the formula in the place, and of the formulas that it reads and those that they read.
 pub(crate) fn settle<C: CellsOf>(
     alloc: Global,
     cells: &C,
     table: &mut Table,
     place: Key,
+    text: &Formula,
 ) -> Result<(), NoMemory>
-    ensures { OnOk result (Meets (C.contents cells.now) (place_of place) (marks_of table.old) []
-        (marks_of table.new) []) }
+    ensures { (C.contents cells.now).content (place_of place) ≡ Some (content.Formula text.now)
+        → OnOk result (Meets (C.contents cells.now) (place_of place) (marks_of table.old) [] (marks_of table.new) []) }
 {
     let mut path = VecDeque::new(alloc);
-    meet(alloc, cells, table, &mut path, place)?;
+    meet_formula(alloc, cells, table, &mut path, place, text)?;
     follow(alloc, cells, table, path)
 }
 
@@ -139,21 +143,21 @@ fn known_value<C: CellsOf>(
     value_of_tree(alloc, &KnownCells { cells, values }, tree)
 }
 
-/// Notes formulas in the area that aren't known, or goes on without the area where each cell is known.
+/// Notes formulas in the area that aren't known, or goes on without the area where each of them is known.
 fn wait_for<C: CellsOf>(
     alloc: Global,
     cells: &C,
-    table: &mut Table,
+    table: &Table,
     path: &mut VecDeque<Frame>,
     frame: Frame,
     area: Area,
 ) -> Result<(), NoMemory>
     ensures { (whole : Frame) → IsCut whole frame area → whole.noted.items ≡ frame.noted.items
-        → OnOk result (Goes (C.contents cells.now) (marks_of table.old) (whole ∷ path.old.items)
-        (marks_of table.new) path.new.items) }
+        → OnOk result (Goes (C.contents cells.now) (marks_of table.now) (whole ∷ path.old.items)
+        (marks_of table.now) path.new.items) }
 {
-    let places = stored_places(alloc, cells, &area)?;
-    let noted = all_noted(alloc, cells, table, area.sheet, places.as_slice())?;
+    let stored = stored_cells(alloc, cells, &area)?;
+    let noted = all_noted(alloc, table, area.sheet, stored.as_slice())?;
     if noted.is_empty() {
         Ok(path.push_front(frame)?)
     } else {
@@ -177,76 +181,45 @@ fn put_back(
     Ok(())
 }
 
-/// Some of the formulas among these cells of the sheet that aren't known; none where each cell is. The values of
-/// cells without a formula come to be known.
-fn all_noted<C: CellsOf>(
+/// Some of the formulas among these cells of the sheet that aren't known; none where each is.
+fn all_noted(
     alloc: Global,
-    cells: &C,
-    table: &mut Table,
+    table: &Table,
     sheet: u32,
-    places: &[(u32, u32)],
+    cells: &[StoredCell<'_>],
 ) -> Result<Vec<Key>, NoMemory>
-    ensures { IfOk result (λ noted. Notes (C.contents cells.now) sheet places.now places.now (marks_of table.old)
-        noted.items (marks_of table.new)) }
+    ensures { IfOk result (λ noted. Notes (marks_of table.now) sheet cells.now cells.now noted.items) }
 {
     let mut noted = Vec::new(alloc);
-    for cell in places {
-        look_at(alloc, cells, table, &mut noted, (sheet, cell.0, cell.1))?;
+    for cell in cells {
+        look_at(table, &mut noted, sheet, cell)?;
     }
     Ok(noted)
 }
 
-/// Notes a formula that isn't known, if there is room; the value of a cell without a formula comes to be known.
-fn look_at<C: CellsOf>(
-    alloc: Global,
-    cells: &C,
-    table: &mut Table,
+/// Notes the cell, unless it is settled, if there is room.
+fn look_at(
+    table: &Table,
     noted: &mut Vec<Key>,
-    place: Key,
+    sheet: u32,
+    cell: &StoredCell<'_>,
 ) -> Result<(), NoMemory>
-    ensures { OnOk result (LooksAt (C.contents cells.now) place (marks_of table.old) noted.old.items
-        (marks_of table.new) noted.new.items) }
+    ensures { OnOk result (LooksAt (marks_of table.now) sheet cell.now noted.old.items noted.new.items) }
 {
-    match table.found(place) {
-        Found::New => look_at_new(alloc, cells, table, noted, place),
-        Found::Circular => note(noted, place),
-        Found::Settled => Ok(()),
+    if is_settled(table, sheet, cell) {
+        Ok(())
+    } else {
+        note(noted, (sheet, cell.row, cell.column))
     }
 }
 
-fn look_at_new<C: CellsOf>(
-    alloc: Global,
-    cells: &C,
-    table: &mut Table,
-    noted: &mut Vec<Key>,
-    place: Key,
-) -> Result<(), NoMemory>
-    ensures { OnOk result (LooksAt (C.contents cells.now) place (marks_of table.old) noted.old.items
-        (marks_of table.new) noted.new.items) }
+/// Whether the cell of the sheet has no formula, or one whose value is known.
+fn is_settled(table: &Table, sheet: u32, cell: &StoredCell<'_>) -> bool
+    ensures { result ≡ is_settled (marks_of table.now) sheet cell.now }
 {
-    match cells.content(place.0, place.1, place.2) {
-        Some(content) => look_at_content(alloc, cells, table, noted, place, content),
-        None => table.set(place, Mark::Known(Value::Blank)),
-    }
-}
-
-fn look_at_content<C: CellsOf>(
-    alloc: Global,
-    cells: &C,
-    table: &mut Table,
-    noted: &mut Vec<Key>,
-    place: Key,
-    content: &Content,
-) -> Result<(), NoMemory>
-    ensures { (C.contents cells.now).content (place_of place) ≡ Some content.now
-        → OnOk result (LooksAt (C.contents cells.now) place (marks_of table.old) noted.old.items
-        (marks_of table.new) noted.new.items) }
-{
-    match content {
-        Content::Number(_) => begin_stored(alloc, cells, table, place, content),
-        Content::Text(_) => begin_stored(alloc, cells, table, place, content),
-        Content::Truth(_) => begin_stored(alloc, cells, table, place, content),
-        Content::Formula(_) => note(noted, place),
+    match cell.content {
+        Content::Formula(_) => table.is_known((sheet, cell.row, cell.column)),
+        Content::Number(_) | Content::Text(_) | Content::Truth(_) => true,
     }
 }
 
@@ -260,7 +233,7 @@ fn note(noted: &mut Vec<Key>, place: Key) -> Result<(), NoMemory>
     Ok(())
 }
 
-/// The first formula of the path, where it has one, reads the cell.
+/// The first formula of the path reads the cell.
 fn meet<C: CellsOf>(
     alloc: Global,
     cells: &C,
@@ -268,11 +241,48 @@ fn meet<C: CellsOf>(
     path: &mut VecDeque<Frame>,
     place: Key,
 ) -> Result<(), NoMemory>
-    ensures { OnOk result (Meets (C.contents cells.now) (place_of place) (marks_of table.old) path.old.items
+    ensures { OnOk result (Passes (C.contents cells.now) (place_of place) (marks_of table.old) path.old.items
+        (marks_of table.new) path.new.items) }
+{
+    match cells.content(place.0, place.1, place.2) {
+        Some(content) => meet_content(alloc, cells, table, path, place, content),
+        None => Ok(()),
+    }
+}
+
+fn meet_content<C: CellsOf>(
+    alloc: Global,
+    cells: &C,
+    table: &mut Table,
+    path: &mut VecDeque<Frame>,
+    place: Key,
+    content: &Content,
+) -> Result<(), NoMemory>
+    ensures { (C.contents cells.now).content (place_of place) ≡ Some content.now
+        → OnOk result (Passes (C.contents cells.now) (place_of place) (marks_of table.old) path.old.items
+        (marks_of table.new) path.new.items) }
+{
+    match content {
+        Content::Formula(text) => meet_formula(alloc, cells, table, path, place, text),
+        Content::Number(_) | Content::Text(_) | Content::Truth(_) => Ok(()),
+    }
+}
+
+/// The first formula of the path, where it has one, reads the formula in the place.
+fn meet_formula<C: CellsOf>(
+    alloc: Global,
+    cells: &C,
+    table: &mut Table,
+    path: &mut VecDeque<Frame>,
+    place: Key,
+    text: &Formula,
+) -> Result<(), NoMemory>
+    ensures { (C.contents cells.now).content (place_of place) ≡ Some (content.Formula text.now)
+        → OnOk result (Meets (C.contents cells.now) (place_of place) (marks_of table.old) path.old.items
         (marks_of table.new) path.new.items) }
 {
     match table.found(place) {
-        Found::New => begin(alloc, cells, table, path, place),
+        Found::New => begin(alloc, cells, table, path, place, text),
         Found::Circular => close(table, path),
         Found::Settled => Ok(()),
     }
@@ -289,74 +299,8 @@ fn close(table: &mut Table, path: &mut VecDeque<Frame>) -> Result<(), NoMemory>
     Ok(())
 }
 
-/// Begins with a cell of which nothing is known.
+/// Begins with a formula of which nothing is known.
 fn begin<C: CellsOf>(
-    alloc: Global,
-    cells: &C,
-    table: &mut Table,
-    path: &mut VecDeque<Frame>,
-    place: Key,
-) -> Result<(), NoMemory>
-    ensures { marks_of table.old (place_of place) ≡ None
-        → OnOk result (Meets (C.contents cells.now) (place_of place) (marks_of table.old) path.old.items
-        (marks_of table.new) path.new.items) }
-{
-    match cells.content(place.0, place.1, place.2) {
-        Some(content) => begin_content(alloc, cells, table, path, place, content),
-        None => table.set(place, Mark::Known(Value::Blank)),
-    }
-}
-
-fn begin_content<C: CellsOf>(
-    alloc: Global,
-    cells: &C,
-    table: &mut Table,
-    path: &mut VecDeque<Frame>,
-    place: Key,
-    content: &Content,
-) -> Result<(), NoMemory>
-    ensures { (C.contents cells.now).content (place_of place) ≡ Some content.now
-        → marks_of table.old (place_of place) ≡ None
-        → OnOk result (Meets (C.contents cells.now) (place_of place) (marks_of table.old) path.old.items
-        (marks_of table.new) path.new.items) }
-{
-    match content {
-        Content::Number(_) => begin_stored(alloc, cells, table, place, content),
-        Content::Text(_) => begin_stored(alloc, cells, table, place, content),
-        Content::Truth(_) => begin_stored(alloc, cells, table, place, content),
-        Content::Formula(text) => begin_formula(alloc, cells, table, path, place, text),
-    }
-}
-
-fn begin_stored<C: CellsOf>(
-    alloc: Global,
-    cells: &C,
-    table: &mut Table,
-    place: Key,
-    content: &Content,
-) -> Result<(), NoMemory>
-    ensures { (cell : Cell) → IsCell (Some content.now) cell
-        → OnOk result (IsKnownAs (C.contents cells.now) (marks_of table.old) (place_of place) cell (marks_of table.new)) }
-{
-    let value = stored_value(alloc, cells, table, content)?;
-    table.set(place, Mark::Known(value))
-}
-
-/// The value of what is stored by the values that are known.
-fn stored_value<C: CellsOf>(
-    alloc: Global,
-    cells: &C,
-    values: &Table,
-    content: &Content,
-) -> Result<Value, NoMemory>
-    ensures { (cell : Cell) → IsCell (Some content.now) cell → IfOk result (λ value. value
-        ≡ value_of_cell (book_read (C.contents cells.now) (values_of values.now))
-        (value_read (C.contents cells.now) (values_of values.now)) cell) }
-{
-    value_of_content(alloc, &KnownCells { cells, values }, content)
-}
-
-fn begin_formula<C: CellsOf>(
     alloc: Global,
     cells: &C,
     table: &mut Table,
@@ -392,7 +336,7 @@ fn begin_tree<C: CellsOf>(
     }
 }
 
-/// Puts a formula on the path, which waits for all cells that it reads.
+/// Comes to know the value of a formula that waits for none, and puts another on the path.
 fn enter<C: CellsOf>(
     alloc: Global,
     cells: &C,
@@ -408,6 +352,27 @@ fn enter<C: CellsOf>(
 {
     let mut rest = Vec::new(alloc);
     add_areas(cells, &tree, &mut rest)?;
+    if are_settled(alloc, cells, table, rest.as_slice())? {
+        let value = known_value(alloc, cells, table, &tree)?;
+        table.set(place, Mark::Known(value))
+    } else {
+        put_on(alloc, table, path, place, tree, rest)
+    }
+}
+
+/// Puts a formula on the path, which waits for all formulas in its areas.
+fn put_on(
+    alloc: Global,
+    table: &mut Table,
+    path: &mut VecDeque<Frame>,
+    place: Key,
+    tree: Tree,
+    rest: Vec<Area>,
+) -> Result<(), NoMemory>
+    ensures { OnOk result ((frame : Frame) × (frame.place ≡ place) × (frame.tree ≡ tree) × (frame.rest.items ≡ rest.items)
+        × (frame.noted.items ≡ []) × IsMarked (marks_of table.old) (place_of place) Open (marks_of table.new)
+        × (path.new.items ≡ frame ∷ path.old.items)) }
+{
     let noted = Vec::new(alloc);
     table.set(place, Mark::Open)?;
     path.push_front(Frame {
@@ -417,4 +382,77 @@ fn enter<C: CellsOf>(
         noted,
     })?;
     Ok(())
+}
+
+/// Whether all formulas in the areas are known.
+fn are_settled<C: CellsOf>(
+    alloc: Global,
+    cells: &C,
+    table: &Table,
+    areas: &[Area],
+) -> Result<bool, NoMemory>
+    ensures { IfOk result (λ settled. IsTrue settled
+        → AreAreasSettled (C.contents cells.now) (marks_of table.now) areas.now) }
+{
+    for area in areas {
+        if !is_area_settled(alloc, cells, table, area)? {
+            return Ok(false);
+        }
+    }
+    Ok(true)
+}
+
+/// Whether all formulas in the area are known.
+fn is_area_settled<C: CellsOf>(
+    alloc: Global,
+    cells: &C,
+    table: &Table,
+    area: &Area,
+) -> Result<bool, NoMemory>
+    ensures { IfOk result (λ settled. IsTrue settled
+        → IsAreaSettled (C.contents cells.now) (marks_of table.now) area.now) }
+{
+    match only_cell(area) {
+        Some((row, column)) => Ok(is_place_settled(cells, table, area.sheet, row, column)),
+        None => are_cells_settled(alloc, cells, table, area),
+    }
+}
+
+/// Whether the place has no formula, or one whose value is known.
+fn is_place_settled<C: CellsOf>(cells: &C, table: &Table, sheet: u32, row: u32, column: u32) -> bool
+    ensures { IsTrue result → IsAreaSettled (C.contents cells.now) (marks_of table.now) (one_cell sheet row column) }
+{
+    match cells.content(sheet, row, column) {
+        Some(content) => is_settled(
+            table,
+            sheet,
+            &StoredCell {
+                row,
+                column,
+                content,
+            },
+        ),
+        None => true,
+    }
+}
+
+/// The same of an area's cells one by one.
+fn are_cells_settled<C: CellsOf>(
+    alloc: Global,
+    cells: &C,
+    table: &Table,
+    area: &Area,
+) -> Result<bool, NoMemory>
+    ensures { IfOk result (λ settled. IsTrue settled
+        → IsAreaSettled (C.contents cells.now) (marks_of table.now) area.now) }
+{
+    let stored = stored_cells(alloc, cells, area)?;
+    Ok(all_settled(table, area.sheet, stored.as_slice()))
+}
+
+/// Whether each of these cells of the sheet has no formula, or one whose value is known.
+fn all_settled(table: &Table, sheet: u32, cells: &[StoredCell<'_>]) -> bool
+    ensures { result ≡ list_all (is_settled (marks_of table.now) sheet) cells.now }
+{
+    cells.iter().all(|cell| is_settled(table, sheet, cell))
 }

@@ -24,7 +24,7 @@ pub(crate) fn marked_text(text: &str) -> Option<&str>
 }
 
 /// Whether the text is digits behind an optional sign.
-pub(crate) fn is_whole(text: &[u8]) -> bool
+pub fn is_whole(text: &[u8]) -> bool
     ensures { result ≡ is_whole text.now }
 {
     are_digits(without_sign(text))
@@ -71,7 +71,7 @@ fn is_mantissa(text: &[u8]) -> bool
 }
 
 /// Whether the text is one digit or more, and nothing else.
-fn are_digits(text: &[u8]) -> bool
+pub fn are_digits(text: &[u8]) -> bool
     ensures { result ≡ are_digits text.now }
 {
     text.len() > 0 && has_digits_alone(text)

@@ -12,7 +12,7 @@ use Rattle.conversation.specs.declared.ended.Ended.TheVariants as how
 use Rattle.folder.specs.Folder.{ShownFolder}
 use Rattle.commands.specs.declared.finish.Finish.{Finish}
 use Rattle.commands.specs.declared.finish.Finish.TheVariants as finish
-use Rattle.commands.specs.declared.running.TheConstants.{MOST}
+use Rattle.sheets_http.specs.declared.next.TheConstants.{LONGEST_TALK}
 use Rattle.commands.specs.Finish.{status_of, status_at}
 use Rattle.commands.specs.Running.{Runs, no_users, converses}
 use Rattle.commands.specs.Users.{IsUsersFault}
@@ -23,7 +23,7 @@ abbrev Other : ℕ → Type 0
 Other status = (status ≡ 6) ⊎ ((status ≡ 3) ⊎ ((status ≡ 1) ⊎ (status ≡ 4)))
 
 whatever : (left : Option (List ℕ)) (status : ℕ) → Other status
-    → IfSome left (λ bytes. (requests : List Wire) (end : End) → Talk MOST bytes requests end
+    → IfSome left (λ bytes. (requests : List Wire) (end : End) → Talk LONGEST_TALK bytes requests end
     → (status ≡ status_at end) ⊎ Other status)
 whatever None status other = tt
 whatever (Some bytes) status other = λ requests end talk. inr other
@@ -53,10 +53,10 @@ users_fault finish.Unavailable status shown (Some name) fault is = absurd fault
 pub exactly_runs : (plain : List Entry → Ask → Outcome → Type 0) (users : Option (List ℕ)) (shown : Option ShownFolder)
     (left written written' : Option (List ℕ)) (shortages shortages' : ℕ) (end : Finish) (status : ℕ) → HasOneTalk
     → Runs plain users shown left written written' shortages shortages' end → status ≡ status_of end
-    → IfSome left (λ bytes. (requests : List Wire) (end : End) → Talk MOST bytes requests end
+    → IfSome left (λ bytes. (requests : List Wire) (end : End) → Talk LONGEST_TALK bytes requests end
     → (status ≡ status_at end) ⊎ ((status ≡ 6) ⊎ ((status ≡ 3) ⊎ ((status ≡ 1) ⊎ (status ≡ 4)))))
 exactly_runs plain users shown left written written' shortages shortages' end status one (no_users fault same) is =
     whatever left status (users_fault end status shown users fault is)
 exactly_runs plain users shown left written written' shortages shortages' end status one
     (converses table ended has end_is conversed) is =
-    exactly_as one left MOST ended status (is ∙ ap status_of end_is) conversed.ends
+    exactly_as one left LONGEST_TALK ended status (is ∙ ap status_of end_is) conversed.ends

@@ -5,8 +5,7 @@ use Rattle.std.specs.Prelude.{Option, Some, IfSome, All, IsTrue, ◌==◌, ◌&&
 use Rattle.std.specs.List.{list_any}
 use Rattle.std.proofs.lemmas.List.{append-nil}
 use Rattle.std.proofs.lemmas.List.Elements.{All-head, All-weaker}
-use Rattle.cell_value.specs.FaultCount.{last_count, Rose}
-use Rattle.sheets_http.specs.Outside.{StaysSteady}
+use Rattle.cell_value.specs.FaultCount.{last_count, Rose, StaysSteady}
 use Rattle.history_lock.specs.History.{NoneOf}
 use Rattle.history_lock.specs.declared.pass.Pass.{Pass}
 use Rattle.history_lock.specs.Passes.{seen_by, number_of, count_of}
@@ -17,7 +16,7 @@ use Rattle.desk.specs.declared.entry.Noted.{Noted}
 use Rattle.desk.specs.Journal.{journal_text}
 use Rattle.desk.specs.declared.state.TheConstants.{LONGEST_JOURNAL}
 use Rattle.desk.specs.Desks.{list_at, pair_at}
-use Rattle.desk.specs.Points.{AreCountsOf, IsClosed, Keeps, caller_of}
+use Rattle.desk.specs.Points.{as_one_thread, as_out_of_memory, as_unavailable, AreCountsOf, IsClosed, Keeps, caller_of}
 use Rattle.desk.specs.Steps.{Outcome, AreServed, served, history_full, within_limit, entry_of, is_full}
 use Rattle.conversation.specs.declared.ended.Ended.{Ended}
 use Rattle.conversation.specs.Conversation.{Moment}
@@ -60,16 +59,16 @@ always_available : {E K W A : Type 0} (plain : List Entry → Ask → Outcome �
     → IsAvailable plain failures steady desk
 always_available {E} {K} plain failures steady law never desk users caller before wire after response answer is =
     let ask = ask_of users wire in
-    elim answer.call.happens.one_of [
-      | inl step ↦ within _ _ ask step.steps.0
+    elim answer.call.happens.comes_to [
+      | as_one_thread step ↦ within _ _ ask step.steps.0
           (not_503 step.steps.0 (law _ ask step.steps.0 step.steps.1).status_is)
           (ap (λ (o : Outcome). o.status) (sym step.steps.2) ∙ sym step.status_is ∙ is)
-      | inr (inl down) ↦
+      | as_unavailable down ↦
           let (earlier, later, are) = subst (λ (body : Option (List ℕ)). IfSome body (λ _. (earlier : K)
           × (later : K) × AreCountsOf failures steady answer.reply.faults earlier later)) down.body_is answer.counts in
           stays_low answer.reply.faults.0 answer.reply.faults.1 (are.before_is ∙ (never earlier).1)
           (are.after_is ∙ (never later).1) down.rose
-      | inr (inr lost) ↦ omega (arith, lost.status_is, is)
+      | as_out_of_memory lost ↦ omega (arith, lost.status_is, is)
     ]
 
 -- ---- what is told

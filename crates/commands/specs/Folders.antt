@@ -12,9 +12,9 @@ abbrev pub journal_call : Option (List ℕ) → List FolderCall
 journal_call None = []
 journal_call (Some name) = journal_of name true ∷ []
 
--- The folder was asked for the file of users and then for the journal, each once and where the words name it, or for the
--- first of these alone, or for nothing. Nothing is lent that wasn't before, and no other name's bytes changed than those
--- of the journal.
+-- The folder was asked for the file of users and then for the journal, each once and where the words name it, or for
+-- the first of these alone, or for nothing. Nothing is lent that wasn't before, and no other name's bytes changed than
+-- those of the journal.
 pub record HasAsked (users journal : Option (List ℕ)) (before after : ShownFolder) : Type 0 where
   pub calls : List FolderCall
   pub rest : List FolderCall
@@ -27,8 +27,8 @@ pub record HasAsked (users journal : Option (List ℕ)) (before after : ShownFol
 abbrev pub Asks : Option (List ℕ) → Option (List ℕ) → Option ShownFolder → Option ShownFolder → Type 0
 Asks users journal before after = IfSome before (λ b. IsSomeAnd after (HasAsked users journal b))
 
--- The folder was asked for that journal, which isn't made where it is missing, and for nothing else. Nothing is lent that
--- wasn't before, and each name has the bytes that it had.
+-- The folder was asked for that journal, which isn't made where it is missing, and for nothing else. Nothing is lent
+-- that wasn't before, and each name has the bytes that it had.
 pub record HasAskedForJournal (journal : List ℕ) (before after : ShownFolder) : Type 0 where
   pub calls_are : after.calls ≡ before.calls ++ journal_of journal false ∷ []
   pub lent_are : after.lent ≡ before.lent

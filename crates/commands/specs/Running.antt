@@ -10,17 +10,17 @@ use Rattle.connections.specs.Alone.{IsReply, IsResponse}
 use Rattle.folder.specs.Folder.{ShownFolder}
 use Rattle.commands.specs.declared.finish.Finish.{Finish}
 use Rattle.commands.specs.declared.finish.Finish.TheVariants as finish
-use Rattle.commands.specs.declared.running.TheConstants.{MOST}
+use Rattle.sheets_http.specs.declared.next.TheConstants.{LONGEST_TALK}
 use Rattle.commands.specs.Users.{HasUsers, IsUsersFault}
 
 -- The input was served, for these users, to an end; where it tells what it holds, the end is that of its talk. The
--- history is empty at first. Each response is that of one thread behind it, and each request that is accepted is then its
--- last entry.
+-- history is empty at first. Each response is that of one thread behind it, and each request that is accepted is then
+-- its last entry.
 pub record Converses (plain : List Entry → Ask → Outcome → Type 0) (users : UserTable)
     (left written written' : Option (List ℕ)) (shortages shortages' : ℕ) (end : Ended) : Type 0 where
-  pub ends : IfSome left (λ bytes. EndsAs MOST bytes end)
+  pub ends : IfSome left (λ bytes. EndsAs LONGEST_TALK bytes end)
   pub history : List Entry
-  pub served : IsConversation (IsResponse (IsReply plain users)) MOST left (at_moment [] written shortages)
+  pub served : IsConversation (IsResponse (IsReply plain users)) LONGEST_TALK left (at_moment [] written shortages)
       (at_moment history written' shortages') end
 
 -- The command `run`: there were no users, and nothing was written; or the input was served for those users.

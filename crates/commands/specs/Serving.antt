@@ -51,8 +51,8 @@ IsAvailable plain failures steady desk =
     (users : UserTable) (caller : ℕ) (before : List Noted) (wire : Wire) (after : List Noted) (response : List ℕ)
     (answer : IsAnswer plain failures steady desk users caller before wire after response) → answer.reply.status ≢ 503
 
--- the desk was opened with this list, for so many callers and with the limit of a journal; the pass is its first one, of
--- number 0, and nobody else draws numbers
+-- the desk was opened with this list, for so many callers and with the limit of a journal; the pass is its first one,
+-- of number 0, and nobody else draws numbers
 pub record IsOpened {E K W A : Type 0} (start : List Noted) (desk : Desk E K W A) (pass : Pass Noted) : Type 0 where
   pub list_is : list_at desk ≡ start
   pub limit_is : (pair_at desk).0 ≡ LONGEST_JOURNAL
@@ -124,8 +124,8 @@ IsVisited visits item = Contains (map visitor visits) (caller_of item)
 -- An engine answers as `plain` says, and its worlds have as many cells as `cells` says. At most so many connections
 -- came in by open doors and were served, for these users, at a desk over it that was opened with this list, to which
 -- their callers alone added items; what is told is the history with which that desk was closed, and what is kept is its
--- journal, or that of it and one entry more. `failures` and `steady` are what the desk's keeper tells of its faults. Of a
--- moment the state is what the doors show.
+-- journal, or that of it and one entry more. `failures` and `steady` are what the desk's keeper tells of its faults. Of
+-- a moment the state is what the doors show.
 pub record ServesAll (E K W A : Type 0) (plain : List Entry → Ask → Outcome → Type 0) (cells : List Entry → ℕ → Type 0)
     (failures : K → ℕ) (steady : K → Bool) (users : UserTable) (limit : ℕ) (start : List Noted)
     (before after : Moment (Option Shown)) (kept' : Option (List ℕ)) (end : Ended) : Type 0 where
@@ -186,8 +186,8 @@ pub data ServesInMemory (E W A : Type 0) (plain : List Entry → Ask → Outcome
       → ServesFrom E (List ℕ) W A plain cells (λ kept. 0) (λ kept. true) users port limit [] before after (Some kept') end
       → ServesInMemory E W A plain cells users port limit before after end
 
--- Connections at a desk whose journal is the file of that name: the folder didn't hand it out, since it failed or memory
--- ran out, and nothing was done; or they were served by it, and the file then has what is kept.
+-- Connections at a desk whose journal is the file of that name: the folder didn't hand it out, since it failed or
+-- memory ran out, and nothing was done; or they were served by it, and the file then has what is kept.
 pub data ServesByJournal (E K W A : Type 0) (plain : List Entry → Ask → Outcome → Type 0)
     (cells : List Entry → ℕ → Type 0) (failures : K → ℕ) (steady : K → Bool) (users : UserTable) (port limit : ℕ)
     (name : List ℕ) (shown shown' : Option ShownFolder) (before after : Moment (Option Shown)) (end : Finish) : Type 0

@@ -16,16 +16,16 @@ use Rattle.commands.specs.declared.finish.Finish.TheVariants.{Served, BadUsers, 
 abbrev pub HasFile : Option ShownFolder → List ℕ → (List ℕ → Type 0) → Type 0
 HasFile shown name IsSo = IfSome shown (λ folder. IsSomeAnd (folder.files name) IsSo)
 
--- The table of users: without a name there is none, and anyone is served; else it is that of the file of this name, where
--- the folder tells.
+-- The table of users: without a name there is none, and anyone is served; else it is that of the file of this name,
+-- where the folder tells.
 abbrev pub HasUsers : Option ShownFolder → Option (List ℕ) → UserTable → Type 0
 HasUsers shown None users = users ≡ None
 HasUsers shown (Some name) users =
     (pairs : List (List ℕ × List ℕ)) × (users ≡ Some pairs)
     × HasFile shown name (λ bytes. (length bytes ≤ LONGEST_TABLE) × IsTable bytes pairs)
 
--- so a command ends for want of users: their file breaks its grammar or its bound; or it couldn't be read, or memory ran
--- out
+-- so a command ends for want of users: their file breaks its grammar or its bound; or it couldn't be read, or memory
+-- ran out
 abbrev pub IsUsersFault : Option ShownFolder → Option (List ℕ) → Finish → Type 0
 IsUsersFault shown None finish = ⊥
 IsUsersFault shown (Some name) (BadUsers row) =

@@ -36,8 +36,8 @@ pub enum Finish {
     BadUsers(u64),
     /// The file of users has more bytes than such a file may have.
     UsersLong,
-    /// The journal begins with other bytes than a journal does (0), or its entry of that number, counted from 1, isn't an
-    /// accepted call at its place.
+    /// The journal begins with other bytes than a journal does (0), or its entry of that number, counted from 1, isn't
+    /// an accepted call at its place.
     BadJournal(u64),
     /// The journal has more bytes than a journal may have.
     JournalLong,

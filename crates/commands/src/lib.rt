@@ -1,5 +1,5 @@
-//! What the commands of the program do, for any engine: a conversation over a source and a sink, or connections that come
-//! in at doors, with the files of a folder that their words name, and how each of them ends.
+//! What the commands of the program do, for any engine: a conversation over a source and a sink, or connections that
+//! come in at doors, with the files of a folder that their words name, and how each of them ends.
 #![tactic(auto)]
 
 mod finish;
@@ -15,6 +15,6 @@ pub use finish::{
 };
 pub use replaying::replay;
 pub use report::say;
-pub use running::{MOST, run};
+pub use running::run;
 pub use server::{CALLERS, Wanted, serve};
 pub use working::workload;

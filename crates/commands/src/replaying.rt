@@ -18,8 +18,8 @@ use folder::Folder;
 use sheets_http::{Sink, SinkFault, send_all};
 use std::alloc::Global;
 
-/// Writes what the history of the journal of that name comes to, its spreadsheets as they are behind it, and says how it
-/// failed, if it did. A journal that is missing isn't made.
+/// Writes what the history of the journal of that name comes to, its spreadsheets as they are behind it, and says how
+/// it failed, if it did. A journal that is missing isn't made.
 pub fn replay<R: AllocGlobal, E: Engine, O: Sink, F: Folder>(
     rt: &R,
     journal: &str,

@@ -20,11 +20,8 @@ use connections::converse_alone;
 use conversation::Ended;
 use desk::Engine;
 use folder::Folder;
-use sheets_http::{Duplex, Link, Sink, Source, Users, conversation_laws};
+use sheets_http::{Duplex, LONGEST_TALK, Link, Sink, Source, Users, conversation_laws};
 use std::sync::Wait;
-
-/// The most bytes of one conversation, 2^40.
-pub const MOST: u64 = 1_099_511_627_776;
 
 /// Serves one conversation over input and output, for the users of the file of that name, or for anyone, where none is
 /// named, and says how it failed, if it did. Its history is empty at first.
@@ -48,7 +45,7 @@ pub fn run<R: AllocGlobal + Wait, E: Engine, I: Source, O: Sink, F: Folder>(
     // Where the talk of the input ends so, that is the status, unless the file of users is bad, memory ran out, or a
     // device failed.
     ensures exactly { IfSome (I.left input.old) (λ bytes. (requests : List Wire) → (end : End)
-        → Talk MOST bytes requests end
+        → Talk LONGEST_TALK bytes requests end
         → (result ≡ status_at end) ⊎ ((result ≡ BAD_FILE) ⊎ ((result ≡ NO_MEMORY)
         ⊎ ((result ≡ READ_FAULT) ⊎ (result ≡ WRITE_FAULT))))) }
 
@@ -57,8 +54,8 @@ pub fn run<R: AllocGlobal + Wait, E: Engine, I: Source, O: Sink, F: Folder>(
         → Rose (I.faults input.old) (I.faults input.new) ⊎ Rose (F.failures folder.old) (F.failures folder.new) }
     ensures write { result ≡ WRITE_FAULT → Rose (O.sink_faults output.old) (O.sink_faults output.new) }
     ensures cut { result ≡ TRUNCATED
-        → IfSome (I.left input.old) (λ bytes. (count : ℕ) × HasEnd MOST bytes (truncated count)) }
-    ensures long { result ≡ LONG_TALK → IfSome (I.left input.old) (λ bytes. HasEnd MOST bytes long_talk) }
+        → IfSome (I.left input.old) (λ bytes. (count : ℕ) × HasEnd LONGEST_TALK bytes (truncated count)) }
+    ensures long { result ≡ LONG_TALK → IfSome (I.left input.old) (λ bytes. HasEnd LONGEST_TALK bytes long_talk) }
     ensures others { (result ≢ USAGE) × (result ≢ UNAVAILABLE) }
     ensures steady_read { IsTrue (I.steady input.old) → IsTrue (F.steady folder.old) → result ≢ READ_FAULT }
     ensures steady_write { IsTrue (O.sink_steady output.old) → result ≢ WRITE_FAULT }
@@ -119,11 +116,11 @@ fn converse_between<R: AllocGlobal + Wait, E: Engine, I: Source, O: Sink>(
     input: &mut I,
     output: &mut O,
 ) -> Ended
-    ensures served { (history : List Entry) × IsConversation (IsResponse (IsReply E.plain users.now)) MOST
+    ensures served { (history : List Entry) × IsConversation (IsResponse (IsReply E.plain users.now)) LONGEST_TALK
         (I.left input.old)
         (at_moment [] (O.written output.old) (O.sink_shortages output.old))
         (at_moment history (O.written output.new) (O.sink_shortages output.new)) result }
-    ensures ends { IfSome (I.left input.old) (λ bytes. EndsAs MOST bytes result) }
+    ensures ends { IfSome (I.left input.old) (λ bytes. EndsAs LONGEST_TALK bytes result) }
     ensures read { result ≡ Ended.ReadFault → Rose (I.faults input.old) (I.faults input.new) }
     ensures write { result ≡ Ended.WriteFault → Rose (O.sink_faults output.old) (O.sink_faults output.new) }
     ensures steady_read { IsTrue (I.steady input.old) → result ≢ Ended.ReadFault }
@@ -141,11 +138,11 @@ fn converse_on<R: AllocGlobal + Wait, E: Engine, L: Duplex>(
     users: &Users,
     link: &mut L,
 ) -> Ended
-    ensures served { (history : List Entry) × IsConversation (IsResponse (IsReply E.plain users.now)) MOST
+    ensures served { (history : List Entry) × IsConversation (IsResponse (IsReply E.plain users.now)) LONGEST_TALK
         (L.left link.old)
         (at_moment [] (L.written link.old) (L.sink_shortages link.old))
         (at_moment history (L.written link.new) (L.sink_shortages link.new)) result }
-    ensures ends { IfSome (L.left link.old) (λ bytes. EndsAs MOST bytes result) }
+    ensures ends { IfSome (L.left link.old) (λ bytes. EndsAs LONGEST_TALK bytes result) }
     ensures read { result ≡ Ended.ReadFault → Rose (L.faults link.old) (L.faults link.new) }
     ensures write { result ≡ Ended.WriteFault → Rose (L.sink_faults link.old) (L.sink_faults link.new) }
     ensures steady_read { IsTrue (L.steady link.old) → result ≢ Ended.ReadFault }
@@ -155,5 +152,5 @@ fn converse_on<R: AllocGlobal + Wait, E: Engine, L: Duplex>(
         (L.sink_steady link.new) }
     ensures references { L.references link.new ≡ L.references link.old }
 {
-    converse_alone::<_, _, E>(rt, rt.alloc(), link, users, MOST)
+    converse_alone::<_, _, E>(rt, rt.alloc(), link, users, LONGEST_TALK)
 }

@@ -39,8 +39,8 @@ pub struct Wanted<'a> {
     pub journal: Option<&'a str>,
 }
 
-/// Serves connections that come in on a port, writes what their history comes to, and says how it failed, if it did. The
-/// users are read first; then the journal is asked for; then the doors are opened.
+/// Serves connections that come in on a port, writes what their history comes to, and says how it failed, if it did.
+/// The users are read first; then the journal is asked for; then the doors are opened.
 ///
 /// The history begins with the journal's, and each call that is accepted is in the journal before it is answered.
 pub fn serve<

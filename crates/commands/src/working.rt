@@ -13,7 +13,7 @@ use crate::report::{report, send_line};
 use conversation::Ended;
 use desk::Engine;
 use sheets_http::{Sink, SinkFault};
-use workload::{Told, work};
+use workload::{WorkSummary, work};
 
 /// Makes so many fixed calls at a desk in memory, and writes what they come to; says how it failed, if it did.
 pub fn workload<R: AllocGlobal, E: Engine, O: Sink>(
@@ -67,7 +67,7 @@ fn work_out<R: AllocGlobal, E: Engine, O: Sink>(rt: &R, calls: u32, output: &mut
 }
 
 /// Sends the lines of what calls came to.
-fn send_work<S: Sink>(output: &mut S, told: Told) -> Result<(), SinkFault>
+fn send_work<S: Sink>(output: &mut S, told: WorkSummary) -> Result<(), SinkFault>
     ensures sends { Sends (S.written output.old) (S.written output.new) (work_text told) result }
     ensures counts { Counts (S.sink_faults output.old) (S.sink_faults output.new) (S.sink_steady output.old)
         (S.sink_steady output.new) }

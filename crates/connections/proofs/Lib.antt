@@ -3,3 +3,4 @@ pub mod Responding
 pub mod Conversations
 pub mod Visits
 pub mod NobodyElse
+pub mod Replied

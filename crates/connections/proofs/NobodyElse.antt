@@ -16,7 +16,7 @@ use Rattle.desk.specs.declared.entry.Noted.{Noted}
 use Rattle.desk.specs.declared.entry.Noted.TheVariants as noted
 use Rattle.desk.specs.declared.state.TheConstants.{LONGEST_JOURNAL}
 use Rattle.desk.specs.Steps.{Outcome, StepsTo, StepsOnce, entry_of}
-use Rattle.desk.specs.Points.{AreOthers, AreCountsOf, caller_of, entries_of}
+use Rattle.desk.specs.Points.{as_one_thread, as_out_of_memory, as_unavailable, AreOthers, AreCountsOf, caller_of, entries_of}
 use Rattle.desk.specs.Entries.{entries_entry}
 use Rattle.desk.specs.Desks.{pair_at, callers_at}
 use Rattle.conversation.specs.declared.ended.Ended.{Ended}
@@ -71,8 +71,8 @@ module _ {E K W A : Type 0} (plain : List Entry → Ask → Outcome → Type 0) 
       let same : call.told ≡ before =
       nothing_added before call.told call.begins
       (subst (λ (n : ℕ). AreOthers n 0 (drop (length before) call.told)) one_caller call.others) in
-      elim call.happens.one_of [
-        | inl is ↦ replied (record {
+      elim call.happens.comes_to [
+        | as_one_thread is ↦ replied (record {
           outcome = is.outcome;
           steps = subst (λ (l : List Noted). StepsTo plain LONGEST_JOURNAL (entries_of l) ask is.outcome) same
               (subst (λ (p : ℕ × ℕ). StepsTo plain p.0 (entries_of call.told) ask is.outcome) opened is.steps);
@@ -83,12 +83,12 @@ module _ {E K W A : Type 0} (plain : List Entry → Ask → Outcome → Type 0) 
               ∙ sym (told_text wire.close answer.reply is.outcome.body is.outcome.body _ is.body_is refl refl)
               ∙ ap (λ (s : ℕ). text_of_response s wire.close is.outcome.body) is.status_is;
         })
-        | inr (inl is) ↦
+        | as_unavailable is ↦
             let (earlier, later, are) = subst (λ (o : Option (List ℕ)). IfSome o (λ _. (earlier : K) × (later : K)
             × AreCountsOf failures steady answer.reply.faults earlier later)) is.body_is answer.counts in
             absurd (stays_low answer.reply.faults.0 answer.reply.faults.1 (are.before_is ∙ never earlier)
             (are.after_is ∙ never later) is.rose)
-        | inr (inr is) ↦ refused_for_memory (ap entries_of (is.item ∙ same))
+        | as_out_of_memory is ↦ refused_for_memory (ap entries_of (is.item ∙ same))
             (answer.response_is ∙ ap (λ (o : Option (List ℕ)). option_map_or
             (λ b. text_of_response answer.reply.status wire.close b) o (no_memory_text wire.close)) is.body_is)
       ]

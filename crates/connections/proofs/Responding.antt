@@ -1,5 +1,5 @@
 -- Replies of a desk's calls as responses.
-use Rattle.std.proofs.Common.{◌≡◌, inl, inr, ℕ, Bool, true, false, List, [], ◌∷◌, ◌++◌, length, refl, sym, ap, subst, ◌∙◌, rules}
+use Rattle.std.proofs.Common.{◌≡◌, ℕ, Bool, true, false, List, [], ◌∷◌, ◌++◌, length, refl, sym, ap, subst, ◌∙◌, rules}
 use Rattle.std.specs.Prelude.{Option, Some, None, IfSome, ◌≢◌, ◌<◌, ◌==◌, ◌&&◌, if◌then◌else◌, IsTrue}
 use Rattle.std.specs.Option.{option_map_or}
 use Rattle.std.specs.List.{list_any}
@@ -14,7 +14,7 @@ use Rattle.desk.specs.declared.entry.Reply.{Reply}
 use Rattle.desk.specs.Steps.{Outcome, IsServed, served, entry_of, is_full, StepsTo, history_full}
 use Rattle.desk.specs.declared.desk.Desk.{Desk}
 use Rattle.desk.specs.Desks.{pair_at, callers_at}
-use Rattle.desk.specs.Points.{IsCallAt, AreCountsOf, caller_of, entries_of, last_counted}
+use Rattle.desk.specs.Points.{as_one_thread, as_out_of_memory, as_unavailable, IsCallAt, AreCountsOf, caller_of, entries_of, last_counted}
 use Rattle.conversation.specs.declared.replies.Said.{Said}
 use Rattle.conversation.specs.declared.replies.Said.TheVariants as said
 use Rattle.conversation.specs.declared.ended.Ended.{Ended}
@@ -47,12 +47,12 @@ module _ (plain : List Entry → Ask → Outcome → Type 0)
   -- a reply with a body has a status that a response has
   pub call_served : (pair : ℕ × ℕ) (callers caller : ℕ) (ask : Ask) (before after : List Noted) (reply : Reply)
       → IsCallAt plain pair callers caller ask before after reply → IfSome reply.body (λ _. IsServedStatus reply.status)
-  call_served pair callers caller ask before after reply call = elim call.happens.one_of [
-    | inl is ↦ subst (λ (o : Option (List ℕ)). IfSome o (λ _. IsServedStatus reply.status)) (sym is.body_is)
+  call_served pair callers caller ask before after reply call = elim call.happens.comes_to [
+    | as_one_thread is ↦ subst (λ (o : Option (List ℕ)). IfSome o (λ _. IsServedStatus reply.status)) (sym is.body_is)
         (subst IsServedStatus (sym is.status_is) (steps_served pair.0 (entries_of call.told) ask is.outcome is.steps))
-    | inr (inl is) ↦ subst (λ (o : Option (List ℕ)). IfSome o (λ _. IsServedStatus reply.status)) (sym is.body_is)
+    | as_unavailable is ↦ subst (λ (o : Option (List ℕ)). IfSome o (λ _. IsServedStatus reply.status)) (sym is.body_is)
         (subst IsServedStatus (sym is.status_is) (search rules))
-    | inr (inr is) ↦ subst (λ (o : Option (List ℕ)). IfSome o (λ _. IsServedStatus reply.status)) (sym is.body_is)
+    | as_out_of_memory is ↦ subst (λ (o : Option (List ℕ)). IfSome o (λ _. IsServedStatus reply.status)) (sym is.body_is)
         (search rules)
   ]
 
@@ -119,7 +119,7 @@ module _ {E K W A : Type 0} (plain : List Entry → Ask → Outcome → Type 0) 
       };
       happens = record {
         at_is = refl;
-        one_of = inr (inr (record { status_is = refl; body_is = refl; item = refl; counts_are = refl }));
+        comes_to = as_out_of_memory (record { status_is = refl; body_is = refl; item = refl; counts_are = refl });
       };
     };
     counts = tt;
@@ -134,12 +134,12 @@ module _ {E K W A : Type 0} (plain : List Entry → Ask → Outcome → Type 0) 
   call_goes : (ask : Ask) (before after : List Noted) (reply : Reply)
       → IsCallAt plain (pair_at desk) (callers_at desk) caller ask before after reply → StartsWith after before
   call_goes ask before after reply call =
-      starts_through after call.told before (elim call.happens.one_of [
-        | inl is ↦ subst (λ (l : List Noted). StartsWith l call.told) (sym is.item)
+      starts_through after call.told before (elim call.happens.comes_to [
+        | as_one_thread is ↦ subst (λ (l : List Noted). StartsWith l call.told) (sym is.item)
             (added call.told is.outcome.accepts (noted.Entry (entry_of caller ask)))
-        | inr (inl is) ↦ subst (λ (l : List Noted). StartsWith l call.told) (sym is.item)
+        | as_unavailable is ↦ subst (λ (l : List Noted). StartsWith l call.told) (sym is.item)
             (noted.Mark (entry_of caller ask) reply.faults.0 reply.faults.1 ∷ [], refl)
-        | inr (inr is) ↦ subst (λ (l : List Noted). StartsWith l call.told) (sym is.item) (starts_whole call.told)
+        | as_out_of_memory is ↦ subst (λ (l : List Noted). StartsWith l call.told) (sym is.item) (starts_whole call.told)
       ]) call.begins
 
   pub served_goes : (room : ℕ) (stream : Option (List ℕ)) (before after : Moment (List Noted)) (end : Ended)

@@ -5,9 +5,9 @@ use Rattle.std.specs.Borrow.{GName}
 use Rattle.cell_value.specs.Calls.{one_more}
 use Rattle.conversation.specs.declared.ended.Ended.{Ended}
 
--- what a link tells at a moment: what is left to be read and what was written, where it tells these, how often it failed
--- as a source and as a sink, how often a write found no memory, whether it never fails as a source and as a sink, and the
--- references that it is made of
+-- what a link tells at a moment: what is left to be read and what was written, where it tells these, how often it
+-- failed as a source and as a sink, how often a write found no memory, whether it never fails as a source and as a
+-- sink, and the references that it is made of
 pub record LinkSeen : Type 0 where
   pub left : Option (List ℕ)
   pub written : Option (List ℕ)

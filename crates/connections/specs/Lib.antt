@@ -3,3 +3,4 @@ pub mod Calls
 pub mod Ports
 pub mod Memory
 pub mod Alone
+pub mod Replied

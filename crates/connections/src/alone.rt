@@ -3,6 +3,7 @@ ghost use Rattle.cell_value.specs.FaultCount.{Rose};
 ghost use Rattle.desk.specs.declared.entry.Entry.{Entry};
 ghost use Rattle.conversation.specs.Conversation.{at_moment, IsConversation, EndsAs, Counts, LosesFirst};
 ghost use Rattle.connections.specs.Alone.{IsReply, IsResponse, HasOneReply};
+ghost use Rattle.connections.specs.Replied.{HasReply};
 
 use crate::converse;
 use conversation::Ended;
@@ -64,3 +65,8 @@ pub fn one_reply<E: Engine>()
 {
     one_step::<E>();
 }
+
+/// Behind a given history a request has a reply where what it asks has an outcome there. It does nothing when it runs.
+pub fn has_reply<E: Engine>()
+    ensures { HasReply E.plain }
+{}

@@ -1,7 +1,6 @@
 ghost use Rattle.std.specs.Prelude.{◌≡◌, ℕ, ◌≤◌, ◌<◌, Bool, Option, IfOk, IfSome, IsTrue, OnErr};
 ghost use Rattle.std.specs.Option.{option_map};
-ghost use Rattle.cell_value.specs.FaultCount.{last_count, Rose};
-ghost use Rattle.sheets_http.specs.Outside.{StaysSteady};
+ghost use Rattle.cell_value.specs.FaultCount.{last_count, Rose, StaysSteady};
 
 use cell_value::Failed;
 use conversation::Ended;
@@ -16,9 +15,9 @@ pub trait Doors {
     ghost use Rattle.connections.specs.Doors.{LinkSeen, Shown, link_seen, IsFresh, IsAway};
     ghost use Rattle.connections.specs.Doors.{after_open, after_accept, after_refusal, after_back};
 
-    /// What is read from and written to a connection. From `accept` to `close` its own calls alone change what it tells,
-    /// each as [`Duplex`] says. A link of the system's tells its counts alone: that it gives and takes the bytes of one
-    /// connection is trusted.
+    /// What is read from and written to a connection. From `accept` to `close` its own calls alone change what it
+    /// tells, each as [`Duplex`] says. A link of the system's tells its counts alone: that it gives and takes the bytes
+    /// of one connection is trusted.
     type Link: Duplex + Send + Drop;
 
     /// What is left of a link that is closed.

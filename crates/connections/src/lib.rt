@@ -10,7 +10,7 @@ mod doors;
 mod memory;
 mod ports;
 
-pub use alone::{converse_alone, one_reply};
+pub use alone::{converse_alone, has_reply, one_reply};
 pub use caller::converse;
 pub use doors::Doors;
 pub use memory::{MemoryDoors, Visit};

@@ -2,8 +2,7 @@ ghost use Rattle.std.specs.Prelude.{◌≡◌, ◌<◌, ◌≤◌, true, false, 
 ghost use Rattle.std.specs.Option.{option_map};
 ghost use mathlib.Core.List as lists;
 ghost use Rattle.cell_value.specs.Calls.{no_calls, fails_next, after_call};
-ghost use Rattle.cell_value.specs.FaultCount.{Rose};
-ghost use Rattle.sheets_http.specs.Outside.{StaysSteady};
+ghost use Rattle.cell_value.specs.FaultCount.{Rose, StaysSteady};
 ghost use Rattle.connections.specs.Doors.{LinkSeen, link_seen, came_back, IsAway, IsFresh};
 ghost use Rattle.connections.specs.Doors.{after_open, after_accept, after_refusal, after_back};
 ghost use Rattle.connections.specs.Memory.{IsComing, connection_of, shown_by, refuses_next, CameFirst};
@@ -26,8 +25,8 @@ pub struct Visit<L> {
     pub(crate) back: Option<(Ended, L)>,
 }
 
-/// Links in memory as doors, some of whose calls are to fail. A call of `open` or `accept` fails exactly where it is to,
-/// or, of `accept`, where no link is left. None of them takes memory.
+/// Links in memory as doors, some of whose calls are to fail. A call of `open` or `accept` fails exactly where it is
+/// to, or, of `accept`, where no link is left. None of them takes memory.
 pub struct MemoryDoors<L: Duplex + Drop> {
     coming: Vec<(L, Bytes)>,
     accepted: Vec<Visit<L>>,

@@ -7,8 +7,8 @@ use Rattle.sheets_http.specs.declared.request.Wire.{Wire}
 use Rattle.sheets_http.specs.declared.request.HeadFault.{HeadFault}
 use Rattle.sheets_http.specs.Framing.{request_and_rest, talk_end, IsNext, End, ended, asked, closed, truncated}
 use Rattle.sheets_http.specs.Framing.{long_talk, Talk}
-use Rattle.cell_value.specs.FaultCount.{Rose}
-use Rattle.sheets_http.specs.Outside.{StaysSteady, TakesAll, TakesSome}
+use Rattle.cell_value.specs.FaultCount.{Rose, StaysSteady}
+use Rattle.sheets_http.specs.Outside.{TakesAll, TakesSome}
 use Rattle.conversation.specs.declared.ended.Ended.{Ended}
 use Rattle.conversation.specs.declared.ended.Ended.TheVariants as how
 use Rattle.conversation.specs.Responses.{closing_text, no_memory_text}

@@ -11,7 +11,7 @@ use Rattle.desk.specs.declared.entry.Entry.{Entry}
 use Rattle.desk.specs.declared.entry.Noted.{Noted}
 use Rattle.desk.specs.Journal.{heading, entry_text, entries_text, journal_text, IsTorn, IsJournalOf, cut_short, whole}
 use Rattle.desk.specs.Keeping.{with_piece, IsTornPut}
-use Rattle.desk.specs.Noting.{piece_of, is_first, place_of}
+use Rattle.desk.specs.Noting.{piece_of, is_first, journal_end}
 use Rattle.desk.specs.Steps.{Outcome}
 use Rattle.desk.specs.Histories.{IsAcceptedBehind, AreAccepted, IsHistory}
 use Rattle.desk.specs.Points.{entries_of, marked_last, AreOneMore, Keeps}
@@ -141,11 +141,11 @@ module _ (plain : List Entry → Ask → Outcome → Type 0) where
   )
 
   pub place_within : (limit : ℕ) (kept : Option (List ℕ)) (list : List Noted) → Keeps plain limit kept list
-      → IfSome kept (λ bytes. place_of (entries_of list) ≤ length bytes)
+      → IfSome kept (λ bytes. journal_end (entries_of list) ≤ length bytes)
   place_within limit None list keeps = tt
   place_within limit (Some bytes) list keeps = by_entries (entries_of list) (kept_fits plain limit list (Some bytes) keeps)
     where
-      by_entries : (es : List Entry) → Fits plain es (marked_last [] list) bytes → place_of es ≤ length bytes
+      by_entries : (es : List Entry) → Fits plain es (marked_last [] list) bytes → journal_end es ≤ length bytes
       by_entries [] fits = omega arith
       by_entries (e ∷ es) fits =
           let (rest, parts) = kept_front e es (marked_last [] list) bytes fits in
@@ -155,7 +155,7 @@ module _ (plain : List Entry → Ask → Outcome → Type 0) where
   -- ---- a put
 
   pub put_keeps : (kept kept' : Option (List ℕ)) (es marks : List Entry) (e : Entry) → IfSome kept (Fits plain es marks)
-      → kept' ≡ option_map (with_piece (place_of es) (piece_of (is_first es) e)) kept
+      → kept' ≡ option_map (with_piece (journal_end es) (piece_of (is_first es) e)) kept
       → IfSome kept' (λ bytes. bytes ≡ journal_text (es ++ e ∷ []))
   put_keeps None kept' es marks e keeps put =
       subst (λ (k : Option (List ℕ)). IfSome k (λ bytes. bytes ≡ journal_text (es ++ e ∷ []))) (sym put) tt
@@ -196,7 +196,7 @@ module _ (plain : List Entry → Ask → Outcome → Type 0) where
   -- the piece of one entry more was torn
   pub torn_keeps : (kept kept' : Option (List ℕ)) (es marks : List Entry) (e : Entry) → AreAccepted plain es
       → IsAcceptedBehind plain es e → IfSome kept (Fits plain es marks)
-      → IsTornPut kept kept' (place_of es) (piece_of (is_first es) e) → IfSome kept' (Fits plain es (marks ++ e ∷ []))
+      → IsTornPut kept kept' (journal_end es) (piece_of (is_first es) e) → IfSome kept' (Fits plain es (marks ++ e ∷ []))
   torn_keeps None kept' es marks e accepted also keeps (inl same) =
       subst (λ (k : Option (List ℕ)). IfSome k (Fits plain es (marks ++ e ∷ []))) (sym same) tt
   torn_keeps (Some bytes) kept' es marks e accepted also keeps (inl same) =
@@ -217,7 +217,7 @@ module _ (plain : List Entry → Ask → Outcome → Type 0) where
 
 -- the piece of one entry more ends where the journal with it ends
 piece_ends : (es : List Entry) (e : Entry)
-    → place_of es + length (piece_of (is_first es) e) ≡ length (journal_text (es ++ e ∷ []))
+    → journal_end es + length (piece_of (is_first es) e) ≡ length (journal_text (es ++ e ∷ []))
 piece_ends [] e =
     let same = ap (λ (l : List ℕ). length (heading ++ l)) (append-nil (entry_text e)) in omega (arith, same)
 piece_ends (first ∷ es) e = sym (journal_length (first ∷ es) e)
@@ -225,7 +225,7 @@ piece_ends (first ∷ es) e = sym (journal_length (first ∷ es) e)
 -- where that is within the limit, so is what is left of a put that failed
 pub torn_short : (limit : ℕ) (kept kept' : Option (List ℕ)) (es : List Entry) (e : Entry)
     → length (journal_text (es ++ e ∷ [])) ≤ limit → IfSome kept (IsShort limit)
-    → IsTornPut kept kept' (place_of es) (piece_of (is_first es) e) → IfSome kept' (IsShort limit)
+    → IsTornPut kept kept' (journal_end es) (piece_of (is_first es) e) → IfSome kept' (IsShort limit)
 torn_short limit kept kept' es e room short (inl same) =
     subst (λ (k : Option (List ℕ)). IfSome k (IsShort limit)) (sym same) short
 torn_short limit None kept' es e room short (inr (count, torn)) =
@@ -233,8 +233,8 @@ torn_short limit None kept' es e room short (inr (count, torn)) =
 torn_short limit (Some bytes) kept' es e room short (inr (count, torn)) =
     subst (λ (k : Option (List ℕ)). IfSome k (IsShort limit)) (sym torn)
     (let piece = piece_of (is_first es) e in
-    let both = length-append (take (place_of es) bytes) (take count piece) in
-    let front = length-take (place_of es) bytes in
+    let both = length-append (take (journal_end es) bytes) (take count piece) in
+    let front = length-take (journal_end es) bytes in
     let behind = length-take count piece in
     let ends = piece_ends es e in
     omega (arith, both, front, behind, ends, room))

@@ -2,13 +2,12 @@
 use Rattle.std.proofs.Common.{◌≡◌, inl, inr, ℕ, ◌+◌, ◌<◌, ◌≤◌, List, [], ◌∷◌, length, map, take, refl, sym, ap, subst, ◌∙◌, arith}
 use Rattle.std.specs.Prelude.{Option, Some, None, IfSome, Bool, IsTrue}
 use Rattle.std.proofs.lemmas.List.{length-take, take_all}
-use Rattle.cell_value.specs.FaultCount.{last_count, Rose}
+use Rattle.cell_value.specs.FaultCount.{last_count, Rose, StaysSteady}
 use Rattle.desk.specs.declared.entry.Entry.{Entry}
 use Rattle.desk.specs.declared.entry.Ask.{Ask}
 use Rattle.desk.specs.declared.entry.Noted.{Noted}
 use Rattle.desk.specs.declared.entry.Noted.TheVariants as noted
 use Rattle.desk.specs.Journal.{heading}
-use Rattle.desk.specs.Keeping.{StaysSteady}
 use Rattle.desk.specs.Steps.{Outcome}
 use Rattle.desk.specs.Histories.{AreAccepted, IsHistory, IsBadAt}
 use Rattle.desk.specs.Points.{entries_of, last_counted, marked_last, AreOneMore, Keeps}

@@ -1,5 +1,5 @@
 -- What a call adds to the told list, and what others added.
-use Rattle.std.proofs.Common.{◌≡◌, inl, inr, ℕ, ◌<◌, Bool, true, false, List, [], ◌∷◌, ◌++◌, length, drop, refl, sym, ap, subst, ◌∙◌, length-append}
+use Rattle.std.proofs.Common.{◌≡◌, ℕ, ◌<◌, Bool, true, false, List, [], ◌∷◌, ◌++◌, length, drop, refl, sym, ap, subst, ◌∙◌, length-append}
 use Rattle.std.specs.Prelude.{All, if◌then◌else◌}
 use Rattle.std.proofs.lemmas.List.{append-nil, drop-drop}
 use Rattle.std.proofs.lemmas.List.Elements.{All-nil, All-cons, All-drop}
@@ -11,7 +11,7 @@ use Rattle.desk.specs.declared.entry.Reply.{Reply}
 use Rattle.desk.specs.declared.entry.Noted.{Noted}
 use Rattle.desk.specs.declared.entry.Noted.TheVariants as noted
 use Rattle.desk.specs.Steps.{Outcome, entry_of}
-use Rattle.desk.specs.Points.{caller_of, Happens, AreOthers}
+use Rattle.desk.specs.Points.{as_one_thread, as_out_of_memory, as_unavailable, caller_of, Happens, AreOthers}
 
 -- the list is the told one, or one item of the caller more
 abbrev Grows : ℕ → List Noted → List Noted → Type 0
@@ -36,11 +36,11 @@ one_or_none caller ask told after false added = nothing_more caller told after a
 
 grows : (plain : List Entry → Ask → Outcome → Type 0) (pair : ℕ × ℕ) (caller : ℕ) (ask : Ask) (told after : List Noted)
     (reply : Reply) → Happens plain pair caller ask told after reply → Grows caller told after
-grows plain pair caller ask told after reply happens = elim happens.one_of [
-  | inl is ↦ one_or_none caller ask told after is.outcome.accepts is.item
-  | inr (inl is) ↦ one_more caller told after (noted.Mark (entry_of caller ask) reply.faults.0 reply.faults.1)
+grows plain pair caller ask told after reply happens = elim happens.comes_to [
+  | as_one_thread is ↦ one_or_none caller ask told after is.outcome.accepts is.item
+  | as_unavailable is ↦ one_more caller told after (noted.Mark (entry_of caller ask) reply.faults.0 reply.faults.1)
       is.item refl
-  | inr (inr is) ↦ nothing_more caller told after is.item
+  | as_out_of_memory is ↦ nothing_more caller told after is.item
 ]
 
 module _ (plain : List Entry → Ask → Outcome → Type 0) (pair : ℕ × ℕ) (caller : ℕ) (ask : Ask) (told after : List Noted)

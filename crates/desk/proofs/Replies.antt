@@ -10,7 +10,7 @@ use Rattle.desk.specs.declared.entry.Reply.{Reply}
 use Rattle.desk.specs.declared.entry.Noted.{Noted}
 use Rattle.desk.specs.declared.entry.Noted.TheVariants as noted
 use Rattle.desk.specs.Steps.{Outcome, Answers, IsServed, served, entry_of, is_full, within_limit, StepsTo, StepsOnce, history_full, unavailable_body}
-use Rattle.desk.specs.Points.{entries_of, last_counted, AreCountsOf, IsAnswered, Happens}
+use Rattle.desk.specs.Points.{as_one_thread, as_unavailable, entries_of, last_counted, AreCountsOf, IsAnswered, Happens}
 use Rattle.desk.specs.Entries.{entries_mark}
 
 module _ (limit : ℕ) (es : List Entry) (ask : Ask) (o : Outcome) where
@@ -99,9 +99,9 @@ module _ (plain : List Entry → Ask → Outcome → Type 0) (pair : ℕ × ℕ)
       after reply
   answered_happens answered = record {
     at_is = answered.at_is;
-    one_of = elim answered.one_of [
-      | inl is ↦ inl is
-      | inr is ↦ inr (inl is)
+    comes_to = elim answered.one_of [
+      | inl is ↦ as_one_thread is
+      | inr is ↦ as_unavailable is
     ];
   }
 

@@ -9,9 +9,10 @@ use Rattle.desk.specs.declared.entry.Entry.{Entry}
 use Rattle.desk.specs.declared.entry.Ask.{Ask}
 use Rattle.desk.specs.declared.entry.Noted.{Noted}
 use Rattle.desk.specs.declared.entry.Noted.TheVariants as noted
+use Rattle.desk.specs.declared.state.TheConstants.{LONGEST_JOURNAL}
 use Rattle.desk.specs.Journal.{entry_text, journal_text, FieldsFit, IsJournalOf}
 use Rattle.desk.specs.Keeping.{with_piece, IsTornPut}
-use Rattle.desk.specs.Noting.{piece_of, is_first, place_of, IsTornBehind, IsKept, IsMarked, IsNoted}
+use Rattle.desk.specs.Noting.{piece_of, is_first, journal_end, IsTornBehind, IsKept, IsMarked, IsNoted}
 use Rattle.desk.specs.declared.noting.Noting.{Noting}
 use Rattle.desk.specs.declared.noting.Noting.TheVariants as noting
 use Rattle.desk.specs.Steps.{Outcome, entry_of, is_full}
@@ -42,7 +43,7 @@ module _ {W : Type 0} (plain : List Entry → Ask → Outcome → Type 0) (stand
       → IsSound plain stands world list entries bytes limit opened failures kept
       → stands next (entries_of list ++ e ∷ []) → IsAcceptedBehind plain (entries_of list) e
       → total ≡ length (journal_text (entries_of list ++ e ∷ [])) → total ≤ limit
-      → piece ≡ piece_of (is_first (entries_of list)) e → at ≡ place_of (entries_of list)
+      → piece ≡ piece_of (is_first (entries_of list)) e → at ≡ journal_end (entries_of list)
       → IsKept e at piece list list' kept kept' failures failures'
       → IsSound plain stands next list' (entries + 1) total limit opened failures' kept'
       × IfSome kept' (λ b. b ≡ journal_text (entries_of list'))
@@ -90,13 +91,13 @@ module _ {W : Type 0} (plain : List Entry → Ask → Outcome → Type 0) (stand
       (kept kept' : Option (List ℕ)) (e : Entry) (before after : ℕ) (piece : List ℕ) (at : ℕ)
       → IsSound plain stands world list entries bytes limit opened failures kept
       → IsAcceptedBehind plain (entries_of list) e → length (journal_text (entries_of list ++ e ∷ [])) ≤ limit
-      → at ≡ place_of (entries_of list) → piece ≡ piece_of (is_first (entries_of list)) e
+      → at ≡ journal_end (entries_of list) → piece ≡ piece_of (is_first (entries_of list)) e
       → IsMarked e before after at piece list list' kept kept' failures failures'
       → IsSound plain stands world list' entries bytes limit opened failures' kept'
   sound_mark world list list' entries bytes limit opened failures failures' kept kept' e before after piece at
       sound also room at_is piece_is put =
       let same = ap entries_of put.list_is ∙ entries_mark list e before after in
-      let torn = subst (λ (p : List ℕ). IsTornPut kept kept' (place_of (entries_of list)) p) piece_is
+      let torn = subst (λ (p : List ℕ). IsTornPut kept kept' (journal_end (entries_of list)) p) piece_is
       (subst (λ (n : ℕ). IsTornPut kept kept' n piece) at_is put.kept_is) in
       record {
         world_is = subst (stands world) (sym same) sound.world_is;
@@ -123,7 +124,7 @@ module _ {W : Type 0} (plain : List Entry → Ask → Outcome → Type 0) (stand
 module _ (limit bytes size total : ℕ) (es : List Entry) (ask : Ask) (bytes_is : bytes ≡ length (journal_text es))
     (size_is : size ≡ min (length (entry_text (entry_of 0 ask))) last_count) (sum : total ≡ min (bytes + size)
     last_count)
-    (small : limit ≤ 1073741824) where
+    (small : limit ≤ LONGEST_JOURNAL) where
   pub full_journal : limit < total → is_full limit es (entry_of 0 ask) ≡ true
   full_journal over =
       lt-ltb limit _ (let long = journal_length es (entry_of 0 ask) in
@@ -144,7 +145,7 @@ module _ (limit bytes size total : ℕ) (es : List Entry) (ask : Ask) (bytes_is 
   pub fields_fit : (number : ℕ) → total ≤ limit → FieldsFit (entry_of number ask)
   fields_fit number within =
       let e = entry_of 0 ask in
-      let whole : length (entry_text e) ≤ 1073741824 = omega (arith, bytes_is, size_is, sum, small, within) in
+      let whole : length (entry_text e) ≤ LONGEST_JOURNAL = omega (arith, bytes_is, size_is, sum, small, within) in
       let long = entry_length e in
       record {
         user = omega (arith, whole, long);
@@ -164,12 +165,12 @@ pub first_of : (entries : ℕ) (es : List Entry) → entries ≡ length es → n
 first_of entries [] counted = ap (λ (n : ℕ). nat_eq n 0) counted
 first_of entries (e ∷ es) counted = ap (λ (n : ℕ). nat_eq n 0) counted ∙ eqb-suc-zero (length es)
 
-pub place_first : (entries at : ℕ) (es : List Entry) → entries ≡ length es → entries ≡ 0 → at ≡ 0 → at ≡ place_of es
+pub place_first : (entries at : ℕ) (es : List Entry) → entries ≡ length es → entries ≡ 0 → at ≡ 0 → at ≡ journal_end es
 place_first entries at [] counted none at_is = at_is
 place_first entries at (e ∷ es) counted none at_is = absurd (omega (arith, counted, none))
 
 pub place_later : (entries at bytes : ℕ) (es : List Entry) → entries ≡ length es → entries ≢ 0 → at ≡ bytes
-    → bytes ≡ length (journal_text es) → at ≡ place_of es
+    → bytes ≡ length (journal_text es) → at ≡ journal_end es
 place_later entries at bytes [] counted some at_is bytes_is = absurd (some counted)
 place_later entries at bytes (e ∷ es) counted some at_is bytes_is = at_is ∙ bytes_is
 
@@ -192,7 +193,7 @@ noted_marked {e} {at} {piece} {list} {list'} {kept} {kept'} {failures} {failures
 -- the piece of a mark's entry, which was torn
 pub torn_behind : {e : Entry} {before after : ℕ} {at : ℕ} {piece : List ℕ} {list list' : List Noted}
     {kept kept' : Option (List ℕ)} {failures failures' : ℕ} (es : List Entry) (entry : Entry)
-    → at ≡ place_of es → piece ≡ piece_of (is_first es) entry
+    → at ≡ journal_end es → piece ≡ piece_of (is_first es) entry
     → IsMarked e before after at piece list list' kept kept' failures failures' → IsTornBehind es entry kept kept'
 torn_behind {e} {before} {after} {at} {piece} {list} {list'} {kept} {kept'} {failures} {failures'} es entry at_is piece_is
     put =

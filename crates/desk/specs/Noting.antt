@@ -46,14 +46,14 @@ abbrev pub is_first : List Entry → Bool
 is_first [] = true
 is_first (entry ∷ entries) = false
 
-abbrev pub place_of : List Entry → ℕ
-place_of [] = 0
-place_of (entry ∷ entries) = length (journal_text (entry ∷ entries))
+abbrev pub journal_end : List Entry → ℕ
+journal_end [] = 0
+journal_end (entry ∷ entries) = length (journal_text (entry ∷ entries))
 
 -- what a put of an entry behind these leaves, where the keeper fails: what was kept, or what is kept of the entries and
 -- a beginning of its piece
 abbrev pub IsTornBehind : List Entry → Entry → Option (List ℕ) → Option (List ℕ) → Type 0
-IsTornBehind entries entry kept kept' = IsTornPut kept kept' (place_of entries) (piece_of (is_first entries) entry)
+IsTornBehind entries entry kept kept' = IsTornPut kept kept' (journal_end entries) (piece_of (is_first entries) entry)
 
 -- what a put needs, made before it; the entry is of texts
 pub record IsPrepared (caller : ℕ) (ask : Ask) (first : Bool) (prepared : Prepared) : Type 0 where

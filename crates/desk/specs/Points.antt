@@ -1,7 +1,7 @@
 -- The list that a desk tells, and what a call is at a point of it.
 use Rattle.std.specs.Prelude.{◌≡◌, ◌⊎◌, ℕ, ◌≤◌, ◌<◌, Bool, true, List, [], ◌∷◌, ◌++◌, All, length, drop, Option, Some, None, IfSome, if◌then◌else◌}
 use Rattle.std.specs.List.{Contains}
-use Rattle.cell_value.specs.FaultCount.{Rose}
+use Rattle.cell_value.specs.FaultCount.{Rose, StaysSteady}
 use Rattle.history_lock.specs.History.{StartsWith, NoneOf, AreSilent}
 use Rattle.history_lock.specs.declared.view.Drawing.TheVariants.{Alone}
 use Rattle.history_lock.specs.Passes.{seen_by, number_of, count_of, drawing_of, met_by}
@@ -11,9 +11,9 @@ use Rattle.desk.specs.declared.entry.Ask.{Ask}
 use Rattle.desk.specs.declared.entry.Reply.{Reply}
 use Rattle.desk.specs.declared.entry.Noted.{Noted}
 use Rattle.desk.specs.declared.entry.Noted.TheVariants as noted
+use Rattle.desk.specs.declared.state.TheConstants.{LONGEST_JOURNAL}
 use Rattle.desk.specs.Journal.{journal_text}
 use Rattle.desk.specs.Histories.{AreAccepted, IsHistory}
-use Rattle.desk.specs.Keeping.{StaysSteady}
 use Rattle.desk.specs.Steps.{Outcome, entry_of, StepsTo, unavailable_body}
 
 -- the entries of a told list; marks are left out
@@ -124,10 +124,16 @@ module _ (plain : List Entry → Ask → Outcome → Type 0) (pair : ℕ × ℕ)
     pub at_is : reply.at ≡ length (entries_of told)
     pub one_of : IsStep ⊎ IsUnavailable
 
+  -- what a call comes to
+  pub data Happening : Type 0 where
+    as_one_thread : IsStep → Happening
+    as_unavailable : IsUnavailable → Happening
+    as_out_of_memory : IsOutOfMemory → Happening
+
   -- a call of this caller behind the told items: its reply tells how many entries these have
   pub record Happens : Type 0 where
     pub at_is : reply.at ≡ length (entries_of told)
-    pub one_of : IsStep ⊎ (IsUnavailable ⊎ IsOutOfMemory)
+    pub comes_to : Happening
 
 -- items that others added: none is from this caller, and each is from one of so many callers
 pub record AreOthers (callers caller : ℕ) (items : List Noted) : Type 0 where
@@ -171,6 +177,6 @@ pub record IsSound {W : Type 0} (plain : List Entry → Ask → Outcome → Type
   pub accepted : AreAccepted plain (entries_of list)
   pub entries_is : entries ≡ length (entries_of list)
   pub bytes_is : bytes ≡ length (journal_text (entries_of list))
-  pub limit_is : limit ≤ 1073741824
+  pub limit_is : limit ≤ LONGEST_JOURNAL
   pub failures_is : failures ≡ last_counted opened list
   pub keeps : Keeps plain limit kept list

@@ -8,8 +8,8 @@ use Rattle.desk.specs.Points.{entries_of, marked_last, AreOneMore, Keeps}
 use Rattle.desk.specs.Opening.{HasOpened, HasLongJournal, HasBadJournal}
 
 module _ (plain : List Entry → Ask → Outcome → Type 0) where
-  -- With this limit the bytes are no long journal, and bad nowhere. What is opened with them are the entries of the list,
-  -- or these and one more, which has a mark behind the last.
+  -- With this limit the bytes are no long journal, and bad nowhere. What is opened with them are the entries of the
+  -- list, or these and one more, which has a mark behind the last.
   pub record OpensAgain (limit : ℕ) (list : List Noted) (bytes : List ℕ) : Type 0 where
     pub not_long : ¬ HasLongJournal limit (Some bytes)
     pub not_bad : (number : ℕ) → ¬ HasBadJournal plain limit (Some bytes) number

@@ -8,7 +8,7 @@ ghost use Rattle.desk.specs.declared.entry.Noted.{Noted};
 ghost use Rattle.desk.specs.Points.{IsCallAt, IsClosed, AreCountsOf, caller_of};
 ghost use Rattle.desk.specs.Opening.{HasOpened, HasOnlyLoaded, HasLongJournal, HasBadJournal};
 
-use crate::{Ask, Engine, History, Keeper, Noted, OpenFault, Reply, State};
+use crate::{Ask, Engine, History, Keeper, LONGEST_JOURNAL, Noted, OpenFault, Reply, State};
 use cell_value::NoMemory;
 use history_lock::{Lock, Spent, Told};
 use std::alloc::Global;
@@ -60,7 +60,7 @@ impl<E: Engine, K: Keeper> Desk<E, K> {
         limit: u64,
         callers: u32,
     ) -> Result<(Desk<E, K>, Pass), (OpenFault, K)>
-        requires limit { limit ≤ 1073741824 }
+        requires limit { limit ≤ LONGEST_JOURNAL }
         requires callers { 0 < callers }
         ensures pass { IfOk result (λ made. IsPass made.0 made.1 × (seen_by made.1 ≡ list_at made.0)
             × (number_of made.1 ≡ 0)) }
@@ -204,8 +204,8 @@ impl<E: Engine, K: Keeper> Desk<E, K> {
     /// Waits for the turn, and gives the history and the keeper. The entries are those of a list that begins with all
     /// that the pass has seen, and has no further call of the pass, nor of one that it took in. Where the pass alone
     /// draws numbers, those since the opening are from callers below the count that it knows. Each is accepted behind
-    /// those before it. The keeper has failed as often as its last mark tells, and has the journal of the entries, or of
-    /// these and one more that was answered 503 behind the last: a desk with the same limit can be opened with it
+    /// those before it. The keeper has failed as often as its last mark tells, and has the journal of the entries, or
+    /// of these and one more that was answered 503 behind the last: a desk with the same limit can be opened with it
     /// ([`crate::opens_again`]). It takes no memory.
     pub fn close<R: Wait>(self, rt: &R, pass: Pass) -> (History<E>, K)
         requires { IsPass self pass }

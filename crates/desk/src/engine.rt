@@ -58,7 +58,8 @@ pub trait Engine {
     fn read(alloc: Global, ask: &Ask) -> Result<Self::Asked, NoMemory>
         ensures { IfOk result (reads ask.now) };
 
-    /// Answers an ask that was read on a world, which stays as it is. A world is told exactly where the ask is accepted.
+    /// Answers an ask that was read on a world, which stays as it is. A world is told exactly where the ask is
+    /// accepted.
     ///
     /// # Errors
     ///
@@ -97,8 +98,8 @@ pub trait Engine {
     fn one_dump()
         ensures { HasOneDump dumps };
 
-    /// The law that a status is 200, 400, 401, 403 or 404, and that what is accepted is answered 200, and has a user and
-    /// no content coding. It does nothing when it runs.
+    /// The law that a status is 200, 400, 401, 403 or 404, and that what is accepted is answered 200, and has a user
+    /// and no content coding. It does nothing when it runs.
     fn served_outcomes()
         ensures { AreServed plain };
 }

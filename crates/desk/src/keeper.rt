@@ -80,7 +80,8 @@ impl From<NoMemory> for PutFault {
 /// What keeps the bytes of a journal, as [`crate::SteadyKeeper`] does in memory. It may fail, and counts how often it
 /// did.
 pub trait Keeper {
-    ghost use Rattle.desk.specs.Keeping.{StaysSteady, Puts};
+    ghost use Rattle.cell_value.specs.FaultCount.{StaysSteady};
+    ghost use Rattle.desk.specs.Keeping.{Puts};
 
     /// The bytes that are kept, where the keeper tells them.
     ghost kept: { Self → Option (List ℕ) };

@@ -16,9 +16,9 @@ pub fn one_history<E: Engine>()
     ensures good { IsNowhereBad E.plain }
 {}
 
-/// What a desk keeps of its list can be opened again with the same limit: it isn't too long, and is bad nowhere. What is
-/// opened with it is the history of the list, or that and one entry more, whose call was answered 503 behind the last
-/// accepted one. So it is of what [`crate::Desk::close`] leaves. It does nothing when it runs.
+/// What a desk keeps of its list can be opened again with the same limit: it isn't too long, and is bad nowhere. What
+/// is opened with it is the history of the list, or that and one entry more, whose call was answered 503 behind the
+/// last accepted one. So it is of what [`crate::Desk::close`] leaves. It does nothing when it runs.
 pub fn opens_again<E: Engine>()
     ensures { CanReopen E.plain }
 {}

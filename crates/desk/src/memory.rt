@@ -1,7 +1,7 @@
-ghost use Rattle.std.specs.Prelude.{◌≡◌, ◌≢◌, ◌≤◌, ◌↔◌, ◌⊎◌, ℕ, length, take, OnOk, OnErr, IfNone, IfSome, Some, Err};
+ghost use Rattle.std.specs.Prelude.{◌≡◌, ◌≢◌, ◌≤◌, ◌↔◌, length, take, OnOk, OnErr, IfSome, Some, Err};
 ghost use Rattle.cell_value.specs.Calls.{one_more};
-ghost use Rattle.cell_value.specs.FaultCount.{Rose};
-ghost use Rattle.desk.specs.Keeping.{StaysSteady, with_piece, outage};
+ghost use Rattle.cell_value.specs.FaultCount.{Rose, StaysSteady};
+ghost use Rattle.desk.specs.Keeping.{LeavesTold, with_piece, outage};
 
 use crate::{Keeper, LoadFault, PutFault};
 use cell_value::{Bytes, Items, NoMemory};
@@ -86,13 +86,14 @@ impl Keeper for SteadyKeeper {
 }
 
 /// Bytes in memory as a keeper, some of whose calls fail. Contracts see the bytes, how many puts were made, which calls
-/// fail, and how often one has failed. It is steady where no call is to fail.
+/// fail, how often one has failed, and how often a put found no memory. It is steady where no call is to fail.
 #[derive(Debug, Drop)]
 pub struct MemoryKeeper {
     keeper: SteadyKeeper,
     failing: Items<(u64, Option<u64>)>,
     puts: u64,
     faults: u64,
+    shortages: u64,
 }
 
 impl Model for MemoryKeeper {
@@ -100,21 +101,29 @@ impl Model for MemoryKeeper {
 
     ghost Value = { KeptBytes };
 
-    ghost view = { λ k. record { bytes = k.keeper; puts = k.puts; failing = k.failing; faults = k.faults } };
+    ghost view = { λ k. record {
+      bytes = k.keeper;
+      puts = k.puts;
+      failing = k.failing;
+      faults = k.faults;
+      shortages = k.shortages;
+    } };
 }
 
 impl MemoryKeeper {
     /// A keeper that has these bytes. Put number k, from 1, fails where k stands first in a pair: with `None` it
-    /// changes nothing, with a number it leaves so many bytes of its piece, or all of them. A pair that begins with 0
-    /// lets each load fail. Of pairs that begin alike the first one counts.
+    /// changes nothing, with a number it leaves so many bytes of its piece, or all of them, unless memory runs out:
+    /// then it changes nothing, either. A pair that begins with 0 lets each load fail. Of pairs that begin alike the
+    /// first one counts.
     pub fn new(kept: Vec<u8>, failing: Items<(u64, Option<u64>)>) -> MemoryKeeper
-        ensures { result ≡ record { bytes = kept.items; puts = 0; failing = failing; faults = 0 } }
+        ensures { result ≡ record { bytes = kept.items; puts = 0; failing = failing; faults = 0; shortages = 0 } }
     {
         MemoryKeeper {
             keeper: SteadyKeeper::new(kept),
             failing,
             puts: 0,
             faults: 0,
+            shortages: 0,
         }
     }
 
@@ -134,6 +143,7 @@ impl MemoryKeeper {
             failing: _,
             puts: _,
             faults: _,
+            shortages: _,
         } = self;
         keeper.into_bytes()
     }
@@ -147,19 +157,34 @@ fn find_outage(failing: &[(u64, Option<u64>)], number: u64) -> Option<Option<u64
     Some(pair.1)
 }
 
-// What a put that fails leaves: the first bytes and so many of the piece behind them, where that is told and memory
-// suffices.
-fn put_torn(keeper: &mut SteadyKeeper, at: u64, piece: &[u8], left: Option<u64>)
-    requires { at ≤ length keeper.old }
-    ensures untold { IfNone left (keeper.new ≡ keeper.old) }
-    ensures told { IfSome left (λ count. (keeper.new ≡ keeper.old)
-        ⊎ (keeper.new ≡ with_piece at (take count piece.now) keeper.old)) }
-    ensures torn { (keeper.new ≡ keeper.old)
-        ⊎ ((count : ℕ) × (keeper.new ≡ with_piece at (take count piece.now) keeper.old)) }
-{
-    if let Some(count) = left {
-        let count = piece.len().min(count as usize);
-        let _ = keeper.put(at, &piece[..count]);
+impl MemoryKeeper {
+    // Puts the piece, and counts a shortage where memory runs out.
+    fn put_counted(&mut self, at: u64, piece: &[u8]) -> Result<(), PutFault>
+        requires { at ≤ length self.old.bytes }
+        ensures ok { OnOk result (self.new.bytes ≡ with_piece at piece.now self.old.bytes) }
+        ensures err { OnErr result ((result ≡ Err PutFault.NoMemory)
+            × (self.new.bytes ≡ self.old.bytes) × Rose self.old.shortages self.new.shortages) }
+        ensures later { self.old.shortages ≤ self.new.shortages }
+        ensures rest { self.new ≡ record self.old { bytes = self.new.bytes; shortages = self.new.shortages } }
+    {
+        let put = self.keeper.put(at, piece);
+        if put.is_err() {
+            self.shortages = self.shortages.saturating_add(1);
+        }
+        put
+    }
+
+    // Leaves what a put that fails is to leave.
+    fn put_torn(&mut self, at: u64, piece: &[u8], left: Option<u64>)
+        requires { at ≤ length self.old.bytes }
+        ensures leaves { LeavesTold left self.old at piece.now self.new }
+        ensures later { self.old.shortages ≤ self.new.shortages }
+        ensures rest { self.new ≡ record self.old { bytes = self.new.bytes; shortages = self.new.shortages } }
+    {
+        if let Some(count) = left {
+            let count = piece.len().min(count as usize);
+            let _ = self.put_counted(at, &piece[..count]);
+        }
     }
 }
 
@@ -202,13 +227,16 @@ impl Keeper for MemoryKeeper {
         ensures later { self.old.faults ≤ self.new.faults }
         ensures steady { StaysSteady (never_fails self.old) (never_fails self.new) self.old.faults self.new.faults }
         ensures fails { (result ≡ Err PutFault.Failed) ↔ IsSome (next_outage self.old) }
+        ensures leaves { IfSome (next_outage self.old) (λ left. LeavesTold left self.old at piece.now self.new) }
+        ensures short { result ≡ Err PutFault.NoMemory → Rose self.old.shortages self.new.shortages }
+        ensures short_later { self.old.shortages ≤ self.new.shortages }
         ensures calls { (self.new.failing ≡ self.old.failing) × (self.new.puts ≡ one_more self.old.puts) }
     {
         self.puts = self.puts.saturating_add(1);
         match find_outage(self.failing.as_slice(), self.puts) {
-            None => self.keeper.put(at, piece),
+            None => self.put_counted(at, piece),
             Some(left) => {
-                put_torn(&mut self.keeper, at, piece, left);
+                self.put_torn(at, piece, left);
                 self.faults = self.faults.saturating_add(1);
                 Err(PutFault::Failed)
             }

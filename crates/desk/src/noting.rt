@@ -1,9 +1,8 @@
 ghost use Rattle.std.specs.Prelude.{◌≡◌, ◌<◌, ◌≤◌, ◌+◌, ◌^◌, ℕ, length, IfOk, IfSome, OnErr, min};
 ghost use Rattle.std.specs.Vec.{vec_len, vec_capacity};
-ghost use Rattle.cell_value.specs.FaultCount.{last_count};
+ghost use Rattle.cell_value.specs.FaultCount.{last_count, StaysSteady};
 ghost use Rattle.desk.specs.Steps.{entry_of, unavailable_body};
 ghost use Rattle.desk.specs.Journal.{entry_text, FieldsFit};
-ghost use Rattle.desk.specs.Keeping.{StaysSteady};
 ghost use Rattle.desk.specs.Noting.{IsNoted, IsPrepared};
 
 use crate::journal::{HEADING, put_entry};

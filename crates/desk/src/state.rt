@@ -58,7 +58,7 @@ impl<E: Engine, K: Keeper> State<E, K> {
     /// [`OpenFault::JournalLong`] where it has more than `limit` bytes; [`OpenFault::BadJournal`] as
     /// [`crate::read_journal`] has [`crate::JournalFault::Bad`]; [`OpenFault::NoMemory`] where memory runs out.
     pub fn open(alloc: Global, mut keeper: K, limit: u64) -> Result<State<E, K>, (OpenFault, K)>
-        requires { limit ≤ 1073741824 }
+        requires { limit ≤ LONGEST_JOURNAL }
         ensures opened { IfOk result (λ state. HasOpened E.plain limit (K.kept keeper) state.list) }
         ensures pair { IfOk result (λ state. state.pair ≡ (limit, K.failures state.keeper)) }
         ensures loaded { IfOk result (λ state. HasOnlyLoaded K.kept K.failures K.steady keeper state.keeper) }
@@ -98,8 +98,9 @@ impl<E: Engine, K: Keeper> State<E, K> {
     }
 
     /// Makes one call, at the end of the list, by what was read of its ask; where memory ran out as it was read it is
-    /// answered 507. It is answered 503 only where the keeper's count of faults rose in it. Its reply is made before the
-    /// keeper's put, and after the put no memory is taken. After an answer 507 the bytes that are kept are as they were.
+    /// answered 507. It is answered 503 only where the keeper's count of faults rose in it. Its reply is made before
+    /// the keeper's put, and after the put no memory is taken. After an answer 507 the bytes that are kept are as they
+    /// were.
     pub fn step(&mut self, caller: u32, ask: &Ask, asked: &Result<E::Asked, NoMemory>) -> Reply
         requires { IfOk asked.now (E.reads ask.now) }
         ensures happens { Happens E.plain self.old.pair caller ask.now self.old.list self.new.list result }
@@ -301,7 +302,7 @@ fn load_history<E: Engine, K: Keeper>(
     keeper: &mut K,
     limit: u64,
 ) -> Result<Replay<E>, OpenFault>
-    requires { limit ≤ 1073741824 }
+    requires { limit ≤ LONGEST_JOURNAL }
     ensures opened { IfOk result (λ replay. HasOpened E.plain limit (K.kept keeper.old) (map Noted.Entry replay)) }
     ensures loaded { HasOnlyLoaded K.kept K.failures K.steady keeper.old keeper.new }
     ensures cause { result ≡ Err OpenFault.KeeperFault → Rose (K.failures keeper.old) (K.failures keeper.new) }

@@ -1,7 +1,7 @@
 use crate::calls::{CALLERS, CALLS};
 use crate::fault::Fault;
 use crate::making::Made;
-use crate::told::Told;
+use crate::told::ToldCall;
 use desk::{Engine, History, read_journal};
 use std::alloc::Global;
 
@@ -22,13 +22,13 @@ pub fn compare<E: Engine>(alloc: Global, many: &Made<E>, one: &Made<E>) -> Resul
     }
 }
 
-fn compare_told(many: &[Told], one: &[Told]) -> Result<(), Fault> {
+fn compare_told(many: &[ToldCall], one: &[ToldCall]) -> Result<(), Fault> {
     for count in [many.len(), one.len()] {
         if count != (CALLERS * CALLS) as usize {
             return Err(Fault::Missing(count));
         }
     }
-    if let Some(Told { call, .. }) = many.iter().find(|told| !told.sees) {
+    if let Some(ToldCall { call, .. }) = many.iter().find(|told| !told.sees) {
         return Err(Fault::Blind(*call));
     }
     match many.iter().zip(one).find(|pair| !pair.0.is_same(pair.1)) {

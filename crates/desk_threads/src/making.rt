@@ -3,7 +3,7 @@ ghost use Rattle.std.specs.Thread.{IsSync};
 ghost use Rattle.desk.specs.Desks.{IsPass};
 
 use crate::calls::{CALLERS, Call, calls_of};
-use crate::told::{Told, note};
+use crate::told::{ToldCall, note};
 use desk::{Desk, Engine, History, LONGEST_JOURNAL, OpenFault, Pass, SteadyKeeper};
 use std::alloc::Global;
 use std::sync::Wait;
@@ -11,7 +11,7 @@ use std::thread::{Threads, join};
 
 /// What calls were told, the history that they made, and the journal that was kept of it.
 pub struct Made<E: Engine> {
-    pub told: Vec<Told>,
+    pub told: Vec<ToldCall>,
     pub history: History<E>,
     pub journal: SteadyKeeper,
 }
@@ -77,7 +77,7 @@ fn close<E: Engine, R: Wait>(
     rt: &R,
     desk: Desk<E, SteadyKeeper>,
     pass: Pass,
-    told: Vec<Told>,
+    told: Vec<ToldCall>,
 ) -> Made<E>
     requires { IsPass desk pass }
 {
@@ -96,7 +96,7 @@ fn split<E: Engine + Send, R: Threads + Wait + Sync>(
     desk: &Desk<E, SteadyKeeper>,
     pass: Pass,
     callers: u32,
-) -> (Pass, Vec<Told>)
+) -> (Pass, Vec<ToldCall>)
 where
     E::World: Send,
     E::Asked: Send,
@@ -114,12 +114,12 @@ where
     let rest = callers - half;
     let ((mut pass, told), (other, others)) = join(
         rt,
-        || -> (Pass, Vec<Told>)
+        || -> (Pass, Vec<ToldCall>)
             requires pass { IsPass desk.now pass }
             requires sync { IsSync R.row }
             ensures { IsPass desk.entry.now result.0 }
         { split(rt, alloc, desk, pass, rest) },
-        || -> (Pass, Vec<Told>)
+        || -> (Pass, Vec<ToldCall>)
             requires pass { IsPass desk.now other }
             requires sync { IsSync R.row }
             ensures { IsPass desk.entry.now result.0 }
@@ -129,7 +129,7 @@ where
     (pass, both(told, others))
 }
 
-fn both(told: Vec<Told>, others: Vec<Told>) -> Vec<Told> {
+fn both(told: Vec<ToldCall>, others: Vec<ToldCall>) -> Vec<ToldCall> {
     let (mut all, mut others) = (told, others);
     let _ = all.append(&mut others);
     all
@@ -141,7 +141,7 @@ fn make_own<E: Engine, R: Wait>(
     alloc: Global,
     desk: &Desk<E, SteadyKeeper>,
     pass: Pass,
-) -> (Pass, Vec<Told>)
+) -> (Pass, Vec<ToldCall>)
     requires { IsPass desk.now pass }
     ensures { IsPass desk.now result.0 }
 {
@@ -158,7 +158,7 @@ fn make<E: Engine, R: Wait>(
     desk: &Desk<E, SteadyKeeper>,
     pass: Pass,
     calls: &[Call],
-) -> (Pass, Vec<Told>)
+) -> (Pass, Vec<ToldCall>)
     requires { IsPass desk.now pass }
     ensures { IsPass desk.now result.0 }
 {
@@ -177,7 +177,7 @@ fn turn<E: Engine, R: Wait>(
     desk: &Desk<E, SteadyKeeper>,
     pass: Pass,
     call: Call,
-    told: &mut Vec<Told>,
+    told: &mut Vec<ToldCall>,
 ) -> Pass
     requires { IsPass desk.now pass }
     ensures { IsPass desk.now result }

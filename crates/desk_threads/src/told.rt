@@ -5,20 +5,20 @@ use std::alloc::Global;
 
 /// A call, what it was told, and whether it saw those that its caller had made before.
 #[derive(Drop)]
-pub struct Told {
+pub struct ToldCall {
     pub call: Call,
     pub reply: Reply,
     pub sees: bool,
 }
 
-impl Told {
+impl ToldCall {
     // Where it stands in the history: behind so many entries. Reads there stand before the write that adds the next.
     fn place(&self) -> (u64, bool) {
         (self.reply.at, !self.call.is_read())
     }
 
     /// Whether both were told the same, at the same point of the history.
-    pub fn is_same(&self, other: &Told) -> bool {
+    pub fn is_same(&self, other: &ToldCall) -> bool {
         self.reply.at == other.reply.at
             && self.reply.status == other.reply.status
             && self.reply.faults == other.reply.faults
@@ -41,13 +41,13 @@ fn body_of(reply: &Reply) -> &[u8] {
 }
 
 /// Notes what a call was told behind the one that was noted last, where there is memory for it.
-pub fn note(told: &mut Vec<Told>, call: Call, reply: Reply) {
+pub fn note(told: &mut Vec<ToldCall>, call: Call, reply: Reply) {
     let entries = match told.last() {
         Some(before) => before.entries(),
         None => 0,
     };
     let sees = reply.status == 200 && reply.at >= entries && call.is_shown_by(body_of(&reply));
-    let _ = told.push(Told { call, reply, sees });
+    let _ = told.push(ToldCall { call, reply, sees });
 }
 
 /// Puts calls into the order of the history, and gives them.
@@ -55,7 +55,7 @@ pub fn note(told: &mut Vec<Told>, call: Call, reply: Reply) {
 /// # Errors
 ///
 /// [`NoMemory`] where memory runs out.
-pub fn in_order(alloc: Global, told: &mut Vec<Told>) -> Result<Vec<Call>, NoMemory> {
+pub fn in_order(alloc: Global, told: &mut Vec<ToldCall>) -> Result<Vec<Call>, NoMemory> {
     told.sort_by_key(|told| told.place())?;
     let calls = told.iter().map(|told| told.call).collect(alloc)?;
     Ok(calls)

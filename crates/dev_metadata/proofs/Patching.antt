@@ -4,7 +4,7 @@ use Rattle.std.proofs.lemmas.List.{take_more, take_more_set, take_all, length-se
 use Rattle.dev_metadata.specs.declared.types.Item.{Item}
 use Rattle.dev_metadata.specs.declared.types.ItemPatch.{ItemPatch}
 use Rattle.dev_metadata.specs.declared.types.Lookup.{Lookup}
-use Rattle.dev_metadata.specs.declared.types.Sight.TheVariants.{Document}
+use Rattle.dev_metadata.specs.declared.types.Visibility.TheVariants.{Document}
 use Rattle.dev_metadata.specs.declared.types.Spot.TheVariants.{Spreadsheet}
 use Rattle.dev_metadata.specs.Lookup.{finds_some}
 use Rattle.dev_metadata.specs.declared.updating.Given.{Given}
@@ -13,7 +13,7 @@ use Rattle.dev_metadata.specs.Patch.{patched}
 
 -- some item
 abbrev pub any_item : Item
-any_item = record { id = 0; key = []; value = []; spot = Spreadsheet; sight = Document }
+any_item = record { id = 0; key = []; value = []; spot = Spreadsheet; visibility = Document }
 
 -- the item with what it is given, if it is given something
 abbrev pub patched_item : List Lookup → List ℕ → ItemPatch → Item → Item

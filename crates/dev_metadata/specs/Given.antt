@@ -5,7 +5,7 @@ use Rattle.dev_metadata.specs.declared.types.Item.{Item}
 use Rattle.dev_metadata.specs.declared.types.ItemPatch.{ItemPatch}
 use Rattle.dev_metadata.specs.declared.types.Lookup.{Lookup}
 use Rattle.dev_metadata.specs.declared.updating.Given.{Given}
-use Rattle.dev_metadata.specs.SightKind.{sight_given}
+use Rattle.dev_metadata.specs.VisibilityKind.{visibility_given}
 use Rattle.dev_metadata.specs.Lookup.{finds_some}
 
 abbrev pub given_of : List ℕ → ItemPatch → Given
@@ -13,7 +13,7 @@ given_of project patch = record {
   key = patch.key;
   value = patch.value;
   spot = patch.spot;
-  sight = option_map (sight_given project) patch.sight;
+  visibility = option_map (visibility_given project) patch.visibility;
 }
 
 -- the item with what is given in the place of what it has
@@ -23,7 +23,7 @@ with_given given item = record {
   key = unwrap_or given.key item.key;
   value = unwrap_or given.value item.value;
   spot = unwrap_or given.spot item.spot;
-  sight = unwrap_or given.sight item.sight;
+  visibility = unwrap_or given.visibility item.visibility;
 }
 
 -- what an item gets: something where one of the look-ups finds it

@@ -1,9 +1,10 @@
 pub mod Spot
 pub mod Kind
-pub mod Sight
-pub mod SightKind
+pub mod Visibility
+pub mod VisibilityKind
 pub mod Lookup
 pub mod Listed
+pub mod Order
 pub mod Kept
 pub mod Used
 pub mod Following

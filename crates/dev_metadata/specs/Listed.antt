@@ -3,7 +3,7 @@ use Rattle.std.specs.Prelude.{ℕ, ◌≢◌, Bool, not, ◌&&◌, ◌==◌, Lis
 use Rattle.std.specs.List.Sorted.{IsPermutation, IsNonDecreasingBy}
 use Rattle.dev_metadata.specs.declared.types.Item.{Item}
 use Rattle.dev_metadata.specs.declared.types.Lookup.{Lookup}
-use Rattle.dev_metadata.specs.declared.types.Sight.{Sight}
+use Rattle.dev_metadata.specs.declared.types.Visibility.{Visibility}
 use Rattle.dev_metadata.specs.declared.types.Spot.{Spot}
 use Rattle.dev_metadata.specs.Lookup.{sees, finds, finds_some}
 
@@ -27,9 +27,9 @@ abbrev pub seen_with_id : ℕ → List ℕ → List Item → Option Item
 seen_with_id id project items = find (λ item. id == item.id && sees project item) items
 
 -- a new item stands last
-abbrev pub with_one_more : ℕ → List ℕ → List ℕ → Spot → Sight → List Item → List Item
-with_one_more id key value spot sight items =
-    items ++ record { id = id; key = key; value = value; spot = spot; sight = sight } ∷ []
+abbrev pub with_one_more : ℕ → List ℕ → List ℕ → Spot → Visibility → List Item → List Item
+with_one_more id key value spot visibility items =
+    items ++ record { id = id; key = key; value = value; spot = spot; visibility = visibility } ∷ []
 
 -- the same, each behind those of lesser numbers
 pub record AreInOrder {X : Type 0} (number : X → ℕ) (ones sorted : List X) : Type 0 where

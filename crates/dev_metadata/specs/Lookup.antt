@@ -8,8 +8,8 @@ use Rattle.dev_metadata.specs.declared.types.Lookup.{Lookup}
 use Rattle.dev_metadata.specs.declared.types.Spot.{Spot}
 use Rattle.dev_metadata.specs.Spot.{is_spreadsheet, is_same_spot, intersect}
 use Rattle.dev_metadata.specs.Kind.{has_kind, is_spreadsheet_kind}
-use Rattle.dev_metadata.specs.Sight.{is_seen_under}
-use Rattle.dev_metadata.specs.SightKind.{has_sight}
+use Rattle.dev_metadata.specs.Visibility.{is_seen_under}
+use Rattle.dev_metadata.specs.VisibilityKind.{has_visibility}
 
 -- EXACT_LOCATION is given; INTERSECTING_LOCATION is given
 abbrev pub is_exact : Lookup → Bool
@@ -22,7 +22,7 @@ is_intersecting lookup = lookup.strategy_given && lookup.intersecting
 abbrev pub asks_nothing : Lookup → Bool
 asks_nothing lookup =
     is_none lookup.kind && is_none lookup.spot && not lookup.strategy_given && is_none lookup.id
-    && is_none lookup.key && is_none lookup.value && is_none lookup.sight
+    && is_none lookup.key && is_none lookup.value && is_none lookup.visibility
 
 -- a strategy is given and no location
 abbrev pub lacks_location : Lookup → Bool
@@ -69,11 +69,11 @@ meets lookup item =
     && option_map_or (λ id. id == item.id) lookup.id true
     && is_text_asked lookup.key item.key
     && is_text_asked lookup.value item.value
-    && option_map_or (λ sight. has_sight sight item.sight) lookup.sight true
+    && option_map_or (λ visibility. has_visibility visibility item.visibility) lookup.visibility true
 
 -- the project sees the item
 abbrev pub sees : List ℕ → Item → Bool
-sees project item = is_seen_under project item.sight
+sees project item = is_seen_under project item.visibility
 
 -- it sees it, and the item meets the look-up
 abbrev pub finds : Lookup → List ℕ → Item → Bool

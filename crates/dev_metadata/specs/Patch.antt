@@ -4,7 +4,7 @@ use Rattle.std.specs.Option.{option_map}
 use Rattle.dev_metadata.specs.declared.types.Item.{Item}
 use Rattle.dev_metadata.specs.declared.types.ItemPatch.{ItemPatch}
 use Rattle.dev_metadata.specs.declared.types.Lookup.{Lookup}
-use Rattle.dev_metadata.specs.SightKind.{sight_given}
+use Rattle.dev_metadata.specs.VisibilityKind.{visibility_given}
 use Rattle.dev_metadata.specs.Lookup.{finds_some}
 
 -- the item with what is given in the place of what it has; its id stays
@@ -14,7 +14,7 @@ patched project patch item = record {
   key = unwrap_or patch.key item.key;
   value = unwrap_or patch.value item.value;
   spot = unwrap_or patch.spot item.spot;
-  sight = unwrap_or (option_map (sight_given project) patch.sight) item.sight;
+  visibility = unwrap_or (option_map (visibility_given project) patch.visibility) item.visibility;
 }
 
 -- the list with those patched that one of the look-ups finds, each in its place

@@ -6,10 +6,12 @@ mod by_id;
 mod finding;
 mod following;
 mod ids;
+mod laws;
 mod list;
 mod matching;
 mod types;
 mod updating;
 
+pub use laws::have_order;
 pub use list::Metadata;
-pub use types::{Item, ItemPatch, Lookup, MetaFault, Sight, SightKind, Spot, SpotKind};
+pub use types::{Item, ItemPatch, Lookup, MetaFault, Spot, SpotKind, Visibility, VisibilityKind};

@@ -13,7 +13,7 @@ use crate::by_id::ById;
 use crate::finding::{found_ids, found_items};
 use crate::ids::{is_taken, new_id};
 use crate::matching::has_bad;
-use crate::types::{Item, ItemPatch, Lookup, MetaFault, Sight, Spot};
+use crate::types::{Item, ItemPatch, Lookup, MetaFault, Spot, Visibility};
 use crate::updating::patch_found;
 use cell_value::{Duplicate, Items, NoMemory, Text};
 use grid_range::{Axis, Change};
@@ -80,20 +80,20 @@ impl Metadata {
         key: Text,
         value: Text,
         spot: Spot,
-        sight: Sight,
+        visibility: Visibility,
     ) -> Result<u32, MetaFault>
         requires room { length self.old < 4294967295 }
         ensures taken { (result ≡ Err IdTaken) ↔ (is_taken (has_id self.old) id ≡ true) }
         ensures no_other { (result ≢ Err NoId) × (result ≢ Err BadLookup) }
         ensures id { IfOk result (IsNewId (IsLeastUnused (has_id self.old)) id) }
         ensures added { IfOk result (λ new.
-            self.new ≡ with_one_more new key value spot sight self.old) }
+            self.new ≡ with_one_more new key value spot visibility self.old) }
         ensures unchanged { OnErr result (self.new ≡ self.old) }
     {
         if is_taken(&self.items, id) {
             return Err(MetaFault::IdTaken);
         }
-        match self.add_last(id, key, value, spot, sight) {
+        match self.add_last(id, key, value, spot, visibility) {
             Ok(id) => Ok(id),
             Err(NoMemory) => Err(MetaFault::NoMemory),
         }
@@ -106,13 +106,13 @@ impl Metadata {
         key: Text,
         value: Text,
         spot: Spot,
-        sight: Sight,
+        visibility: Visibility,
     ) -> Result<u32, NoMemory>
         requires room { length self.old < 4294967295 }
         requires free { is_taken (has_id self.old) asked ≡ false }
         ensures id { IfOk result (IsNewId (IsLeastUnused (has_id self.old)) asked) }
         ensures added { IfOk result (λ new.
-            self.new ≡ with_one_more new key value spot sight self.old) }
+            self.new ≡ with_one_more new key value spot visibility self.old) }
         ensures unchanged { OnErr result (self.new ≡ self.old) }
     {
         let id = new_id(&self.items, self.used_below, asked)?;
@@ -121,7 +121,7 @@ impl Metadata {
             key,
             value,
             spot,
-            sight,
+            visibility,
         })?;
         if asked.is_none() {
             self.used_below = id;
@@ -152,7 +152,7 @@ impl Metadata {
         ensures ids { HaveOwnIds self.now }
     {
         match self.items.get(id) {
-            Some(item) if item.sight.is_seen_under(project) => Some(item),
+            Some(item) if item.visibility.is_seen_under(project) => Some(item),
             _ => None,
         }
     }

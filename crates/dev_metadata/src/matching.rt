@@ -1,15 +1,16 @@
-ghost use Rattle.std.specs.Prelude.{◌≡◌, ◌==◌, true, if◌then◌else◌};
+ghost use Rattle.std.specs.Prelude.{◌≡◌, ◌==◌, true, IfOk, if◌then◌else◌};
 ghost use Rattle.std.specs.List.{list_any};
 ghost use Rattle.std.specs.Option.{option_map_or};
 ghost use Rattle.dev_metadata.specs.Spot.{is_same_axis, is_spreadsheet, is_sheet, is_line_on, is_on_sheet, is_line, is_same_spot, share_sheet, are_row_and_column, intersect};
 ghost use Rattle.dev_metadata.specs.Kind.{has_kind};
-ghost use Rattle.dev_metadata.specs.Sight.{is_seen_under, is_of_document};
-ghost use Rattle.dev_metadata.specs.SightKind.{has_sight};
+ghost use Rattle.dev_metadata.specs.Visibility.{is_seen_under, is_of_document};
+ghost use Rattle.dev_metadata.specs.VisibilityKind.{has_visibility, visibility_given};
 ghost use Rattle.dev_metadata.specs.Lookup.{is_exact, asks_nothing, limits_to_spreadsheet, asks_for_sheet_or_line, is_bad, has_bad, is_text_asked, is_spot_asked, meets, finds, finds_some};
 
-use crate::types::{Item, Lookup, Sight, SightKind, Spot, SpotKind};
-use cell_value::Text;
+use crate::types::{Item, Lookup, Spot, SpotKind, Visibility, VisibilityKind};
+use cell_value::{NoMemory, Text};
 use grid_range::Axis;
+use std::alloc::Global;
 
 /// Whether one of the look-ups is bad.
 pub(crate) fn has_bad(lookups: &[Lookup]) -> bool
@@ -41,7 +42,7 @@ impl Lookup {
             && self.id.is_none()
             && self.key.is_none()
             && self.value.is_none()
-            && self.sight.is_none()
+            && self.visibility.is_none()
     }
 
     /// Whether the kind SPREADSHEET is given beside INTERSECTING_LOCATION or another location.
@@ -77,7 +78,7 @@ impl Lookup {
     pub(crate) fn finds(&self, project: &str, item: &Item) -> bool
         ensures { result ≡ finds self.now project.now item.now }
     {
-        item.sight.is_seen_under(project) && self.meets(item)
+        item.visibility.is_seen_under(project) && self.meets(item)
     }
 
     /// Whether all members hold of the item that are given.
@@ -89,7 +90,7 @@ impl Lookup {
             && self.is_id_asked(item.id)
             && is_text_asked(&self.key, &item.key)
             && is_text_asked(&self.value, &item.value)
-            && self.is_sight_asked(&item.sight)
+            && self.is_visibility_asked(&item.visibility)
     }
 
     /// Whether the location is of the kind that is asked for, if one is.
@@ -124,11 +125,11 @@ impl Lookup {
     }
 
     /// Whether the visibility is the one that is asked for, if one is.
-    fn is_sight_asked(&self, sight: &Sight) -> bool
-        ensures { result ≡ option_map_or (λ asked. has_sight asked sight.now) self.now.sight true }
+    fn is_visibility_asked(&self, visibility: &Visibility) -> bool
+        ensures { result ≡ option_map_or (λ asked. has_visibility asked visibility.now) self.now.visibility true }
     {
-        match self.sight {
-            Some(asked) => sight.is_of(asked),
+        match self.visibility {
+            Some(asked) => visibility.is_of(asked),
             None => true,
         }
     }
@@ -149,7 +150,7 @@ impl Item {
     pub(crate) fn is_found(&self, lookups: &[Lookup], project: &str) -> bool
         ensures { result ≡ finds_some lookups.now project.now self.now }
     {
-        self.sight.is_seen_under(project) && self.meets_some(lookups)
+        self.visibility.is_seen_under(project) && self.meets_some(lookups)
     }
 
     /// Whether the item meets one of the look-ups.
@@ -160,24 +161,42 @@ impl Item {
     }
 }
 
-impl Sight {
+impl VisibilityKind {
+    /// Under which projects an item is seen that a call of the project gives this word.
+    ///
+    /// # Errors
+    ///
+    /// Only where the project can't be copied.
+    pub fn under(self, alloc: Global, project: &str) -> Result<Visibility, NoMemory>
+        ensures { IfOk result (λ visibility. visibility ≡ visibility_given project.now self) }
+    {
+        match self {
+            VisibilityKind::Document => Ok(Visibility::Document),
+            VisibilityKind::Project => Ok(Visibility::Project(Text::of(String::from_str(
+                alloc, project,
+            )?))),
+        }
+    }
+}
+
+impl Visibility {
     /// Whether the project sees what has this visibility.
     pub(crate) fn is_seen_under(&self, project: &str) -> bool
         ensures { result ≡ is_seen_under project.now self.now }
     {
         match self {
-            Sight::Document => true,
-            Sight::Project(owner) => owner.as_str() == project,
+            Visibility::Document => true,
+            Visibility::Project(owner) => owner.as_str() == project,
         }
     }
 
     /// Whether the word is that of the visibility.
-    fn is_of(&self, kind: SightKind) -> bool
-        ensures { result ≡ has_sight kind self.now }
+    fn is_of(&self, kind: VisibilityKind) -> bool
+        ensures { result ≡ has_visibility kind self.now }
     {
         match kind {
-            SightKind::Document => self.is_of_document(),
-            SightKind::Project => !self.is_of_document(),
+            VisibilityKind::Document => self.is_of_document(),
+            VisibilityKind::Project => !self.is_of_document(),
         }
     }
 
@@ -185,8 +204,8 @@ impl Sight {
         ensures { result ≡ is_of_document self.now }
     {
         match self {
-            Sight::Document => true,
-            Sight::Project(_) => false,
+            Visibility::Document => true,
+            Visibility::Project(_) => false,
         }
     }
 }

@@ -16,7 +16,7 @@ pub enum Spot {
 /// Under which projects an item is seen: the `DeveloperMetadataVisibility` of the Google Sheets API
 /// v4.
 #[derive(Debug, Drop)]
-pub enum Sight {
+pub enum Visibility {
     /// Under every project.
     Document,
     /// Under the project alone.
@@ -31,7 +31,7 @@ pub struct Item {
     pub key: Text,
     pub value: Text,
     pub spot: Spot,
-    pub sight: Sight,
+    pub visibility: Visibility,
 }
 
 /// Which items are looked up: the `DeveloperMetadataLookup` of the Google Sheets API v4. An item
@@ -54,7 +54,7 @@ pub struct Lookup {
     /// The `metadataValue`.
     pub value: Option<Text>,
     /// The `visibility`.
-    pub sight: Option<SightKind>,
+    pub visibility: Option<VisibilityKind>,
 }
 
 /// A kind of location: the `DeveloperMetadataLocationType` of the Google Sheets API v4.
@@ -68,7 +68,7 @@ pub enum SpotKind {
 
 /// Whether every project is meant, or one alone.
 #[derive(Clone, Copy, Debug, PartialEq, Eq)]
-pub enum SightKind {
+pub enum VisibilityKind {
     Document,
     Project,
 }
@@ -80,7 +80,7 @@ pub struct ItemPatch {
     pub value: Option<Text>,
     pub spot: Option<Spot>,
     /// An item that is made one of a project is made one of the project of the call.
-    pub sight: Option<SightKind>,
+    pub visibility: Option<VisibilityKind>,
 }
 
 /// Why a call on metadata is refused.
@@ -114,11 +114,11 @@ impl fmt::Display for MetaFault {
 
 impl Error for MetaFault {}
 
-impl Duplicate for Sight {
-    fn duplicate(&self) -> Result<Sight, NoMemory> {
+impl Duplicate for Visibility {
+    fn duplicate(&self) -> Result<Visibility, NoMemory> {
         match self {
-            Sight::Document => Ok(Sight::Document),
-            Sight::Project(project) => Ok(Sight::Project(project.duplicate()?)),
+            Visibility::Document => Ok(Visibility::Document),
+            Visibility::Project(project) => Ok(Visibility::Project(project.duplicate()?)),
         }
     }
 }
@@ -130,7 +130,7 @@ impl Duplicate for Item {
             key: self.key.duplicate()?,
             value: self.value.duplicate()?,
             spot: self.spot,
-            sight: self.sight.duplicate()?,
+            visibility: self.visibility.duplicate()?,
         })
     }
 }

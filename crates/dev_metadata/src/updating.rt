@@ -1,11 +1,11 @@
 ghost use Rattle.std.specs.Prelude.{◌≡◌, IfOk, OnOk, OnErr, map};
 ghost use Rattle.std.specs.Option.{option_map};
-ghost use Rattle.dev_metadata.specs.SightKind.{sight_given};
+ghost use Rattle.dev_metadata.specs.VisibilityKind.{visibility_given};
 ghost use Rattle.dev_metadata.specs.Patch.{with_patched};
 ghost use Rattle.dev_metadata.specs.Given.{given_of, with_given, given_to};
 
 use crate::by_id::ById;
-use crate::types::{Item, ItemPatch, Lookup, Sight, SightKind, Spot};
+use crate::types::{Item, ItemPatch, Lookup, Spot, Visibility, VisibilityKind};
 use cell_value::{Duplicate, NoMemory, Text, put_given};
 use std::alloc::Global;
 
@@ -15,7 +15,7 @@ pub(crate) struct Given {
     pub(crate) key: Option<Text>,
     pub(crate) value: Option<Text>,
     pub(crate) spot: Option<Spot>,
-    pub(crate) sight: Option<Sight>,
+    pub(crate) visibility: Option<Visibility>,
 }
 
 /// Puts what the patch gives in the place of what the items have that one of the look-ups finds.
@@ -89,7 +89,7 @@ impl ItemPatch {
             key: copy_text(&self.key)?,
             value: copy_text(&self.value)?,
             spot: self.spot,
-            sight: sight_given(alloc, project, self.sight)?,
+            visibility: visibility_given(alloc, project, self.visibility)?,
         })
     }
 }
@@ -105,18 +105,15 @@ fn copy_text(text: &Option<Text>) -> Result<Option<Text>, NoMemory>
 }
 
 /// What the word means in a call of the project, if there is one.
-fn sight_given(
+fn visibility_given(
     alloc: Global,
     project: &str,
-    word: Option<SightKind>,
-) -> Result<Option<Sight>, NoMemory>
-    ensures { IfOk result (λ sight. sight ≡ option_map (sight_given project.now) word) }
+    word: Option<VisibilityKind>,
+) -> Result<Option<Visibility>, NoMemory>
+    ensures { IfOk result (λ visibility. visibility ≡ option_map (visibility_given project.now) word) }
 {
     match word {
-        Some(SightKind::Document) => Ok(Some(Sight::Document)),
-        Some(SightKind::Project) => Ok(Some(Sight::Project(Text::of(String::from_str(
-            alloc, project,
-        )?)))),
+        Some(word) => Ok(Some(word.under(alloc, project)?)),
         None => Ok(None),
     }
 }
@@ -129,6 +126,6 @@ impl Item {
         put_given(&mut self.key, given.key);
         put_given(&mut self.value, given.value);
         put_given(&mut self.spot, given.spot);
-        put_given(&mut self.sight, given.sight);
+        put_given(&mut self.visibility, given.visibility);
     }
 }

@@ -10,7 +10,7 @@ use Rattle.dev_metadata.specs.declared.types.Item.{Item}
 use Rattle.dev_metadata.specs.declared.types.ItemPatch.{ItemPatch}
 use Rattle.dev_metadata.specs.declared.types.Lookup.{Lookup}
 use Rattle.dev_metadata.specs.declared.types.MetaFault.{MetaFault}
-use Rattle.dev_metadata.specs.declared.types.Sight.{Sight}
+use Rattle.dev_metadata.specs.declared.types.Visibility.{Visibility}
 use Rattle.dev_metadata.specs.declared.types.Spot.{Spot}
 use Rattle.world_model.specs.Book.{PlaceBook}
 use Rattle.world_model.specs.BookChange.{AreChanges, BookChange}
@@ -22,11 +22,11 @@ use Rattle.dimension_ops.specs.MetadataRequests.{IsItemPatchWithin, MetadataBeco
 -- ---- the items are within the sheets
 
 module _ (sheets : List PlaceSheet) (old : List Item) (within : All (IsItemWithin sheets) old) where
-  pub more_within : (id : ℕ) (key value : List ℕ) (place : Spot) (sight : Sight) → IsSpotWithin sheets place
-      → All (IsItemWithin sheets) (with_one_more id key value place sight old)
-  more_within id key value place sight there =
+  pub more_within : (id : ℕ) (key value : List ℕ) (place : Spot) (visibility : Visibility) → IsSpotWithin sheets place
+      → All (IsItemWithin sheets) (with_one_more id key value place visibility old)
+  more_within id key value place visibility there =
       All-push (IsItemWithin sheets) old
-      (record { id = id; key = key; value = value; spot = place; sight = sight }) within there
+      (record { id = id; key = key; value = value; spot = place; visibility = visibility }) within there
 
   -- what is given is within, and so is what was there
   spot_given : (given : Option Spot) (own : Spot) → IfSome given (IsSpotWithin sheets) → IsSpotWithin sheets own

@@ -15,6 +15,7 @@ use Rattle.std.proofs.lemmas.Bool.{cases_Bool, ltb-false, or_parts}
 use Rattle.std.proofs.lemmas.List.Folds.{list_any-append}
 use Rattle.std.proofs.lemmas.List.Sums.{fold-append, sum_by-cons, sum_by-insert}
 use Rattle.cell_value.specs.declared.cell.SheetProperties.{SheetProperties}
+use Rattle.world_model.specs.declared.limits.TheConstants.{MOST_COLUMNS, MOST_ROWS}
 use Rattle.world_model.specs.Book.{PlaceBook}
 use Rattle.world_model.specs.Counts.{grid_places}
 use Rattle.world_model.specs.Making.{BooksMade, CanBeMade, IsRoomForAll, Placed, additions, bare_book, bare_names, made_by_name, with_all_placed, with_named_book}
@@ -23,6 +24,7 @@ use Rattle.world_model.specs.Sheet.{PlaceSheet}
 use Rattle.world_model.specs.SheetChange.{new_place_sheet}
 use Rattle.world_model.specs.SheetLaws.{IsRoomFor}
 use Rattle.world_model.specs.Sound.{most_places, most_sheets}
+use Rattle.dimension_ops.specs.declared.creating.TheConstants.{MOST_BOOKS}
 use Rattle.dimension_ops.specs.Broken.{Broken, first_broken, judged_by}
 use Rattle.dimension_ops.specs.Creating.{AreFaults, AreIdsBelow, ArePlaced, AreTitlesBelow, HasIdsOf, HasTitlesOf, HavePlaces, IsBookAdded, book_id, IsPlaced, broken_each, created_broken, passes_created, placed_places, sheets_made, sheets_with}
 use Rattle.dimension_ops.specs.SheetRequests.{has_id, has_title, new_cols, new_place, new_rows, numbered_title, sheet_added_broken}
@@ -160,8 +162,8 @@ each_tail one each good = record {
 -- there is room for them by the limits
 record IsWithin (sheets : List PlaceSheet) (placed : List Placed) : Type 0 where
   pub sheets_few : length sheets + length placed ≤ most_sheets
-  pub rows : list_any (λ (one : Placed). nat_lt 1000000 one.1.rows) placed ≡ false
-  pub cols : list_any (λ (one : Placed). nat_lt 18278 one.1.cols) placed ≡ false
+  pub rows : list_any (λ (one : Placed). nat_lt MOST_ROWS one.1.rows) placed ≡ false
+  pub cols : list_any (λ (one : Placed). nat_lt MOST_COLUMNS one.1.cols) placed ≡ false
   pub places : grid_places sheets + placed_places placed ≤ most_places
 
 places_split : (one : Placed) (placed : List Placed)
@@ -179,8 +181,8 @@ within_tail sheets one placed within =
     let places = within.places in
     record {
       sheets_few = omega (arith, long, few);
-      rows = (or_parts (nat_lt 1000000 one.1.rows) (list_any (λ (p : Placed). nat_lt 1000000 p.1.rows) placed) within.rows).1;
-      cols = (or_parts (nat_lt 18278 one.1.cols) (list_any (λ (p : Placed). nat_lt 18278 p.1.cols) placed) within.cols).1;
+      rows = (or_parts (nat_lt MOST_ROWS one.1.rows) (list_any (λ (p : Placed). nat_lt MOST_ROWS p.1.rows) placed) within.rows).1;
+      cols = (or_parts (nat_lt MOST_COLUMNS one.1.cols) (list_any (λ (p : Placed). nat_lt MOST_COLUMNS p.1.cols) placed) within.cols).1;
       places = omega (arith, more, split, places);
     }
 
@@ -216,13 +218,13 @@ module _ (id title owner : List ℕ) where
         title = titled.1;
         rows = (
           subst (λ n. 0 < n) (sym is.1.rows) (above_zero (new_rows asked) lines.0),
-          ltb-false 1000000 one.1.rows
-              (or_parts (nat_lt 1000000 one.1.rows) (list_any (λ (p : Placed). nat_lt 1000000 p.1.rows) placed) within.rows).0,
+          ltb-false MOST_ROWS one.1.rows
+              (or_parts (nat_lt MOST_ROWS one.1.rows) (list_any (λ (p : Placed). nat_lt MOST_ROWS p.1.rows) placed) within.rows).0,
         );
         cols = (
           subst (λ n. 0 < n) (sym is.1.cols) (above_zero (new_cols asked) lines.1),
-          ltb-false 18278 one.1.cols
-              (or_parts (nat_lt 18278 one.1.cols) (list_any (λ (p : Placed). nat_lt 18278 p.1.cols) placed) within.cols).0,
+          ltb-false MOST_COLUMNS one.1.cols
+              (or_parts (nat_lt MOST_COLUMNS one.1.cols) (list_any (λ (p : Placed). nat_lt MOST_COLUMNS p.1.cols) placed) within.cols).0,
         );
         few_sheets = omega (arith, few);
         few_places = omega (arith, places, split);
@@ -354,10 +356,10 @@ have_places books asked placed none are place d there =
 
 -- a spreadsheet is not past the limit on how many there are
 pub few_books : (books : ℕ) (asked : List SheetProperties) (placed : List Placed)
-    → first_broken (created_broken books asked placed) ≡ None → books < 1000
+    → first_broken (created_broken books asked placed) ≡ None → books < MOST_BOOKS
 few_books books asked placed none =
     let good = breaks_none (created_broken books asked placed) none in
-    let books_few = ltb-false 1000 (books + 1)
+    let books_few = ltb-false MOST_BOOKS (books + 1)
     (not_first (passes_created (books + 1) placed limit.Books) limit.Books _ good.past_limit).0 in
     omega (arith, books_few)
 

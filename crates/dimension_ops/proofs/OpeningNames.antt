@@ -16,6 +16,7 @@ use Rattle.world_model.specs.Sheet.{NameSheet, PlaceSheet}
 use Rattle.world_model.specs.Sound.{IsSound}
 use Rattle.world_model.specs.StandsFor.{SheetStandsFor, BookStandsFor}
 use Rattle.world_model.specs.World.{HasNamesBelow, WorldStandsFor}
+use Rattle.dimension_ops.specs.declared.sheets.TheConstants.{DEFAULT_COLUMNS, DEFAULT_ROWS}
 use Rattle.dimension_ops.specs.World.{AreNumbered, opening_book, opening_names, opening_world}
 use Rattle.dimension_ops.proofs.Opening.{opening_sound}
 
@@ -109,7 +110,7 @@ module _ (rows cols : ℕ) where
   }
 
 pub opening_stands : WorldStandsFor (opening_book ∷ []) opening_world
-opening_stands = world_stands 1000 26 1026 (omega arith) (opening_sound (codes "book1") (codes "book1") (codes "owner"))
+opening_stands = world_stands DEFAULT_ROWS DEFAULT_COLUMNS (DEFAULT_ROWS + DEFAULT_COLUMNS) (omega arith) (opening_sound (codes "book1") (codes "book1") (codes "owner"))
 
 pub first_numbered : AreNumbered (opening_book ∷ [])
 first_numbered zero d there = ap (λ number. codes "book" ++ number) (sym (decimal_digit 1 (omega arith)))

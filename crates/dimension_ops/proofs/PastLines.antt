@@ -11,6 +11,7 @@ use Rattle.grid_range.specs.declared.change.Change.{Change}
 use Rattle.grid_range.specs.declared.change.Change.TheVariants.{Insert}
 use Rattle.cell_store.specs.Moved.{size_after}
 use Rattle.merge_ranges.specs.Tests.{tears_merge}
+use Rattle.world_model.specs.declared.limits.TheConstants.{MOST_COLUMNS, MOST_ROWS}
 use Rattle.world_model.specs.Book.{PlaceBook}
 use Rattle.world_model.specs.Sheet.{PlaceSheet}
 use Rattle.world_model.specs.Sound.{IsSheetSound, most_places, place_sheet_with}
@@ -65,11 +66,11 @@ module _ (at count places : ℕ) (sheet : PlaceSheet) (sheets : List PlaceSheet)
       → first_passed (passes_size (size_after axis (Insert at count) sheet.table.rows sheet.table.cols) places)
       ≡ Some (limit_on axis)
   past_on Rows many =
-      rows_first (nat_lt 1000000 (sheet.table.rows + count)) (nat_lt 18278 sheet.table.cols) (nat_lt most_places places)
-      (lt-ltb 1000000 (sheet.table.rows + count) (omega arith))
+      rows_first (nat_lt MOST_ROWS (sheet.table.rows + count)) (nat_lt MOST_COLUMNS sheet.table.cols) (nat_lt most_places places)
+      (lt-ltb MOST_ROWS (sheet.table.rows + count) (omega arith))
   past_on Columns many =
-      cols_first (nat_lt 1000000 sheet.table.rows) (nat_lt 18278 (sheet.table.cols + count)) (nat_lt most_places places)
-      (le-ltb 1000000 sheet.table.rows sound.rows.1) (lt-ltb 18278 (sheet.table.cols + count) (omega arith))
+      cols_first (nat_lt MOST_ROWS sheet.table.rows) (nat_lt MOST_COLUMNS (sheet.table.cols + count)) (nat_lt most_places places)
+      (le-ltb MOST_ROWS sheet.table.rows sound.rows.1) (lt-ltb MOST_COLUMNS (sheet.table.cols + count) (omega arith))
 
 pub past_refused : (before : PlaceBook) (id at count lines : ℕ) (axis : Axis) (broken : Rule)
     → All (IsSheetSound before.sheets) before.sheets

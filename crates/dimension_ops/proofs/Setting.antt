@@ -19,6 +19,7 @@ use Rattle.grid_range.specs.declared.axis.Axis.TheVariants.{Rows, Columns}
 use Rattle.grid_range.specs.declared.change.Change.{Change}
 use Rattle.grid_range.specs.declared.change.Change.TheVariants.{Insert, Delete}
 use Rattle.ref_rewrite.specs.declared.cell_content.Content.{Content}
+use Rattle.world_model.specs.declared.limits.TheConstants.{MOST_COLUMNS, MOST_ROWS}
 use Rattle.world_model.specs.Book.{PlaceBook}
 use Rattle.world_model.specs.Counts.{grid_places}
 use Rattle.world_model.specs.Laws.{size_of}
@@ -335,8 +336,8 @@ can_be_set id properties sheets found at distinct good free rows cols visible wi
       for_size = record {
         others = places_with id (0, 0) sheets;
         sized = record { held = ap (option_map size_of) at; places = omega (arith, none) };
-        rows = (above_zero given.0 rows, ltb-false 1000000 given.0 passed.rows);
-        cols = (above_zero given.1 cols, ltb-false 18278 given.1 passed.cols);
+        rows = (above_zero given.0 rows, ltb-false MOST_ROWS given.0 passed.rows);
+        cols = (above_zero given.1 cols, ltb-false MOST_COLUMNS given.1 passed.cols);
         room = omega (arith, all, none, few);
       };
     }

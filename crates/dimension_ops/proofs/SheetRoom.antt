@@ -9,6 +9,7 @@ use Rattle.std.proofs.lemmas.Bool.{and_parts, eqb-false, false≢true, ltb-false
 use Rattle.std.proofs.lemmas.Bool.Decides.{Decides-ltb}
 use Rattle.cell_value.specs.Ids.{IsNewId, is_taken}
 use Rattle.cell_value.specs.declared.cell.SheetProperties.{SheetProperties}
+use Rattle.world_model.specs.declared.limits.TheConstants.{MOST_COLUMNS, MOST_ROWS}
 use Rattle.world_model.specs.Book.{PlaceBook}
 use Rattle.world_model.specs.BookChange.{NewSheet}
 use Rattle.world_model.specs.Counts.{grid_places}
@@ -95,10 +96,10 @@ room_for properties book new none is =
       id = new_id book.sheets properties.id new.id good.id_taken is.id;
       titled = title.0;
       title = title.1;
-      rows = subst (λ n. (0 < n) × (n ≤ 1000000)) (sym is.rows)
-          (above_zero rows lines.0, ltb-false 1000000 rows within.rows);
-      cols = subst (λ n. (0 < n) × (n ≤ 18278)) (sym is.cols)
-          (above_zero cols lines.1, ltb-false 18278 cols within.cols);
+      rows = subst (λ n. (0 < n) × (n ≤ MOST_ROWS)) (sym is.rows)
+          (above_zero rows lines.0, ltb-false MOST_ROWS rows within.rows);
+      cols = subst (λ n. (0 < n) × (n ≤ MOST_COLUMNS)) (sym is.cols)
+          (above_zero cols lines.1, ltb-false MOST_COLUMNS cols within.cols);
       few_sheets = omega (arith, few);
       few_places = subst (λ n. grid_places book.sheets + n * new.cols ≤ most_places) (sym is.rows)
           (subst (λ n. grid_places book.sheets + rows * n ≤ most_places) (sym is.cols)
@@ -114,6 +115,6 @@ few_lines properties sheets none =
     let cols = new_cols properties in
     let within = passes_none (passes_with (length sheets + 1) rows cols (grid_places sheets + rows * cols))
     good.past_limit in
-    let few = ltb-false 1000000 rows within.rows in
-    let short = ltb-false 18278 cols within.cols in
+    let few = ltb-false MOST_ROWS rows within.rows in
+    let short = ltb-false MOST_COLUMNS cols within.cols in
     omega (arith, few, short)

@@ -1,7 +1,7 @@
 -- Which rules are broken by a spreadsheet that is to be created, and the one that is (Google Sheets API v4 reference,
--- spreadsheets.create). Its sheets are those that addSheet would add one after another to a spreadsheet without any: each
--- is judged, and what isn't given is chosen, beside those before it in the list alone. Each rule is tried on all of them
--- before the next one.
+-- spreadsheets.create). Its sheets are those that addSheet would add one after another to a spreadsheet without any:
+-- each is judged, and what isn't given is chosen, beside those before it in the list alone. Each rule is tried on all
+-- of them before the next one.
 use Rattle.std.specs.Prelude.{◌≡◌, ◌<◌, ◌≤◌, ◌+◌, ◌*◌, ◌++◌, ℕ, true, false, List, [], ◌∷◌, length, take, drop, get_or, None, String, nat_lt, codes, Result, IfOk, ⊤}
 use Rattle.std.specs.BTreeSet.{BTreeSet, contains, contains_text}
 use Rattle.std.specs.Fmt.{decimal}

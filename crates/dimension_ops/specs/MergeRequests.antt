@@ -1,6 +1,6 @@
 -- What requests that merge cells, or dissolve merges, make of a spreadsheet (Google Sheets API v4 reference,
--- MergeCellsRequest, UnmergeCellsRequest). An area to be unmerged must not have a part of a merge (UnmergeCellsRequest);
--- that one to be merged must not either is this project's profile.
+-- MergeCellsRequest, UnmergeCellsRequest). An area to be unmerged must not have a part of a merge
+-- (UnmergeCellsRequest); that one to be merged must not either is this project's profile.
 use Rattle.std.specs.Prelude.{◌≡◌, ◌∷◌, [], ℕ, List, Any, IsSomeAnd, Some}
 use Rattle.std.specs.List.{All}
 use Rattle.grid_range.specs.Area.{AreaWithin}
@@ -16,8 +16,8 @@ use Rattle.world_model.specs.Sound.{place_sheet_with}
 abbrev pub CutsOne : Area → List PlaceSheet → Type 0
 CutsOne area sheets = IsSomeAnd (place_sheet_with area.sheet sheets) (λ sheet. Any (Cuts area) sheet.merges)
 
--- the merges of the sheet with the id become just those that `IsMergeAfter` says of the ones that it had, and all else of
--- the spreadsheet is as it was, by places, and whatever its lines are called
+-- the merges of the sheet with the id become just those that `IsMergeAfter` says of the ones that it had, and all else
+-- of the spreadsheet is as it was, by places, and whatever its lines are called
 pub record MergesBecome (id : ℕ) (IsMergeAfter : List Area → Area → Type 0) (before after : PlaceBook) : Type 0 where
   pub merges : List Area
   pub just : IsSomeAnd (place_sheet_with id before.sheets) (λ sheet. ListsJust (IsMergeAfter sheet.merges) merges)

@@ -1,6 +1,6 @@
 -- What requests that add, change or delete a named range answer, and what they make of a spreadsheet (Google Sheets
--- API v4 reference, AddNamedRangeRequest, UpdateNamedRangeRequest, DeleteNamedRangeRequest). A range that is renamed has
--- its name changed in formulas, too. How many ranges there may be is the caller's to say.
+-- API v4 reference, AddNamedRangeRequest, UpdateNamedRangeRequest, DeleteNamedRangeRequest). A range that is renamed
+-- has its name changed in formulas, too. How many ranges there may be is the caller's to say.
 use Rattle.std.specs.Prelude.{◌≡◌, ◌↔◌, ◌⊎◌, ℕ, true, false, List, [], ◌∷◌, Option, None, is_some, Result, Err, IfOk, IfErr, OnOk, OnErr, option_and_then}
 use Rattle.std.specs.Option.{IsSome, option_map, option_map_or}
 use Rattle.cell_value.specs.Ids.{IsNewId, is_taken}

@@ -1,5 +1,5 @@
--- The formulas of a sheet with a reference to a sheet: only they follow a change of its lines. And when such a change can
--- be made.
+-- The formulas of a sheet with a reference to a sheet: only they follow a change of its lines. And when such a change
+-- can be made.
 use Rattle.std.specs.Prelude.{◌≡◌, ◌↔◌, ℕ, Bool, true, false, List, Any, Contains, IfSome, ◌==◌, ⊤}
 use Rattle.std.specs.List.{All, list_any}
 use Rattle.std.specs.Option.{IsSome, option_map_or}

@@ -10,6 +10,7 @@ use Rattle.std.specs.Str.{chars}
 use Rattle.cell_value.specs.Ids.{IsLeastUnused, IsNewId, is_taken}
 use Rattle.cell_value.specs.declared.cell.SheetProperties.{SheetProperties}
 use Rattle.grid_range.specs.declared.axis.Axis.TheVariants.{Rows, Columns}
+use Rattle.dimension_ops.specs.declared.sheets.TheConstants.{DEFAULT_COLUMNS, DEFAULT_ROWS}
 use Rattle.world_model.specs.Book.{PlaceBook}
 use Rattle.world_model.specs.BookChange.{AreChanges, BookChange, NewSheet}
 use Rattle.world_model.specs.Counts.{grid_places}
@@ -76,10 +77,10 @@ passes_with sheets rows cols places _ = false
 -- ---- a sheet is added
 
 abbrev pub new_rows : SheetProperties → ℕ
-new_rows properties = unwrap_or properties.rows 1000
+new_rows properties = unwrap_or properties.rows DEFAULT_ROWS
 
 abbrev pub new_cols : SheetProperties → ℕ
-new_cols properties = unwrap_or properties.cols 26
+new_cols properties = unwrap_or properties.cols DEFAULT_COLUMNS
 
 -- where it stands: without a place it is the last
 abbrev pub new_place : SheetProperties → List PlaceSheet → ℕ

@@ -4,6 +4,8 @@ use Rattle.std.specs.Fmt.{decimal}
 use Rattle.std.specs.List.{find, range_with_len}
 use Rattle.std.specs.Str.{bytes_eq}
 use Rattle.cell_store.specs.Table.{empty_table}
+use Rattle.dimension_ops.specs.declared.creating.TheConstants.{MOST_BOOKS}
+use Rattle.dimension_ops.specs.declared.sheets.TheConstants.{DEFAULT_COLUMNS, DEFAULT_ROWS}
 use Rattle.world_model.specs.Book.{PlaceBook}
 use Rattle.world_model.specs.Sheet.{NameSheet, PlaceSheet}
 use Rattle.world_model.specs.World.{NameWorld}
@@ -14,7 +16,7 @@ book_with id books = find (λ book. bytes_eq book.id id) books
 
 -- how many spreadsheets a server can hold
 abbrev pub most_books : ℕ
-most_books = 1000
+most_books = MOST_BOOKS
 
 -- the n-th spreadsheet, from 1, has the id `book` and n in decimal
 abbrev pub AreNumbered : List PlaceBook → Type 0
@@ -27,7 +29,7 @@ opening_sheet = record {
   id = 0;
   title = codes "Sheet1";
   hidden = false;
-  table = empty_table 1000 26;
+  table = empty_table DEFAULT_ROWS DEFAULT_COLUMNS;
   merges = [];
   filter = None;
 }
@@ -63,7 +65,7 @@ opening_world = record {
     id = codes "book1";
     title = codes "book1";
     owner = codes "owner";
-    sheets = opening_names 1000 26 ∷ [];
+    sheets = opening_names DEFAULT_ROWS DEFAULT_COLUMNS ∷ [];
     ranges = [];
     protections = [];
     metadata = [];

@@ -48,10 +48,10 @@ use crate::losing::sheets_left;
 use crate::part::Part;
 use crate::renaming::sheets_renamed;
 use crate::sheet::Sheet;
-use crate::sheets::places_of;
+use crate::sheets::{DEFAULT_COLUMNS, DEFAULT_ROWS, places_of};
 use basic_filter::Filter;
 use cell_value::{Duplicate, Items, NoMemory, Text};
-use dev_metadata::{Item, ItemPatch, Lookup, MetaFault, Metadata, Sight, Spot};
+use dev_metadata::{Item, ItemPatch, Lookup, MetaFault, Metadata, Spot, Visibility};
 use grid_range::{Area, SheetChange};
 use merge_ranges::Merges;
 use named_ranges::{NameFault, NamedRange, Names};
@@ -125,7 +125,7 @@ impl Book {
         ensures { IfOk result (λ book. book ≡ opening_book) }
     {
         let title = Text::of(String::from_str(alloc, "Sheet1")?);
-        let sheet = Sheet::empty(alloc, 0, title, 1_000, 26)?;
+        let sheet = Sheet::empty(alloc, 0, title, DEFAULT_ROWS, DEFAULT_COLUMNS)?;
         let sheets = only(alloc, sheet)?;
         let mut ids = Vec::new(alloc);
         ids.push(0)?;
@@ -424,7 +424,7 @@ impl Book {
         ensures set { OnOk result (self.new ≡ on_place_sheet sheet (with_part part) self.old) }
         ensures unchanged { OnErr result (self.new ≡ self.old) }
     {
-        if let Some(place) = place_of(&self.sheets, sheet) {
+        if let Some(place) = sheet_place(&self.sheets, sheet) {
             set_shared(&mut self.sheets[place], part)?;
         }
         Ok(())
@@ -676,7 +676,7 @@ impl Book {
         key: Text,
         value: Text,
         spot: Spot,
-        sight: Sight,
+        visibility: Visibility,
     ) -> Result<u32, MetaFault>
         requires within { IsSpotWithin self.old.sheets spot }
         requires room { length self.old.metadata < 4294967295 }
@@ -684,11 +684,11 @@ impl Book {
         ensures no_other { (result ≢ Err meta_fault.NoId) × (result ≢ Err BadLookup) }
         ensures id { IfOk result (IsNewId (IsLeastUnused (listed.has_id self.old.metadata)) id) }
         ensures added { IfOk result (λ new. MetadataBecomes
-            (listed.with_one_more new key value spot sight self.old.metadata) self.old self.new) }
+            (listed.with_one_more new key value spot visibility self.old.metadata) self.old self.new) }
         ensures unchanged { OnErr result (self.new ≡ self.old) }
     {
         metadata_is_set();
-        self.metadata.create(id, key, value, spot, sight)
+        self.metadata.create(id, key, value, spot, visibility)
     }
 
     /// Puts what the patch gives in the place of what the items have that the project sees and that meet one of the
@@ -873,7 +873,7 @@ impl Book {
         writes_stay_sound();
         writes_follow();
         filled_within_places();
-        if let Some(place) = place_of(&self.sheets, sheet) {
+        if let Some(place) = sheet_place(&self.sheets, sheet) {
             put_shared(&mut self.sheets[place], row, column, content)?;
         }
         Ok(())
@@ -915,7 +915,7 @@ fn set_shared(shared: &mut Arc<Sheet>, part: Part) -> Result<(), NoMemory>
 }
 
 /// The place of the sheet with the id among those.
-fn place_of(sheets: &[Arc<Sheet>], id: u32) -> Option<usize>
+fn sheet_place(sheets: &[Arc<Sheet>], id: u32) -> Option<usize>
     ensures { result ≡ position_from (λ sheet. sheet.id == id) 0 (map arc_value sheets.now) }
 {
     sheets.iter().position(|sheet| sheet.id() == id)

@@ -20,14 +20,13 @@ ghost use Rattle.dimension_ops.specs.SheetRequests.{IsFirstTitle, IsLeastId, has
 
 use crate::rule::{Limit, Rule, RuleOr};
 use crate::sheet::Sheet;
-use crate::sheets::{
-    MOST_COLS, MOST_PLACES, MOST_ROWS, MOST_SHEETS, is_bad_title, new_cols, new_rows, places_of,
-};
+use crate::sheets::{is_bad_title, new_cols, new_rows, places_of};
 use cell_value::{Duplicate, NoMemory, SheetProperties, Text};
 use std::alloc::Global;
 use std::collections::BTreeSet;
 use std::marker::Model;
 use std::sync::Arc;
+use world_model::{MOST_COLUMNS, MOST_PLACES, MOST_ROWS, MOST_SHEETS};
 
 /// How many spreadsheets a server can hold.
 const MOST_BOOKS: u64 = 1_000;
@@ -450,16 +449,16 @@ fn first_passed(books: u64, placed: &[PlacedSheet]) -> Option<Limit>
 
 /// Whether a sheet has more rows than one can have.
 fn has_many_rows(placed: &[PlacedSheet]) -> bool
-    ensures { result ≡ list_any (λ one. nat_lt 1000000 one.1.rows) placed.now }
+    ensures { result ≡ list_any (λ one. nat_lt MOST_ROWS one.1.rows) placed.now }
 {
     placed.iter().any(|one| one.rows() > MOST_ROWS)
 }
 
 /// Whether a sheet has more columns than one can have.
 fn has_many_cols(placed: &[PlacedSheet]) -> bool
-    ensures { result ≡ list_any (λ one. nat_lt 18278 one.1.cols) placed.now }
+    ensures { result ≡ list_any (λ one. nat_lt MOST_COLUMNS one.1.cols) placed.now }
 {
-    placed.iter().any(|one| one.cols() > MOST_COLS)
+    placed.iter().any(|one| one.cols() > MOST_COLUMNS)
 }
 
 /// Whether the sheets have more places together than a spreadsheet can have.

@@ -19,12 +19,12 @@ ghost use Rattle.dimension_ops.specs.declared.rule.Rule.TheVariants.{PastLimit};
 use crate::book::Book;
 use crate::rule::{Limit, Rule, RuleOr};
 use crate::sheet::Sheet;
-use crate::sheets::{MOST_COLS, MOST_PLACES, MOST_ROWS, places_of};
+use crate::sheets::places_of;
 use cell_value::NoMemory;
 use grid_range::{Axis, Change, SheetChange};
 use std::alloc::Global;
 use std::sync::Arc;
-use world_model::line_changes_are_changes;
+use world_model::{MOST_COLUMNS, MOST_PLACES, MOST_ROWS, line_changes_are_changes};
 
 /// Makes the change of the lines on the axis of the sheet with the id. Cells go with their lines, its merges and
 /// its filter follow them, and so does each reference to the sheet, in formulas of all sheets. Lines are counted
@@ -163,7 +163,7 @@ pub(crate) fn first_past(rows: u32, cols: u32, places: u64) -> Option<Limit>
 {
     if rows > MOST_ROWS {
         Some(Limit::Rows)
-    } else if cols > MOST_COLS {
+    } else if cols > MOST_COLUMNS {
         Some(Limit::Columns)
     } else if places > MOST_PLACES {
         Some(Limit::Cells)

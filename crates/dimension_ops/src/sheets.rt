@@ -21,19 +21,15 @@ use crate::book::Book;
 use crate::rule::{Limit, Rule, RuleOr};
 use crate::sheet::Sheet;
 use cell_value::{Duplicate, NoMemory, SheetProperties, Text};
-use world_model::{sheets_added, sheets_deleted};
+use world_model::{
+    MOST_COLUMNS, MOST_PLACES, MOST_ROWS, MOST_SHEETS, sheets_added, sheets_deleted,
+};
 
-/// How many sheets a spreadsheet can have.
-pub(crate) const MOST_SHEETS: u32 = 200;
+/// How many rows a sheet has where none are asked for.
+pub(crate) const DEFAULT_ROWS: u32 = 1_000;
 
-/// How many rows a sheet can have.
-pub(crate) const MOST_ROWS: u32 = 1_000_000;
-
-/// How many columns a sheet can have.
-pub(crate) const MOST_COLS: u32 = 18_278;
-
-/// How many places the sheets of a spreadsheet can have together.
-pub(crate) const MOST_PLACES: u64 = 10_000_000;
+/// How many columns a sheet has where none are asked for.
+pub(crate) const DEFAULT_COLUMNS: u32 = 26;
 
 /// The longest title, in bytes.
 const LONGEST_TITLE: usize = 100;
@@ -161,7 +157,7 @@ fn first_passed(sheets: u32, rows: u32, cols: u32, places: u64) -> Option<Limit>
         Some(Limit::Sheets)
     } else if rows > MOST_ROWS {
         Some(Limit::Rows)
-    } else if cols > MOST_COLS {
+    } else if cols > MOST_COLUMNS {
         Some(Limit::Columns)
     } else if places > MOST_PLACES {
         Some(Limit::Cells)
@@ -174,14 +170,14 @@ fn first_passed(sheets: u32, rows: u32, cols: u32, places: u64) -> Option<Limit>
 pub(crate) fn new_rows(properties: &SheetProperties) -> u32
     ensures { result ≡ new_rows properties.now }
 {
-    properties.rows.unwrap_or(1_000)
+    properties.rows.unwrap_or(DEFAULT_ROWS)
 }
 
 /// How many columns a new sheet has.
 pub(crate) fn new_cols(properties: &SheetProperties) -> u32
     ensures { result ≡ new_cols properties.now }
 {
-    properties.cols.unwrap_or(26)
+    properties.cols.unwrap_or(DEFAULT_COLUMNS)
 }
 
 /// Before which sheet a new one stands.

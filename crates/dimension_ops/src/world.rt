@@ -205,7 +205,7 @@ impl World {
         replacements_follow();
         match book.shared() {
             Ok(shared) => {
-                if let Some(place) = place_of(&self.books, shared.id().as_str()) {
+                if let Some(place) = book_place(&self.books, shared.id().as_str()) {
                     self.books[place] = shared;
                 }
                 Ok(())
@@ -264,7 +264,7 @@ fn text_of(alloc: Global, text: &str) -> Result<Text, NoMemory>
 }
 
 /// The place of the spreadsheet with the id among those.
-fn place_of(books: &[Arc<Book>], id: &str) -> Option<usize>
+fn book_place(books: &[Arc<Book>], id: &str) -> Option<usize>
     ensures { result ≡ position_from (λ book. bytes_eq book.id id.now) 0 (map arc_value books.now) }
 {
     books.iter().position(|book| book.id().as_str() == id)

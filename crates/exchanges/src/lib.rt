@@ -21,8 +21,9 @@ pub type Exchange = (
     &'static str,
 );
 
-/// A stream that begins so, goes on with a text so many times and ends so; the status that it ends with, the one response to
-/// it, if there is one (the rest of its status line, a further field and its body), and the line on the faults.
+/// A stream that begins so, goes on with a text so many times and ends so; the status that it ends with, the one
+/// response to it, if there is one (the rest of its status line, a further field and its body), and the line on the
+/// faults.
 pub type LongHead = (
     &'static str,
     &'static str,

@@ -186,8 +186,8 @@ static WORKLOADS: [Command; 3] = [
     ),
 ];
 
-/// A server for one connection: its words, the file that is found, the name whose first read or load fails, and what the
-/// connection sends; the status, the output and the line on the faults that it ends with, what the connection is
+/// A server for one connection: its words, the file that is found, the name whose first read or load fails, and what
+/// the connection sends; the status, the output and the line on the faults that it ends with, what the connection is
 /// answered, where it is accepted, and what the name `j` then has.
 type Served = (
     &'static [&'static str],

@@ -80,4 +80,10 @@ outages_of name failing = if is_among name failing then (0, None) ∷ [] else []
 
 -- the keeper that is handed out under a name with these bytes
 abbrev pub lent_out : List ℕ → List ℕ → List (List ℕ) → KeptBytes
-lent_out name bytes failing = record { bytes = bytes; puts = 0; failing = outages_of name failing; faults = 0 }
+lent_out name bytes failing = record {
+  bytes = bytes;
+  puts = 0;
+  failing = outages_of name failing;
+  faults = 0;
+  shortages = 0;
+}

@@ -1,6 +1,6 @@
-ghost use Rattle.std.specs.Prelude.{◌≡◌, ◌≤◌, false, length, is_err, IfOk, OnErr, Some};
-ghost use Rattle.cell_value.specs.FaultCount.{Rose};
-ghost use Rattle.sheets_http.specs.Outside.{StaysSteady, Gives, EndsThere};
+ghost use Rattle.std.specs.Prelude.{◌≡◌, ◌≤◌, false, length, min, is_err, IfOk, OnErr, Some};
+ghost use Rattle.cell_value.specs.FaultCount.{Rose, StaysSteady};
+ghost use Rattle.sheets_http.specs.Outside.{Gives, EndsThere};
 ghost use Rattle.folder.specs.Memory.{never_fails};
 
 use cell_value::{Bytes, Failed};
@@ -17,11 +17,14 @@ pub struct MemoryFile {
 }
 
 impl Model for MemoryFile {
+    ghost use Rattle.std.specs.Prelude.{◌≡◌};
     ghost use Rattle.folder.specs.Memory.{FileInMemory};
 
     ghost Value = { FileInMemory };
 
     ghost view = { λ f. record { left = f.source.left; fails = f.fails; faults = f.faults } };
+
+    ghost invariant = { λ f. f.source.piece ≡ 18446744073709551615 };
 }
 
 impl MemoryFile {
@@ -58,9 +61,10 @@ impl Source for MemoryFile {
 
     ghost beside = { λ _. no_side };
 
-    /// It takes no memory.
+    /// It takes no memory, and gives as many bytes as are left or have room.
     fn read(&mut self, into: &mut [u8]) -> Result<usize, Failed>
         ensures bound { IfOk result (λ count. count ≤ length into.new) }
+        ensures given { IfOk result (λ count. count ≡ min (length self.old.left) (length into.new)) }
         ensures bytes { Gives (Some self.old.left) (Some self.new.left) into.new result }
         ensures end { EndsThere (Some self.old.left) into.new result }
         ensures cause { OnErr result (Rose self.old.faults self.new.faults) }

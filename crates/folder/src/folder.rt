@@ -1,7 +1,6 @@
 ghost use Rattle.std.specs.Prelude.{◌≡◌, ◌≢◌, ℕ, ◌≤◌, ◌<◌, [], Bool, Option, IfOk, IfSome, IsSome, IsTrue, OnErr, Err};
 ghost use Rattle.std.specs.Option.{option_map};
-ghost use Rattle.cell_value.specs.FaultCount.{last_count, Rose};
-ghost use Rattle.sheets_http.specs.Outside.{StaysSteady};
+ghost use Rattle.cell_value.specs.FaultCount.{last_count, Rose, StaysSteady};
 
 use desk::{Keeper, LoadFault};
 use sheets_http::Source;

@@ -1,8 +1,7 @@
 ghost use Rattle.std.specs.Prelude.{◌≡◌, ◌↔◌, ◌≤◌, ◌<◌, [], false, Some, Err, IfOk, IfSome, IsSome, IsNone, IsTrue};
 ghost use Rattle.std.specs.Prelude.{OnOk, OnErr, is_none};
 ghost use Rattle.std.specs.Option.{option_copied};
-ghost use Rattle.cell_value.specs.FaultCount.{Rose};
-ghost use Rattle.sheets_http.specs.Outside.{StaysSteady};
+ghost use Rattle.cell_value.specs.FaultCount.{Rose, StaysSteady};
 ghost use Rattle.desk.specs.Keeping.{never_fails as keeper_never_fails};
 ghost use Rattle.folder.specs.Folder.{after_open, after_journal, found_or_made, with_file, IsRefused};
 ghost use Rattle.folder.specs.Memory.{never_fails, bytes_under, shown_by, call_of, handed_out, outages_of, lent_out};
@@ -193,7 +192,7 @@ fn find_under<'a>(files: &'a [(Text, Bytes)], name: &str) -> Option<&'a [u8]>
 }
 
 // The place of the first of these files with that name.
-fn place_of(files: &[(Text, Bytes)], name: &str) -> Option<usize>
+fn file_place(files: &[(Text, Bytes)], name: &str) -> Option<usize>
     ensures { result ≡ place_in files.now name.now }
 {
     files.iter().position(|file| file.0.as_str() == name)
@@ -204,7 +203,7 @@ fn put_under(files: &mut Vec<(Text, Bytes)>, name: &str, bytes: Vec<u8>)
     requires { IsThere files.old.items name.now }
     ensures { bytes_under files.new.items ≡ with_file name.now (Some bytes.items) (bytes_under files.old.items) }
 {
-    if let Some(place) = place_of(files.as_slice(), name) {
+    if let Some(place) = file_place(files.as_slice(), name) {
         let file = &mut files[place];
         file.1 = Bytes::of(bytes);
     }

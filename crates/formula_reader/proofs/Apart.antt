@@ -102,7 +102,7 @@ sign_before c Divide goes = absurd (none-some c goes)
 lexeme_before : (c : State) (token : Token) (own rest : List ℕ) → IsLexeme token own
     → step before_operand (kind_of_token token) ≡ Some c → begins widens (own ++ rest) ≡ false
 lexeme_before c (token.Reference written) own rest is goes = part_no_sign own rest written is
-lexeme_before c (token.Elsewhere title written) own rest is goes = titled_no_sign title own rest written is
+lexeme_before c (token.TitledReference title written) own rest is goes = titled_no_sign title own rest written is
 lexeme_before c (token.Function name) own rest is goes = rw is.0 (word_text_no_sign name rest is.1)
 lexeme_before c (token.Word word) own rest is goes = rw is.0 (word_text_no_sign word rest (own_word word [] is.1))
 lexeme_before c (token.Truth truth) own rest is goes = word_text_no_sign own rest is.0
@@ -132,7 +132,7 @@ operator_behind Divide rest = refl
 lexeme_behind : (c : State) (token : Token) (own rest : List ℕ) → IsLexeme token own
     → step behind_operand (kind_of_token token) ≡ Some c → begins goes_on (own ++ rest) ≡ false
 lexeme_behind c (token.Reference written) own rest is goes = absurd (none-some c goes)
-lexeme_behind c (token.Elsewhere title written) own rest is goes = absurd (none-some c goes)
+lexeme_behind c (token.TitledReference title written) own rest is goes = absurd (none-some c goes)
 lexeme_behind c (token.Function name) own rest is goes = absurd (none-some c goes)
 lexeme_behind c (token.Word word) own rest is goes = absurd (none-some c goes)
 lexeme_behind c (token.Truth truth) own rest is goes = absurd (none-some c goes)
@@ -186,7 +186,7 @@ sign_ends behind_name c operator rest goes stands = absurd (none-some c goes)
 left_alone : (a c : State) (token : Token) (rest : List ℕ) → step a (kind_of_token token) ≡ Some c
     → OpensBehind token rest → StandsIn c rest → IsBefore token rest
 left_alone a c (token.Reference written) rest goes opens stands = operand_ends a c _ rest goes stands
-left_alone a c (token.Elsewhere title written) rest goes opens stands = operand_ends a c _ rest goes stands
+left_alone a c (token.TitledReference title written) rest goes opens stands = operand_ends a c _ rest goes stands
 left_alone a c (token.Function name) rest goes opens stands = opens name refl
 left_alone a c (token.Word word) rest goes opens stands = operand_ends a c _ rest goes stands
 left_alone a c (token.Truth truth) rest goes opens stands = operand_ends a c _ rest goes stands

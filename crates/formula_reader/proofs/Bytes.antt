@@ -19,7 +19,7 @@ use Rattle.formula_reader.proofs.Spelling.{lexeme_of, word_is}
 use Rattle.formula_reader.specs.declared.fault.FormulaFault.{FormulaFault}
 use Rattle.formula_reader.specs.declared.fault.FormulaFault.TheVariants as fault
 use Rattle.formula_reader.specs.Sheets.{Sheets, sheet_named}
-use Rattle.formula_reader.specs.Pieces.{piece_of, area_on, elsewhere, reference_to, text_piece, with_piece, pieces_from, formula_of}
+use Rattle.formula_reader.specs.Pieces.{piece_of, area_on, titled_reference, reference_to, text_piece, with_piece, pieces_from, formula_of}
 use Rattle.formula_reader.specs.Printed.{printed, printed_piece, IsPrintable, ArePrintable}
 use Rattle.formula_reader.specs.Bytes.{IsReferenceText, IsLostText, Spells}
 use Rattle.formula_reader.proofs.Gathering.{gathered, gathered_has}
@@ -60,9 +60,9 @@ spells_with pending own rest (Some first) behind on is spells spells_on =
 reference_alone : (own : List ℕ) (written : MarkedArea) → IsLexeme (token.Reference written) own → IsReferenceText own
 reference_alone own written is = inl (written, fits_again (token.Reference written) own [] is refl)
 
-titled_alone : (own title : List ℕ) (written : MarkedArea) → IsLexeme (token.Elsewhere title written) own
+titled_alone : (own title : List ℕ) (written : MarkedArea) → IsLexeme (token.TitledReference title written) own
     → IsReferenceText own
-titled_alone own title written is = inr (title, written, fits_again (token.Elsewhere title written) own [] is refl)
+titled_alone own title written is = inr (title, written, fits_again (token.TitledReference title written) own [] is refl)
 
 -- and stands for what is read of it, lost or not
 area_text : (own : List ℕ) (named : Bool) (written : MarkedArea) (area : Option Area) → IsReferenceText own
@@ -70,10 +70,10 @@ area_text : (own : List ℕ) (named : Bool) (written : MarkedArea) (area : Optio
 area_text own named written None is = inl is
 area_text own named written (Some area) is = is
 
-elsewhere_text : (own : List ℕ) (sheets : Sheets) (written : MarkedArea) (sheet : Option ℕ) → IsReferenceText own
-    → IsTextOf own (elsewhere sheets written sheet)
-elsewhere_text own sheets written None is = inl is
-elsewhere_text own sheets written (Some sheet) is = area_text own true written (area_on sheets sheet written) is
+titled_reference_text : (own : List ℕ) (sheets : Sheets) (written : MarkedArea) (sheet : Option ℕ) → IsReferenceText own
+    → IsTextOf own (titled_reference sheets written sheet)
+titled_reference_text own sheets written None is = inl is
+titled_reference_text own sheets written (Some sheet) is = area_text own true written (area_on sheets sheet written) is
 
 -- a lexeme stands for its token's piece
 token_text : (sheets : Sheets) (here : ℕ) (own : List ℕ) (token : Token) (rest : List ℕ)
@@ -82,9 +82,9 @@ token_text : (sheets : Sheets) (here : ℕ) (own : List ℕ) (token : Token) (re
 token_text sheets here own (token.Reference written) rest fits =
     area_text own false written (area_on sheets here written)
     (reference_alone own written (lexeme_of own (token.Reference written) rest tt fits))
-token_text sheets here own (token.Elsewhere title written) rest fits =
-    elsewhere_text own sheets written (sheet_named sheets title)
-    (titled_alone own title written (lexeme_of own (token.Elsewhere title written) rest tt fits))
+token_text sheets here own (token.TitledReference title written) rest fits =
+    titled_reference_text own sheets written (sheet_named sheets title)
+    (titled_alone own title written (lexeme_of own (token.TitledReference title written) rest tt fits))
 token_text sheets here own (token.Word word) rest fits = word_is own word rest fits
 token_text sheets here own token.Lost rest fits = inr (lexeme_of own token.Lost rest tt fits)
 token_text sheets here own _ rest fits = tt

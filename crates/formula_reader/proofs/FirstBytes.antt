@@ -4,7 +4,7 @@ use Rattle.std.specs.Prelude.{Option, Some, None}
 use Rattle.std.proofs.lemmas.Bool.{false≢true}
 use Rattle.a1_notation.specs.Quoted.{quoted, IsUpToQuote}
 use Rattle.formula_reader.specs.declared.tokens.token.Token.{Token}
-use Rattle.formula_reader.specs.declared.tokens.token.Token.TheVariants.{Elsewhere, Reference, Text}
+use Rattle.formula_reader.specs.declared.tokens.token.Token.TheVariants.{TitledReference, Reference, Text}
 use Rattle.formula_reader.specs.declared.tokens.token.MarkedArea.{MarkedArea}
 use Rattle.a1_notation.specs.Run.{begins}
 use Rattle.a1_notation.specs.Word.{begins_word}
@@ -23,11 +23,11 @@ module _ (inside : List ℕ) where
   abbrev pub QuotedParts : Token → List ℕ → Type 0
   QuotedParts token rest = (title : List ℕ) × (behind : List ℕ) × (w : MarkedArea)
       × IsUpToQuote 39 inside title behind × (0 < length title)
-      × Stands IsBehindTitle behind w rest × (token ≡ Elsewhere title w)
+      × Stands IsBehindTitle behind w rest × (token ≡ TitledReference title w)
 
   quoted_title : (sheet title behind rest : List ℕ) (w : MarkedArea) (token : Token)
       → IsTitleBefore sheet title (behind ++ rest) → 39 ∷ inside ≡ sheet ++ behind ++ rest
-      → IsBehindTitle behind w rest → token ≡ Elsewhere title w → QuotedParts token rest
+      → IsBehindTitle behind w rest → token ≡ TitledReference title w → QuotedParts token rest
   quoted_title sheet title behind rest w token (inl in_quotes) e is token_is = (
     title,
     behind ++ rest,
@@ -100,7 +100,7 @@ module _ (inside : List ℕ) where
     -- else one does
     pub quoted_title_here : 0 < length title → (w : MarkedArea) (rest : List ℕ)
         → Reads IsBehindTitle behind (Some (w, rest)) → Reads (Fits Titled) (39 ∷ inside)
-        (Some (Elsewhere title w, rest))
+        (Some (TitledReference title w, rest))
     quoted_title_here some w rest reference = record {
       found = record {
         lexeme = quoted 39 title ++ reference.found.lexeme;
@@ -128,9 +128,9 @@ module _ (inside : List ℕ) where
 
     pub quoted_title_read : 0 < length title → (w : MarkedArea) (rest : List ℕ)
         → Reads IsBehindTitle behind (Some (w, rest)) → Reads (FitsFirst forms) (39 ∷ inside)
-        (Some (Elsewhere title w, rest))
+        (Some (TitledReference title w, rest))
     quoted_title_read some w rest reference =
-        fits_here Titled behind_titled (39 ∷ inside) (Elsewhere title w, rest) (quoted_title_here some w rest reference)
+        fits_here Titled behind_titled (39 ∷ inside) (TitledReference title w, rest) (quoted_title_here some w rest reference)
 
   -- a text, from behind its first "
   no_text_before : (answer : Option (Token × List ℕ))

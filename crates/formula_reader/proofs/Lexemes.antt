@@ -3,6 +3,7 @@ use Rattle.std.specs.Prelude.{◌≡◌, ℕ, ⊤, ◌+◌, ◌≤◌, true, fal
 use Rattle.std.specs.List.{list_all, flat_map}
 use Rattle.std.specs.Char.{is_ascii_digit}
 use Rattle.std.specs.Str.Parse.{digits_value}
+use Rattle.cell_value.specs.Limits.{largest}
 use Rattle.a1_notation.specs.Quoted.{quoted}
 use Rattle.a1_notation.specs.Title.{IsQuoted}
 use Rattle.formula_reader.specs.declared.tokens.token.Operator.{Operator}
@@ -71,7 +72,7 @@ pub record IsNumberText (own : List ℕ) (value : ℕ) : Type 0 where
   pub some : begins is_ascii_digit own ≡ true
   pub all : list_all is_ascii_digit own ≡ true
   pub value_is : digits_value 10 own ≡ value
-  pub exact : value ≤ 9007199254740992
+  pub exact : value ≤ largest
 
 -- the bytes of an operator
 abbrev pub operator_text : Operator → List ℕ
@@ -90,7 +91,7 @@ operator_text Divide = 47 ∷ []
 -- the text is a lexeme of the token, whatever follows
 abbrev pub IsLexeme : Token → List ℕ → Type 0
 IsLexeme (token.Reference written) own = IsPart own written
-IsLexeme (token.Elsewhere title written) own = IsTitledText title own (λ part. IsPart part written)
+IsLexeme (token.TitledReference title written) own = IsTitledText title own (λ part. IsPart part written)
 IsLexeme (token.Function name) own = (own ≡ name) × IsWordText name
 IsLexeme (token.Word word) own = (own ≡ word) × FitsFirst forms word (token.Word word) []
 IsLexeme (token.Truth truth) own = IsWordText own × (word_token own ≡ token.Truth truth)
@@ -118,7 +119,7 @@ widens byte = byte == 61 || byte == 62
 -- what follows leaves the token as it is: an operand ends, and the bracket of a function opens
 abbrev pub IsBefore : Token → List ℕ → Type 0
 IsBefore (token.Reference written) rest = begins goes_on rest ≡ false
-IsBefore (token.Elsewhere title written) rest = begins goes_on rest ≡ false
+IsBefore (token.TitledReference title written) rest = begins goes_on rest ≡ false
 IsBefore (token.Function name) rest = begins (λ byte. byte == 40) rest ≡ true
 IsBefore (token.Word word) rest = begins goes_on rest ≡ false
 IsBefore (token.Truth truth) rest = begins goes_on rest ≡ false

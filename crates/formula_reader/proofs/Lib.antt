@@ -63,3 +63,4 @@ pub mod SymbolsRead
 pub mod OneReference
 pub mod OneToken
 pub mod OneTree
+pub mod HasReading

@@ -37,7 +37,7 @@ kind_of_symbol symbol.Comma = parting
 
 abbrev pub kind_of_token : Token → Kind
 kind_of_token (token.Reference written) = operand true
-kind_of_token (token.Elsewhere title written) = operand true
+kind_of_token (token.TitledReference title written) = operand true
 kind_of_token (token.Function name) = naming
 kind_of_token (token.Word word) = operand true
 kind_of_token (token.Truth truth) = operand false

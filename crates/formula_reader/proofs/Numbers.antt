@@ -5,6 +5,7 @@ use Rattle.std.specs.Prelude.{◌≢◌, Some, None, Result, Ok, Err, pos}
 use Rattle.std.specs.Char.{is_ascii_digit, digit_value}
 use Rattle.std.specs.List.{list_all}
 use Rattle.std.specs.Result.{result_ok}
+use Rattle.cell_value.specs.Limits.{largest}
 use Rattle.std.specs.Str.Parse.{AllDigits, digits_value, ParsesUnsigned}
 use Rattle.std.proofs.lemmas.Bool.{and_parts, false≢true}
 use Rattle.std.proofs.lemmas.Bool.Decides.{nat_tests}
@@ -56,7 +57,7 @@ module _ (text digits rest : List ℕ) (whole : text ≡ digits ++ rest) (run : 
         runs.1,
       )
 
-  pub number_read : digits_value 10 digits ≤ 9007199254740992 → 0 < length digits
+  pub number_read : digits_value 10 digits ≤ largest → 0 < length digits
       → Reads IsNumber text (Some (Number (pos (digits_value 10 digits)), rest))
   number_read small some = record {
     found = record {
@@ -69,7 +70,7 @@ module _ (text digits rest : List ℕ) (whole : text ≡ digits ++ rest) (run : 
         rw (is.0.token_is, is.1) refl;
   }
 
-  pub no_number_read : ¬ ((0 < length digits) × (digits_value 10 digits ≤ 9007199254740992)) → Reads IsNumber text None
+  pub no_number_read : ¬ ((0 < length digits) × (digits_value 10 digits ≤ largest)) → Reads IsNumber text None
   no_number_read none = record {
     found = tt;
     only = λ token rest' stands.
@@ -89,7 +90,7 @@ digits_parsed digits number (Err error) all given e = absurd cc
 
 pub digits_not_parsed : {E : Type 0} (digits : List ℕ) (parsed : Result ℕ E)
     → list_all is_ascii_digit digits ≡ true → ParsesUnsigned 64 10 digits parsed → None ≡ result_ok parsed
-    → ¬ ((0 < length digits) × (digits_value 10 digits ≤ 9007199254740992))
+    → ¬ ((0 < length digits) × (digits_value 10 digits ≤ largest))
 digits_not_parsed digits (Ok other) all given e = absurd cc
 digits_not_parsed {E} digits (Err error) all given e =
     let refused = parse_plain numerals {E = E} 64 digits (Err error) given (no_plus digits all) in

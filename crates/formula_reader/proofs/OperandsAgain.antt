@@ -7,7 +7,7 @@ use Rattle.std.proofs.lemmas.Bool.{and_parts, false≢true}
 use Rattle.std.proofs.lemmas.Bool.Decides.{nat_tests}
 use Rattle.std.proofs.lemmas.List.{length-append}
 use Rattle.formula_reader.specs.declared.tokens.token.Token.{Token}
-use Rattle.formula_reader.specs.declared.tokens.token.Token.TheVariants.{Reference, Elsewhere}
+use Rattle.formula_reader.specs.declared.tokens.token.Token.TheVariants.{Reference, TitledReference}
 use Rattle.formula_reader.specs.declared.tokens.token.MarkedArea.{MarkedArea}
 use Rattle.a1_notation.specs.Run.{begins}
 use Rattle.a1_notation.specs.Word.{is_in_word}
@@ -147,10 +147,10 @@ title_before sheet title behind (inl quoted) ends = inl quoted
 title_before sheet title behind (inr named) ends =
     inr (record { first = named.0.first; run = record { all = named.0.all; ends = ends } }, named.1)
 
-pub elsewhere_fits : (title own : List ℕ) (written : MarkedArea) (rest : List ℕ)
+pub titled_reference_fits : (title own : List ℕ) (written : MarkedArea) (rest : List ℕ)
     → IsTitledText title own (λ part. IsPart part written) → begins goes_on rest ≡ false
-    → FitsFirst forms own (Elsewhere title written) rest
-elsewhere_fits title own written rest is ends = inl (record {
+    → FitsFirst forms own (TitledReference title written) rest
+titled_reference_fits title own written rest is ends = inl (record {
   sheet = is.sheet;
   title = title;
   behind = 33 ∷ is.part;

@@ -27,7 +27,8 @@ use Rattle.a1_notation.specs.Word.{begins_word, is_in_word}
 use Rattle.formula_reader.proofs.Lexemes.{IsWordText, IsTitleText, IsTitledText}
 use Rattle.formula_reader.proofs.PartTexts.{AreEndsOf, cell_part, area_part, columns_part, rows_part, open_part}
 use Rattle.formula_reader.specs.Sheets.{Sheets}
-use Rattle.formula_reader.specs.ReferenceText.{first_row, last_row, first_column, last_column, has_one_line, is_one_cell, reference_text, AreRows, AreColumns, HasForm}
+use Rattle.grid_range.specs.Band.{has_one_line}
+use Rattle.formula_reader.specs.ReferenceText.{first_row, last_row, first_column, last_column, is_one_cell, reference_text, AreRows, AreColumns, HasForm}
 use Rattle.formula_reader.specs.Printed.{printed_piece}
 use Rattle.formula_reader.specs.ReadBack.{printed_marks}
 

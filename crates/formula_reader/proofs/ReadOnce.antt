@@ -1,14 +1,10 @@
 -- A text is read as one formula.
 use Rattle.a1_notation.specs.Laws.{A1Laws}
 use Rattle.std.proofs.Common.{◌≡◌, ℕ, List, ◌∷◌, sym, subst, ap, ◌∙◌}
-use Rattle.std.specs.Prelude.{Option}
-use Rattle.ref_rewrite.specs.declared.pieces.Formula.{Formula}
 use Rattle.formula_reader.specs.Laws.{IsReadOnce}
 use Rattle.formula_reader.specs.Limits.{passed}
-use Rattle.formula_reader.specs.Pieces.{AreTokensOf, IsRead, by_tokens, as_text, pieces_from}
-use Rattle.formula_reader.specs.Sheets.{Sheets}
+use Rattle.formula_reader.specs.Pieces.{AreTokensOf, by_tokens, as_text, pieces_from}
 use Rattle.formula_reader.specs.Tokens.{AreTokens}
-use Rattle.formula_reader.specs.declared.fault.FormulaFault.{FormulaFault}
 use Rattle.formula_reader.specs.declared.tokens.token.Placed.{Placed}
 use Rattle.formula_reader.proofs.OneToken.{tokens_once}
 

@@ -18,7 +18,7 @@ use Rattle.formula_reader.proofs.Lexemes.{Item, gap, lexeme, spell, AreFit}
 use Rattle.formula_reader.proofs.Spelling.{lexeme_of}
 use Rattle.formula_reader.specs.Sheets.{Sheets, HasTitle, sheet_named}
 use Rattle.formula_reader.specs.ReferenceText.{HasForm}
-use Rattle.formula_reader.specs.Pieces.{clipped, piece_of, area_on, elsewhere, reference_to, text_piece, with_piece, pieces_from}
+use Rattle.formula_reader.specs.Pieces.{clipped, piece_of, area_on, titled_reference, reference_to, text_piece, with_piece, pieces_from}
 use Rattle.formula_reader.specs.Printed.{IsPrintable}
 use Rattle.formula_reader.specs.ReadBack.{AreKnown, IsSheetOf, IsPresent}
 use Rattle.formula_reader.proofs.CutAreas.{IsCutTo, area_cut}
@@ -73,10 +73,10 @@ module _ (sheets : Sheets) (here : ℕ) where
 
   module _ (a1 : A1Laws) (known : AreKnown sheets here) where
     -- one behind a title
-    elsewhere_seen : (title : List ℕ) (written : MarkedArea) (found : Option ℕ) → sheet_named sheets title ≡ found
-        → HasForm written.rows written.cols → IsSeen sheets here (elsewhere sheets written found)
-    elsewhere_seen title written None is form = (tt, tt)
-    elsewhere_seen title written (Some sheet) is form =
+    titled_reference_seen : (title : List ℕ) (written : MarkedArea) (found : Option ℕ) → sheet_named sheets title ≡ found
+        → HasForm written.rows written.cols → IsSeen sheets here (titled_reference sheets written found)
+    titled_reference_seen title written None is form = (tt, tt)
+    titled_reference_seen title written (Some sheet) is form =
         let own = known.others title sheet is in
         area_seen true sheet written own.titled own form
 
@@ -86,9 +86,9 @@ module _ (sheets : Sheets) (here : ℕ) where
     token_seen own (token.Reference written) rest fits =
         area_seen false here written known.own refl
         (part_form a1 own written (lexeme_of own (token.Reference written) rest tt fits))
-    token_seen own (token.Elsewhere title written) rest fits =
-        let titled = lexeme_of own (token.Elsewhere title written) rest tt fits in
-        elsewhere_seen title written (sheet_named sheets title) refl (part_form a1 titled.part written titled.names)
+    token_seen own (token.TitledReference title written) rest fits =
+        let titled = lexeme_of own (token.TitledReference title written) rest tt fits in
+        titled_reference_seen title written (sheet_named sheets title) refl (part_form a1 titled.part written titled.names)
     token_seen own (token.Word word) rest fits = (tt, tt)
     token_seen own token.Lost rest fits = (tt, tt)
     token_seen own _ rest fits = tt

@@ -26,7 +26,7 @@ own_again sheets here reference own present =
 
 pub titled_again : (sheets : Sheets) (here : ℕ) (reference : Ref) (title : List ℕ) → reference.named ≡ true
     → sheets.title reference.area.sheet ≡ Some title → IsPresentReference sheets here reference
-    → piece_of sheets here (token.Elsewhere title (written_again reference)) ≡ Some
+    → piece_of sheets here (token.TitledReference title (written_again reference)) ≡ Some
     (piece_as_printed (piece.Ref reference))
 titled_again sheets here reference title named has present =
     let sheet_is : IsSheetOf sheets here true reference.area.sheet =
@@ -45,7 +45,7 @@ pub reference_again : A1Laws → (sheets : Sheets) (here : ℕ) (reference : Ref
 reference_again a1 sheets here reference printable present =
     elim (cases_Bool reference.named) [
       | inl named ↦ (
-        token.Elsewhere printable.titled.title (written_again reference),
+        token.TitledReference printable.titled.title (written_again reference),
         record {
           lexeme_is =
               titled_printed a1 sheets reference printable.titled.title named printable.titled.has

@@ -16,7 +16,7 @@ use Rattle.formula_reader.specs.declared.tokens.token.Placed.{Placed}
 use Rattle.formula_reader.specs.declared.tokens.token.Token.{Token}
 use Rattle.formula_reader.specs.declared.tokens.token.Token.TheVariants as token
 use Rattle.formula_reader.specs.Limits.{passed, passed_by_symbols}
-use Rattle.formula_reader.specs.Pieces.{area_on, reference_to, elsewhere, piece_of, text_piece, with_piece, pieces_from}
+use Rattle.formula_reader.specs.Pieces.{area_on, reference_to, titled_reference, piece_of, text_piece, with_piece, pieces_from}
 use Rattle.formula_reader.specs.Sheets.{Sheets, sheet_named}
 use Rattle.formula_reader.specs.Symbols.{symbol_of, symbols_of, cells_or_lost, symbol_read, symbols_read, AreOfPiece, AreOfPieces, AreSymbolsOf}
 use Rattle.formula_reader.specs.Tokens.{FitsFirst, forms, AreTokens}
@@ -48,7 +48,7 @@ module _ (sheets : Sheets) (here : ℕ) where
 
   same_symbol : (t : Token) (own : Symbol) → symbol_of t ≡ Some own → symbol_read sheets here t ≡ own
   same_symbol (token.Reference written) own is = absurd (none-some own is)
-  same_symbol (token.Elsewhere title written) own is = absurd (none-some own is)
+  same_symbol (token.TitledReference title written) own is = absurd (none-some own is)
   same_symbol (token.Word word) own is = absurd (none-some own is)
   same_symbol token.Lost own is = absurd (none-some own is)
   same_symbol (token.Function name) own is = cc
@@ -73,11 +73,11 @@ module _ (sheets : Sheets) (here : ℕ) where
   area_symbol named written None = refl
   area_symbol named written (Some area) = refl
 
-  elsewhere_symbol : (written : MarkedArea) (sheet : Option ℕ)
-      → AreOfPiece (elsewhere sheets written sheet)
+  titled_reference_symbol : (written : MarkedArea) (sheet : Option ℕ)
+      → AreOfPiece (titled_reference sheets written sheet)
       (cells_or_lost (option_and_then (λ sheet. area_on sheets sheet written) sheet) ∷ [])
-  elsewhere_symbol written None = refl
-  elsewhere_symbol written (Some sheet) = area_symbol true written (area_on sheets sheet written)
+  titled_reference_symbol written None = refl
+  titled_reference_symbol written (Some sheet) = area_symbol true written (area_on sheets sheet written)
 
   -- a token is a piece, or part of a text
   abbrev IsOwnOrInText : Token → Option Piece → Type 0
@@ -86,7 +86,7 @@ module _ (sheets : Sheets) (here : ℕ) where
 
   own_or_in_text : (t : Token) → IsOwnOrInText t (piece_of sheets here t)
   own_or_in_text (token.Reference written) = (area_symbol false written (area_on sheets here written), λ e. cc)
-  own_or_in_text (token.Elsewhere title written) = (elsewhere_symbol written (sheet_named sheets title), λ e. cc)
+  own_or_in_text (token.TitledReference title written) = (titled_reference_symbol written (sheet_named sheets title), λ e. cc)
   own_or_in_text (token.Word word) = (refl, λ e. cc)
   own_or_in_text token.Lost = (refl, λ e. cc)
   own_or_in_text (token.Function name) = (_, refl)
@@ -105,7 +105,7 @@ module _ (sheets : Sheets) (here : ℕ) where
 
   token_stands : (t : Token) → StandsFor (kind_of_token t) (kind_of_symbol (symbol_read sheets here t))
   token_stands (token.Reference written) = area_stands (area_on sheets here written)
-  token_stands (token.Elsewhere title written) =
+  token_stands (token.TitledReference title written) =
       area_stands (option_and_then (λ sheet. area_on sheets sheet written) (sheet_named sheets title))
   token_stands (token.Word word) = inl refl
   token_stands token.Lost = inl refl

@@ -289,7 +289,7 @@ module _ (quotes : QuotesEndOnce) where
   token_alone token.Comma s own rest more is fits joint none =
       rw (lexeme_of own token.Comma (rest ++ more) tt fits) (comma_fits rest)
   token_alone (token.Reference written) s own rest more is fits joint none = absurd (none-some s is)
-  token_alone (token.Elsewhere title written) s own rest more is fits joint none = absurd (none-some s is)
+  token_alone (token.TitledReference title written) s own rest more is fits joint none = absurd (none-some s is)
   token_alone (token.Word word) s own rest more is fits joint none = absurd (none-some s is)
   token_alone token.Lost s own rest more is fits joint none = absurd (none-some s is)
 

@@ -101,7 +101,7 @@ in_text_as token one own is no_word kind no_piece =
 
 in_text : (token : Token) (own : Symbol) → symbol_of token ≡ Some own → IsInText token own
 in_text (token.Reference written) own is = absurd (none-some own is)
-in_text (token.Elsewhere title written) own is = absurd (none-some own is)
+in_text (token.TitledReference title written) own is = absurd (none-some own is)
 in_text (token.Function name) own is = in_text_as _ _ own is tt refl (λ sheets here. refl)
 in_text (token.Word word) own is = absurd (none-some own is)
 in_text (token.Truth truth) own is = in_text_as _ _ own is tt refl (λ sheets here. refl)

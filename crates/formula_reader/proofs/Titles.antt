@@ -4,7 +4,7 @@ use Rattle.std.proofs.Common.{◌≡◌, ℕ, true, false, List, ◌∷◌, ◌+
 use Rattle.std.specs.Prelude.{◌≢◌, Option, Some, None, IfSome, slice_index}
 use Rattle.std.proofs.lemmas.Bool.{false≢true}
 use Rattle.formula_reader.specs.declared.tokens.token.Token.{Token}
-use Rattle.formula_reader.specs.declared.tokens.token.Token.TheVariants.{Reference, Elsewhere, Function}
+use Rattle.formula_reader.specs.declared.tokens.token.Token.TheVariants.{Reference, TitledReference, Function}
 use Rattle.formula_reader.specs.declared.tokens.token.MarkedArea.{MarkedArea}
 use Rattle.a1_notation.specs.Run.{begins}
 use Rattle.a1_notation.specs.Word.{begins_word, is_in_word, IsWord}
@@ -82,15 +82,15 @@ module _ (text word behind : List ℕ) (whole : text ≡ word ++ behind) (is_wor
       (same.0 ∙ sym named.1, record { lexeme = behind'; spelled = same.1; is = is })
 
   titled_parts : (token : Token) (rest : List ℕ) → Stands (Fits Titled) text token rest
-      → (w : MarkedArea) × Stands IsBehindTitle behind w rest × (token ≡ Elsewhere word w)
+      → (w : MarkedArea) × Stands IsBehindTitle behind w rest × (token ≡ TitledReference word w)
   titled_parts token rest stands =
       let is = stands.is in
       let parts = titled_word is.sheet is.title is.behind rest is.written is.title_is
       (stands.spelled ∙ ap (λ t. t ++ rest) is.spelled) is.reference in
-      (is.written, parts.1, is.token_is ∙ ap (λ t. Elsewhere t is.written) (sym parts.0))
+      (is.written, parts.1, is.token_is ∙ ap (λ t. TitledReference t is.written) (sym parts.0))
 
   pub word_title : (w : MarkedArea) (rest : List ℕ) → Reads IsBehindTitle behind (Some (w, rest))
-      → Reads (Fits Titled) text (Some (Elsewhere word w, rest))
+      → Reads (Fits Titled) text (Some (TitledReference word w, rest))
   word_title w rest reads = record {
     found = record {
       lexeme = word ++ reads.found.lexeme;
@@ -140,8 +140,8 @@ module _ (text word behind : List ℕ) (whole : text ≡ word ++ behind) (is_wor
 
   -- which of these is the first
   pub first_titled : (w : MarkedArea) (rest : List ℕ) → Reads IsBehindTitle behind (Some (w, rest))
-      → Reads (FitsFirst forms) text (Some (Elsewhere word w, rest))
-  first_titled w rest reads = fits_here Titled behind_titled text (Elsewhere word w, rest) (word_title w rest reads)
+      → Reads (FitsFirst forms) text (Some (TitledReference word w, rest))
+  first_titled w rest reads = fits_here Titled behind_titled text (TitledReference word w, rest) (word_title w rest reads)
 
   module _ (untitled : Reads IsBehindTitle behind None) where
     pub first_function : slice_index behind 0 ≡ 40 → Reads (FitsFirst forms) text (Some (Function word, behind))

@@ -10,7 +10,7 @@ use Rattle.formula_reader.specs.declared.tokens.token.Token.TheVariants as token
 use Rattle.formula_reader.specs.declared.tokens.token.MarkedArea.{MarkedArea}
 use Rattle.formula_reader.specs.Tokens.{FitsFirst, forms}
 use Rattle.formula_reader.specs.Sheets.{Sheets, sheet_named}
-use Rattle.formula_reader.specs.Pieces.{piece_of, area_on, elsewhere, reference_to}
+use Rattle.formula_reader.specs.Pieces.{piece_of, area_on, titled_reference, reference_to}
 
 module _ (P : Piece → Type 0) (reference_has : (reference : Ref) → P (piece.Ref reference))
     (lost_has : P piece.Lost) where
@@ -18,9 +18,9 @@ module _ (P : Piece → Type 0) (reference_has : (reference : Ref) → P (piece.
   area_has named written None = lost_has
   area_has named written (Some area) = reference_has (record { named = named; area = area; marks = written.marks })
 
-  elsewhere_has : (sheets : Sheets) (written : MarkedArea) (sheet : Option ℕ) → P (elsewhere sheets written sheet)
-  elsewhere_has sheets written None = lost_has
-  elsewhere_has sheets written (Some sheet) = area_has true written (area_on sheets sheet written)
+  titled_reference_has : (sheets : Sheets) (written : MarkedArea) (sheet : Option ℕ) → P (titled_reference sheets written sheet)
+  titled_reference_has sheets written None = lost_has
+  titled_reference_has sheets written (Some sheet) = area_has true written (area_on sheets sheet written)
 
   -- so what holds of each of these holds of it
   pub token_has : (sheets : Sheets) (here : ℕ) (own : List ℕ) (t : Token) (rest : List ℕ)
@@ -28,8 +28,8 @@ module _ (P : Piece → Type 0) (reference_has : (reference : Ref) → P (piece.
       → FitsFirst forms own t rest → IfSome (piece_of sheets here t) P
   token_has sheets here own (token.Reference written) rest word_has fits =
       area_has false written (area_on sheets here written)
-  token_has sheets here own (token.Elsewhere title written) rest word_has fits =
-      elsewhere_has sheets written (sheet_named sheets title)
+  token_has sheets here own (token.TitledReference title written) rest word_has fits =
+      titled_reference_has sheets written (sheet_named sheets title)
   token_has sheets here own (token.Word word) rest word_has fits = word_has word fits
   token_has sheets here own token.Lost rest word_has fits = lost_has
   token_has sheets here own _ rest word_has fits = tt

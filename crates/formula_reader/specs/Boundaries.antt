@@ -4,7 +4,7 @@ use Rattle.std.specs.Str.{IsCharBoundary}
 use Rattle.grid_range.specs.Band.{IsNonEmpty}
 use Rattle.formula_reader.specs.declared.tokens.token.Placed.{Placed}
 use Rattle.formula_reader.specs.declared.tokens.token.Token.{Token}
-use Rattle.formula_reader.specs.declared.tokens.token.Token.TheVariants.{Reference, Elsewhere, Function, Word, Truth, Number, Text, Lost, Operator, Open, Close, Comma}
+use Rattle.formula_reader.specs.declared.tokens.token.Token.TheVariants.{Reference, TitledReference, Function, Word, Truth, Number, Text, Lost, Operator, Open, Close, Comma}
 use Rattle.formula_reader.specs.declared.tokens.token.MarkedArea.{MarkedArea}
 
 -- the text can be cut before and behind the token
@@ -19,7 +19,7 @@ NamesCells written = IsNonEmpty written.rows × IsNonEmpty written.cols
 -- a reference names a row and a column
 abbrev pub HasCells : Token → Type 0
 HasCells (Reference written) = NamesCells written
-HasCells (Elsewhere title written) = NamesCells written
+HasCells (TitledReference title written) = NamesCells written
 HasCells (Function name) = ⊤
 HasCells (Word word) = ⊤
 HasCells (Truth truth) = ⊤

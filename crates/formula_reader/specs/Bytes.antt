@@ -10,7 +10,7 @@ use Rattle.formula_reader.specs.Tokens.{FitsFirst, forms}
 abbrev pub IsReferenceText : List ℕ → Type 0
 IsReferenceText own =
     ((written : MarkedArea) × FitsFirst forms own (token.Reference written) [])
-    ⊎ ((title : List ℕ) × (written : MarkedArea) × FitsFirst forms own (token.Elsewhere title written) [])
+    ⊎ ((title : List ℕ) × (written : MarkedArea) × FitsFirst forms own (token.TitledReference title written) [])
 
 -- what stands for a lost reference: such a text, or #REF!
 abbrev pub IsLostText : List ℕ → Type 0

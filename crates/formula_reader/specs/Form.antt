@@ -4,10 +4,11 @@ use Rattle.std.specs.Prelude.{◌≡◌, ◌≢◌, ℕ, ◌≤◌, true, false,
 use Rattle.std.specs.Char.{is_ascii_digit}
 use Rattle.std.specs.Str.{str_eq_ignore_ascii_case}
 use Rattle.std.specs.Str.Parse.{digits_value}
+use Rattle.cell_value.specs.Limits.{largest}
 use Rattle.a1_notation.specs.Quoted.{quoted}
 use Rattle.a1_notation.specs.Title.{IsQuoted}
 use Rattle.formula_reader.specs.declared.tokens.token.Token.{Token}
-use Rattle.formula_reader.specs.declared.tokens.token.Token.TheVariants.{Reference, Elsewhere, Function, Word, Truth, Number, Text}
+use Rattle.formula_reader.specs.declared.tokens.token.Token.TheVariants.{Reference, TitledReference, Function, Word, Truth, Number, Text}
 use Rattle.formula_reader.specs.declared.tokens.token.MarkedArea.{MarkedArea}
 use Rattle.a1_notation.specs.Run.{begins, IsRun}
 use Rattle.formula_reader.specs.Reference.{IsReference}
@@ -32,7 +33,7 @@ pub record IsTitled (lexeme : List ℕ) (token : Token) (rest : List ℕ) : Type
   pub spelled : lexeme ≡ sheet ++ behind
   pub title_is : IsTitleBefore sheet title (behind ++ rest)
   pub reference : IsBehindTitle behind written rest
-  pub token_is : token ≡ Elsewhere title written
+  pub token_is : token ≡ TitledReference title written
 
 -- a word right before ( (40)
 pub record IsFunction (lexeme : List ℕ) (token : Token) (rest : List ℕ) : Type 0 where
@@ -61,7 +62,7 @@ pub record IsAnyWord (lexeme : List ℕ) (token : Token) (rest : List ℕ) : Typ
 pub record IsNumber (lexeme : List ℕ) (token : Token) (rest : List ℕ) : Type 0 where
   pub some : begins is_ascii_digit lexeme ≡ true
   pub run : IsRun is_ascii_digit lexeme rest
-  pub exact : digits_value 10 lexeme ≤ 9007199254740992
+  pub exact : digits_value 10 lexeme ≤ largest
   pub token_is : token ≡ Number (pos (digits_value 10 lexeme))
 
 -- a text between two " (34), where a " inside is written twice, and no further " behind

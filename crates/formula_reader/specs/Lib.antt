@@ -21,3 +21,4 @@ pub mod ReadBack
 pub mod Changed
 pub mod Laws
 pub mod Faults
+pub mod Reads

@@ -15,7 +15,7 @@ use Rattle.formula_reader.specs.declared.tokens.token.Token.TheVariants as token
 -- what the limits count of a token: references and words, and the brackets
 abbrev pub counted_token : Token → Counted
 counted_token (token.Reference written) = Cells
-counted_token (token.Elsewhere title written) = Cells
+counted_token (token.TitledReference title written) = Cells
 counted_token (token.Word word) = Cells
 counted_token token.Open = Opens
 counted_token token.Close = Closes

@@ -8,7 +8,7 @@ use Rattle.ref_rewrite.specs.declared.pieces.Piece.{Piece}
 use Rattle.ref_rewrite.specs.declared.pieces.Piece.TheVariants as piece
 use Rattle.formula_reader.specs.declared.tokens.token.MarkedArea.{MarkedArea}
 use Rattle.formula_reader.specs.declared.tokens.token.Token.{Token}
-use Rattle.formula_reader.specs.declared.tokens.token.Token.TheVariants.{Reference, Elsewhere, Function, Word, Truth, Number, Text, Lost, Operator, Open, Close, Comma}
+use Rattle.formula_reader.specs.declared.tokens.token.Token.TheVariants.{Reference, TitledReference, Function, Word, Truth, Number, Text, Lost, Operator, Open, Close, Comma}
 use Rattle.formula_reader.specs.declared.tokens.token.Placed.{Placed}
 use Rattle.formula_reader.specs.Tokens.{AreTokens}
 use Rattle.formula_reader.specs.declared.fault.FormulaFault.{FormulaFault}
@@ -35,14 +35,14 @@ reference_to named written (Some area) =
 reference_to named written None = piece.Lost
 
 -- a reference behind its sheet's title; it is lost where no sheet has the title
-abbrev pub elsewhere : Sheets → MarkedArea → Option ℕ → Piece
-elsewhere sheets written (Some sheet) = reference_to true written (area_on sheets sheet written)
-elsewhere sheets written None = piece.Lost
+abbrev pub titled_reference : Sheets → MarkedArea → Option ℕ → Piece
+titled_reference sheets written (Some sheet) = reference_to true written (area_on sheets sheet written)
+titled_reference sheets written None = piece.Lost
 
 -- the piece of a token in a formula of the sheet `here`; None for a token that is part of a text
 abbrev pub piece_of : Sheets → ℕ → Token → Option Piece
 piece_of sheets here (Reference written) = Some (reference_to false written (area_on sheets here written))
-piece_of sheets here (Elsewhere title written) = Some (elsewhere sheets written (sheet_named sheets title))
+piece_of sheets here (TitledReference title written) = Some (titled_reference sheets written (sheet_named sheets title))
 piece_of sheets here (Function name) = None
 piece_of sheets here (Word word) = Some (piece.Word word)
 piece_of sheets here (Truth truth) = None

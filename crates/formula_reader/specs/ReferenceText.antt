@@ -1,6 +1,6 @@
 -- The text of a reference: canonical A1 notation, with a $ (36) before each coordinate that is marked
 -- (Google Sheets API v4, "A1 notation": A1, A1:B2, A:B, 1:2 and A5:B). Lines are counted from 0.
-use Rattle.std.specs.Prelude.{ℕ, ⊤, ◌+◌, ◌-◌, ◌<◌, Bool, false, List, [], ◌∷◌, ◌++◌, ◌&&◌, if◌then◌else◌}
+use Rattle.std.specs.Prelude.{ℕ, ⊤, ◌+◌, ◌-◌, ◌<◌, Bool, List, [], ◌∷◌, ◌++◌, ◌&&◌, if◌then◌else◌}
 use Rattle.std.specs.Fmt.{decimal}
 use Rattle.grid_range.specs.declared.band.Band.{Band}
 use Rattle.grid_range.specs.declared.band.Band.TheVariants.{Whole, From, Span}
@@ -9,7 +9,8 @@ use Rattle.a1_notation.specs.Column.{column_letters}
 use Rattle.formula_reader.specs.Corner.{marked_text}
 use Rattle.a1_notation.specs.declared.column.TheConstants.{NAMED_COLUMNS}
 use Rattle.a1_notation.specs.declared.row.TheConstants.{NUMBERED_ROWS}
-use Rattle.a1_notation.specs.Canonical.{IsStretch, is_one_line}
+use Rattle.a1_notation.specs.Canonical.{IsStretch}
+use Rattle.grid_range.specs.Band.{has_one_line}
 
 -- the first corner's row and the last corner's, where they are written
 abbrev pub first_row : Band → Bool → List ℕ
@@ -33,12 +34,7 @@ last_column Whole mark = []
 last_column (From start) mark = []
 last_column (Span start end) mark = marked_text mark (column_letters (end - 1))
 
--- the band has a first and a last line, which are one
-abbrev pub has_one_line : Band → Bool
-has_one_line Whole = false
-has_one_line (From start) = false
-has_one_line (Span start end) = is_one_line (start, end)
-
+-- the bands are those of one cell
 abbrev pub is_one_cell : Band → Band → Bool
 is_one_cell rows cols = has_one_line rows && has_one_line cols
 

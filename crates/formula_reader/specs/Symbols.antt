@@ -27,7 +27,7 @@ symbol_of token.Open = Some symbol.Open
 symbol_of token.Close = Some symbol.Close
 symbol_of token.Comma = Some symbol.Comma
 symbol_of (token.Reference written) = None
-symbol_of (token.Elsewhere title written) = None
+symbol_of (token.TitledReference title written) = None
 symbol_of (token.Word word) = None
 symbol_of token.Lost = None
 
@@ -46,7 +46,7 @@ cells_or_lost None = symbol.Lost
 -- there, or it is lost
 abbrev pub symbol_read : Sheets → ℕ → Token → Symbol
 symbol_read sheets here (token.Reference written) = cells_or_lost (area_on sheets here written)
-symbol_read sheets here (token.Elsewhere title written) =
+symbol_read sheets here (token.TitledReference title written) =
     cells_or_lost (option_and_then (λ sheet. area_on sheets sheet written) (sheet_named sheets title))
 symbol_read sheets here (token.Word word) = symbol.Word word
 symbol_read sheets here (token.Number n) = symbol.Number n

@@ -3,6 +3,7 @@
 //! have changed.
 
 ghost use Rattle.formula_reader.specs.Laws.{HasOneTokens, IsReadOnce, HasOneSymbols, HasOneTree, LimitsStay, PrintsCanonically};
+ghost use Rattle.formula_reader.specs.Reads.{HasReading, ReadsAreThere};
 ghost use Rattle.formula_reader.specs.Changed.{StaysReadable, PrintsTheSame, MayFollow, MayLoseSheet, MayBeRenamed};
 
 use a1_notation::a1_laws;
@@ -17,6 +18,15 @@ pub fn has_one_tokens()
 /// A text is read as one formula, and passes one limit first, if any.
 pub fn reads_once()
     ensures { IsReadOnce }
+{
+    a1_laws();
+}
+
+/// No text is without a formula that is read of it, and where each sheet has a title that names it, what is read can be
+/// printed, and its references are to cells that are there.
+pub fn has_reading()
+    ensures some { HasReading }
+    ensures there { ReadsAreThere }
 {
     a1_laws();
 }

@@ -17,8 +17,8 @@ mod tree;
 pub use fault::FormulaFault;
 pub use grammar::tree_of;
 pub use laws::{
-    changes_may_be, has_one_tokens, has_one_tree, limits_stay, prints_canonically, prints_the_same,
-    reads_once, stays_readable,
+    changes_may_be, has_one_tokens, has_one_tree, has_reading, limits_stay, prints_canonically,
+    prints_the_same, reads_once, stays_readable,
 };
 pub use names::SheetNames;
 pub use printing::print_formula;

@@ -47,7 +47,7 @@ impl Limited for Placed {
 
     fn counted(&self) -> Counted {
         match &self.token {
-            Token::Reference(_) | Token::Elsewhere(_, _) | Token::Word(_) => Counted::Cells,
+            Token::Reference(_) | Token::TitledReference(_, _) | Token::Word(_) => Counted::Cells,
             Token::Open => Counted::Opens,
             Token::Close => Counted::Closes,
             Token::Function(_)

@@ -2,7 +2,7 @@ ghost use Rattle.std.specs.Prelude.{◌≡◌, ◌≤◌, ◌++◌, ◌+◌, Lis
 ghost use Rattle.grid_range.specs.Band.{IsNonEmpty};
 ghost use Rattle.formula_reader.specs.Boundaries.{HasCells};
 ghost use Rattle.formula_reader.specs.Sheets.{sheet_named};
-ghost use Rattle.formula_reader.specs.Pieces.{area_on, reference_to, elsewhere, piece_of, text_piece, pieces_from};
+ghost use Rattle.formula_reader.specs.Pieces.{area_on, reference_to, titled_reference, piece_of, text_piece, pieces_from};
 ghost use Rattle.formula_reader.specs.Cuts.{Cuts};
 
 use crate::names::SheetNames;
@@ -53,7 +53,11 @@ fn piece_of<S: SheetNames>(token: Token, names: &S, here: u32) -> Option<Piece>
 {
     match token {
         Token::Reference(written) => Some(reference_to(names, false, here, written)),
-        Token::Elsewhere(title, written) => Some(elsewhere(names, title.as_str(), written)),
+        Token::TitledReference(title, written) => Some(titled_reference(
+            names,
+            title.as_str(),
+            written,
+        )),
         Token::Word(word) => Some(Piece::Word(word)),
         Token::Lost => Some(Piece::Lost),
         Token::Function(_)
@@ -68,10 +72,10 @@ fn piece_of<S: SheetNames>(token: Token, names: &S, here: u32) -> Option<Piece>
 }
 
 /// A reference behind its sheet's title; it is lost where no sheet has the title.
-fn elsewhere<S: SheetNames>(names: &S, title: &str, written: MarkedArea) -> Piece
+fn titled_reference<S: SheetNames>(names: &S, title: &str, written: MarkedArea) -> Piece
     requires rows { IsNonEmpty written.rows }
     requires cols { IsNonEmpty written.cols }
-    ensures { result ≡ elsewhere (S.sheets names.now) written (sheet_named (S.sheets names.now) title.now) }
+    ensures { result ≡ titled_reference (S.sheets names.now) written (sheet_named (S.sheets names.now) title.now) }
 {
     match names.find(title) {
         Some(sheet) => reference_to(names, true, sheet, written),

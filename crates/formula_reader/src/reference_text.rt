@@ -2,9 +2,9 @@ ghost use Rattle.std.specs.Prelude.{◌≡◌, ◌<◌, ◌+◌, IfOk, string_by
 ghost use Rattle.std.specs.Fmt.{decimal};
 ghost use Rattle.a1_notation.specs.Column.{column_letters};
 ghost use Rattle.formula_reader.specs.Corner.{dollar, marked_text};
-ghost use Rattle.formula_reader.specs.ReferenceText.{first_row, last_row, first_column, last_column, has_one_line, reference_text, HasForm, AreRowLines, AreColumnLines};
+ghost use Rattle.formula_reader.specs.ReferenceText.{first_row, last_row, first_column, last_column, reference_text, HasForm, AreRowLines, AreColumnLines};
 
-use a1_notation::{NAMED_COLUMNS, NUMBERED_ROWS, column_text, is_one_line};
+use a1_notation::{NAMED_COLUMNS, NUMBERED_ROWS, column_text};
 use cell_value::NoMemory;
 use grid_range::Band;
 use ref_rewrite::Marks;
@@ -23,22 +23,12 @@ pub(crate) fn reference_text(
 {
     let column = first_column(alloc, cols, marks.col1)?;
     let row = first_row(alloc, rows, marks.row1)?;
-    if has_one_line(rows) && has_one_line(cols) {
+    if rows.has_one_line() && cols.has_one_line() {
         return Ok(format!(in alloc; "{column}{row}")?);
     }
     let last_column = last_column(alloc, cols, marks.col2)?;
     let last_row = last_row(alloc, rows, marks.row2)?;
     Ok(format!(in alloc; "{column}{row}:{last_column}{last_row}")?)
-}
-
-/// Whether a band has a first and a last line, which are one.
-fn has_one_line(band: Band) -> bool
-    ensures { result ≡ has_one_line band }
-{
-    match band {
-        Band::Whole | Band::From(_) => false,
-        Band::Span(start, end) => is_one_line((start, end)),
-    }
 }
 
 /// The first corner's row, where it is written.

@@ -72,7 +72,7 @@ impl Symbol {
             Token::Close => Some(Symbol::Close),
             Token::Comma => Some(Symbol::Comma),
             Token::Reference(_) => None,
-            Token::Elsewhere(_, _) => None,
+            Token::TitledReference(_, _) => None,
             Token::Word(_) => None,
             Token::Lost => None,
         }

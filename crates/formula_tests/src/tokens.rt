@@ -1,7 +1,7 @@
 use crate::common::check;
 use First::{
-    Blank, Close, Comma, Elsewhere, Function, Here, Lost, Nothing, Number, Open, Quoted, Sign,
-    Truth, Word,
+    Blank, Close, Comma, Function, Here, Lost, Nothing, Number, Open, Quoted, Sign,
+    TitledReference, Truth, Word,
 };
 use formula_reader::{MarkedArea, Operator, Placed, Token, tokens_of};
 use grid_range::Band::{self, From, Span, Whole};
@@ -12,7 +12,7 @@ use std::alloc::Global;
 #[derive(Clone, Copy)]
 enum First {
     Here(Band, Band, Marks),
-    Elsewhere(&'static str, Band, Band, Marks),
+    TitledReference(&'static str, Band, Band, Marks),
     Function(&'static str),
     Word(&'static str),
     Truth(bool),
@@ -140,25 +140,45 @@ static TOKENS: [(&str, First, usize, usize); 97] = [
     ("fAlSe", Truth(false), 5, 1),
     ("TRUEA", Word("TRUEA"), 5, 1),
     // Titles before references.
-    ("x!A1", Elsewhere("x", Span(0, 1), Span(0, 1), NONE), 4, 1),
-    ("A1!A1", Elsewhere("A1", Span(0, 1), Span(0, 1), NONE), 5, 1),
+    (
+        "x!A1",
+        TitledReference("x", Span(0, 1), Span(0, 1), NONE),
+        4,
+        1,
+    ),
+    (
+        "A1!A1",
+        TitledReference("A1", Span(0, 1), Span(0, 1), NONE),
+        5,
+        1,
+    ),
     (
         "TRUE!A1",
-        Elsewhere("TRUE", Span(0, 1), Span(0, 1), NONE),
+        TitledReference("TRUE", Span(0, 1), Span(0, 1), NONE),
         7,
         1,
     ),
-    ("é.1!A:A", Elsewhere("é.1", Whole, Span(0, 1), NONE), 8, 1),
-    ("'x'!A1", Elsewhere("x", Span(0, 1), Span(0, 1), NONE), 6, 1),
+    (
+        "é.1!A:A",
+        TitledReference("é.1", Whole, Span(0, 1), NONE),
+        8,
+        1,
+    ),
+    (
+        "'x'!A1",
+        TitledReference("x", Span(0, 1), Span(0, 1), NONE),
+        6,
+        1,
+    ),
     (
         "'Jon''s'!A:A",
-        Elsewhere("Jon's", Whole, Span(0, 1), NONE),
+        TitledReference("Jon's", Whole, Span(0, 1), NONE),
         12,
         1,
     ),
     (
         "'a!b'!A1+1",
-        Elsewhere("a!b", Span(0, 1), Span(0, 1), NONE),
+        TitledReference("a!b", Span(0, 1), Span(0, 1), NONE),
         8,
         3,
     ),
@@ -253,7 +273,7 @@ fn begin_with(tokens: &[Placed], first: First, end: usize, count: usize) -> bool
 fn is_first(token: &Token, first: First) -> bool {
     match (token, first) {
         (Token::Reference(area), Here(rows, cols, marks)) => is_area(area, rows, cols, marks),
-        (Token::Elsewhere(own, area), Elsewhere(title, rows, cols, marks)) => {
+        (Token::TitledReference(own, area), TitledReference(title, rows, cols, marks)) => {
             own.as_str() == title && is_area(area, rows, cols, marks)
         }
         (Token::Function(own), Function(name)) => own.as_str() == name,

@@ -1,7 +1,7 @@
 -- Bands of lines: one dimension of the `GridRange` of the Google Sheets API v4, whose indexes count
 -- from 0, whose start is inclusive and whose end is exclusive; an index that is missing is
 -- unbounded. That a range whose start is its end is refused is this project's profile.
-use Rattle.std.specs.Prelude.{ℕ, ◌<◌, ◌≤◌, ⊤, min}
+use Rattle.std.specs.Prelude.{ℕ, ◌+◌, ◌<◌, ◌≤◌, ⊤, min, Bool, false, ◌==◌}
 use Rattle.grid_range.specs.declared.band.Band.{Band}
 use Rattle.grid_range.specs.declared.band.Band.TheVariants.{Whole, From, Span}
 
@@ -28,6 +28,12 @@ abbrev pub first_line : Band → ℕ
 first_line Whole = 0
 first_line (From start) = start
 first_line (Span start end) = start
+
+-- the band has a first and a last line, which are one
+abbrev pub has_one_line : Band → Bool
+has_one_line Whole = false
+has_one_line (From start) = false
+has_one_line (Span start end) = start + 1 == end
 
 -- the line past the last one, among `count` lines
 abbrev pub end_line : Band → ℕ → ℕ

@@ -1,5 +1,5 @@
 ghost use Rattle.std.specs.Prelude.{◌≡◌, ◌↔◌, ℕ, ◌<◌, ◌≤◌, IsTrue, IsSome, IfSome, min};
-ghost use Rattle.grid_range.specs.Band.{Within, HasLine, first_line, end_line, cut_band, IsNonEmpty, ShareLine};
+ghost use Rattle.grid_range.specs.Band.{Within, HasLine, first_line, end_line, cut_band, has_one_line, IsNonEmpty, ShareLine};
 
 /// A set of lines on one axis of a sheet: one dimension of a `GridRange` of the Google Sheets API
 /// v4, where an index that isn't given is unbounded.
@@ -53,6 +53,16 @@ impl Band {
         match self {
             Band::Whole | Band::From(_) => count,
             Band::Span(_, end) => end,
+        }
+    }
+
+    /// Whether the band has a first and a last line, which are one.
+    pub fn has_one_line(self) -> bool
+        ensures { result ≡ has_one_line self }
+    {
+        match self {
+            Band::Whole | Band::From(_) => false,
+            Band::Span(start, end) => start as u64 + 1 == end as u64,
         }
     }
 

@@ -2,9 +2,9 @@ ghost use Rattle.std.specs.Prelude.{◌≡◌, ◌<◌};
 
 use crate::common::{check, put};
 use cell_store::{Grid, MOST_LINES, TreeGrid};
-use cell_value::NoMemory;
+use cell_value::{NoMemory, Steps};
 use grid_range::{Area, Axis, Band, Change};
-use link_store::{LinkGrid, Links, Steps};
+use link_store::{LinkGrid, Links};
 use std::alloc::Global;
 use std::marker::Brand;
 use std::sync::ledger::{Blank, Ledger};

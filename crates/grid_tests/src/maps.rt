@@ -68,7 +68,7 @@ fn is_put(map: &mut SharedMap<u64>, key: u64) -> bool {
 
 fn has_keys(map: &Option<SharedMap<u64>>, first: u64, last: u64, expected: &[u64]) -> bool {
     match map {
-        Some(map) => match map.keys(first, last) {
+        Some(map) => match map.keys::<u64>(first, last) {
             Ok(keys) => keys.as_slice() == expected,
             Err(NoMemory) => false,
         },

@@ -68,11 +68,10 @@ fn take(pair: &mut Pair, key: u64) -> bool {
 
 /// Whether both hold as many items, and the same one at each key that the map lists.
 fn is_same(pair: &Pair) -> bool {
-    match pair.map.keys(0, u64::MAX) {
+    match pair.map.keys::<u64>(0, u64::MAX) {
         Ok(keys) => {
-            keys.as_slice().len() == pair.tree.len()
+            keys.len() == pair.tree.len()
                 && keys
-                    .as_slice()
                     .iter()
                     .all(|key| pair.map.get(*key) == pair.tree.get(key))
         }

@@ -88,8 +88,8 @@ fn holds(map: &SharedMap<u64>, writes: usize) -> bool {
     let same = KEYS
         .iter()
         .all(|key| map.get(*key).copied() == left(writes, *key));
-    let listed = match map.keys(0, u64::MAX) {
-        Ok(listed) => listed.as_slice().len() as u64,
+    let listed = match map.keys::<u64>(0, u64::MAX) {
+        Ok(listed) => listed.len() as u64,
         Err(_) => 0,
     };
     same && keys.count() as u64 == map.count() && listed == map.count()

@@ -1,5 +1,5 @@
 use cell_value::{Bytes, NoMemory};
-use sheets_http::{Buffer, Next, SteadySource, next_request, route};
+use sheets_http::{Buffer, LONGEST_TALK, Next, SteadySource, next_request, route};
 use std::alloc::Global;
 
 /// The head of a request with a query.
@@ -13,9 +13,6 @@ const BODY: &str = "{\"majorDimension\":\"ROWS\",\"values\":[[1,\"one\"],[2,\"tw
 
 /// How many bytes a read gives at most.
 const PIECE: u64 = 65_536;
-
-/// The bound on a conversation.
-const MOST: u64 = 1_099_511_627_776;
 
 /// So many requests, one behind the other.
 pub fn stream_of(alloc: Global, count: u64) -> Result<Vec<u8>, NoMemory> {
@@ -33,7 +30,7 @@ pub fn calls_of(alloc: Global, stream: Vec<u8>, count: u64) -> Result<u64, NoMem
     let mut buffer = Buffer::new(alloc)?;
     let mut calls: u64 = 0;
     for _ in 0..count {
-        if let Next::Request(wire) = next_request(alloc, &mut source, &mut buffer, MOST) {
+        if let Next::Request(wire) = next_request(alloc, &mut source, &mut buffer, LONGEST_TALK) {
             if route(alloc, wire.method.as_str(), wire.target.as_str()).is_ok() {
                 calls = calls.saturating_add(1);
             }

@@ -6,12 +6,11 @@ use Rattle.serde_json.specs.Data.{Data, null, boolean, number, string, array, ob
 use Rattle.serde_json.specs.Find.{as_str}
 use Rattle.dev_metadata.specs.declared.types.SpotKind.{SpotKind}
 use Rattle.dev_metadata.specs.declared.types.SpotKind.TheVariants as spot
-use Rattle.dev_metadata.specs.declared.types.SightKind.{SightKind}
-use Rattle.dev_metadata.specs.declared.types.SightKind.TheVariants as sight
+use Rattle.dev_metadata.specs.declared.types.VisibilityKind.{VisibilityKind}
+use Rattle.dev_metadata.specs.declared.types.VisibilityKind.TheVariants as visibility
 use Rattle.json_requests.specs.declared.metadata.StatedMetadata.{StatedMetadata}
 use Rattle.json_requests.specs.declared.request.DataFilter.{DataFilter}
 use Rattle.json_requests.specs.declared.request.DataFilter.TheVariants as filter
-use Rattle.json_requests.specs.declared.request.DimensionRange.{DimensionRange}
 use Rattle.json_requests.specs.declared.request.Location.{Location}
 use Rattle.json_requests.specs.declared.request.Location.TheVariants as location
 use Rattle.json_requests.specs.declared.request.MetadataLookup.{MetadataLookup}
@@ -74,10 +73,10 @@ strategy_named name =
     else if bytes_eq name (codes "INTERSECTING_LOCATION") then Some strategy.Intersecting
     else None
 
-abbrev pub visibility_named : List ℕ → Option SightKind
+abbrev pub visibility_named : List ℕ → Option VisibilityKind
 visibility_named name =
-    if bytes_eq name (codes "DOCUMENT") then Some sight.Document
-    else if bytes_eq name (codes "PROJECT") then Some sight.Project
+    if bytes_eq name (codes "DOCUMENT") then Some visibility.Document
+    else if bytes_eq name (codes "PROJECT") then Some visibility.Project
     else None
 
 -- ---- items
@@ -93,7 +92,7 @@ abbrev pub metadata_key : Shape (List ℕ)
 metadata_key = such_that is_key_text text
 
 abbrev pub new_metadata_of :
-    (((Option ℕ × List ℕ) × Option (List ℕ)) × Location) × SightKind → NewMetadata
+    (((Option ℕ × List ℕ) × Option (List ℕ)) × Location) × VisibilityKind → NewMetadata
 new_metadata_of parts = record {
   metadata_id = parts.0.0.0.0;
   metadata_key = parts.0.0.0.1;
@@ -138,7 +137,7 @@ lookup_texts =
     (optional (codes "metadataValue") text)
 
 abbrev pub lookup_of : (((Option SpotKind × Option Location) × Option MatchingStrategy)
-    × ((Option ℕ × Option (List ℕ)) × Option (List ℕ))) × Option SightKind → MetadataLookup
+    × ((Option ℕ × Option (List ℕ)) × Option (List ℕ))) × Option VisibilityKind → MetadataLookup
 lookup_of parts = record {
   location_type = parts.0.0.0.0;
   metadata_location = parts.0.0.0.1;
@@ -192,7 +191,7 @@ changed_texts =
     (optional (codes "metadataKey") metadata_key))
     (optional (codes "metadataValue") text)
 
-abbrev pub patch_of : (((Option ℕ × Option (List ℕ)) × Option (List ℕ)) × Option Location) × Option SightKind
+abbrev pub patch_of : (((Option ℕ × Option (List ℕ)) × Option (List ℕ)) × Option Location) × Option VisibilityKind
     → MetadataPatch
 patch_of parts = record {
   metadata_key = parts.0.0.0.1;

@@ -8,7 +8,7 @@ use crate::location::LocationMembers;
 use crate::metadata_words::{LocationTypes, Strategies, Visibilities};
 use crate::{DataFilter, Location, MatchingStrategy, MetadataLookup};
 use cell_value::{NoMemory, Text};
-use dev_metadata::{SightKind, SpotKind};
+use dev_metadata::{SpotKind, VisibilityKind};
 use grid_range::Area;
 use json_shapes::{
     AnyText, Fields, Index, ObjectOf, Read, Shape, ShapeFault, Word, both, either, just_one,
@@ -92,7 +92,9 @@ impl Fields for LookupMembers {
 }
 
 /// The look-up.
-fn lookup_of(parts: Read<((LookupPlace, LookupTexts), Option<SightKind>)>) -> Read<MetadataLookup>
+fn lookup_of(
+    parts: Read<((LookupPlace, LookupTexts), Option<VisibilityKind>)>,
+) -> Read<MetadataLookup>
     ensures { result ≡ made lookup_of parts }
 {
     let ((place, texts), visibility) = parts?;

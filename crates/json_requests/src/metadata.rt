@@ -8,7 +8,7 @@ use crate::location::LocationMembers;
 use crate::metadata_words::Visibilities;
 use crate::{Location, MetadataLookup, MetadataPatch, NewMetadata, Request};
 use cell_value::{Items, NoMemory, Text};
-use dev_metadata::SightKind;
+use dev_metadata::VisibilityKind;
 use json_shapes::{
     AnyText, BodyPaths, Condition, Fields, Index, ListOf, ObjectOf, Paths, Read, SuchThat, Word,
     both, masked, optional, required, states, taken,
@@ -92,7 +92,7 @@ impl Fields for NewMetadataMembers {
 }
 
 /// The new item.
-fn new_metadata_of(parts: Read<((NewTexts, Location), SightKind)>) -> Read<NewMetadata>
+fn new_metadata_of(parts: Read<((NewTexts, Location), VisibilityKind)>) -> Read<NewMetadata>
     ensures { result ≡ made new_metadata_of parts }
 {
     let ((((metadata_id, metadata_key), metadata_value), location), visibility) = parts?;
@@ -180,7 +180,7 @@ impl Fields for ChangedMetadataMembers {
 
 /// What is given of the items.
 fn patch_of(
-    parts: Read<((ChangedTexts, Option<Location>), Option<SightKind>)>,
+    parts: Read<((ChangedTexts, Option<Location>), Option<VisibilityKind>)>,
 ) -> Read<MetadataPatch>
     ensures { result ≡ made patch_of parts }
 {

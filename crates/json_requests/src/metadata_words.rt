@@ -1,7 +1,7 @@
 ghost use Rattle.json_requests.specs.Metadata.{location_type_named, strategy_named, visibility_named};
 
 use crate::MatchingStrategy;
-use dev_metadata::{SightKind, SpotKind};
+use dev_metadata::{SpotKind, VisibilityKind};
 use json_shapes::Words;
 
 /// The words of DeveloperMetadataLocationType.
@@ -47,14 +47,14 @@ impl Words for Strategies {
 pub(crate) struct Visibilities;
 
 impl Words for Visibilities {
-    type Output = SightKind;
+    type Output = VisibilityKind;
 
     ghost table = { λ _. visibility_named };
 
-    fn named(&self, name: &str) -> Option<SightKind> {
+    fn named(&self, name: &str) -> Option<VisibilityKind> {
         match name {
-            "DOCUMENT" => Some(SightKind::Document),
-            "PROJECT" => Some(SightKind::Project),
+            "DOCUMENT" => Some(VisibilityKind::Document),
+            "PROJECT" => Some(VisibilityKind::Project),
             _ => None,
         }
     }

@@ -1,6 +1,6 @@
 use basic_filter::Filter;
 use cell_value::{Block, Items, SheetProperties, Text};
-use dev_metadata::{SightKind, SpotKind};
+use dev_metadata::{SpotKind, VisibilityKind};
 use grid_range::{Area, Axis};
 use json_shapes::ShapeFault;
 use protection::ProtectionPatch;
@@ -225,7 +225,7 @@ pub struct NewMetadata {
     /// Where it lies.
     pub location: Location,
     /// Under which projects it is seen.
-    pub visibility: SightKind,
+    pub visibility: VisibilityKind,
 }
 
 /// The members of items of metadata that an update gives (Sheets API v4 reference, DeveloperMetadata).
@@ -238,7 +238,7 @@ pub struct MetadataPatch {
     /// Where they lie.
     pub location: Option<Location>,
     /// Under which projects they are seen.
-    pub visibility: Option<SightKind>,
+    pub visibility: Option<VisibilityKind>,
 }
 
 /// How a location that is asked for is compared (Sheets API v4 reference,
@@ -268,7 +268,7 @@ pub struct MetadataLookup {
     /// The value.
     pub metadata_value: Option<Text>,
     /// Under which projects they are seen.
-    pub visibility: Option<SightKind>,
+    pub visibility: Option<VisibilityKind>,
 }
 
 /// Which cells or which items of metadata are meant (Sheets API v4 reference, DataFilter).

@@ -1,13 +1,11 @@
 ghost use Rattle.std.specs.Prelude.{◌≡◌, true};
-ghost use Rattle.std.specs.Char.{is_ascii_digit};
-ghost use Rattle.std.specs.List.{list_all};
-ghost use Rattle.std.specs.Str.Parse.{without_leading_sign, digits_value, signed_digits_value};
+ghost use Rattle.std.specs.Str.Parse.{digits_value, signed_digits_value};
 ghost use Rattle.cell_value.specs.Typed.{are_digits, is_whole};
 ghost use Rattle.json_shapes.specs.Scalars.{within_index};
 ghost use Rattle.json_requests.specs.Filters.{column_named};
 ghost use Rattle.json_requests.specs.WholeTexts.{number_of, number_within, leads_with_zero, index_named};
 
-use cell_value::LARGEST;
+use cell_value::{LARGEST, are_digits, is_whole};
 use json_shapes::{Read, ShapeFault, within_index};
 
 /// The number that digits behind an optional sign write, within 2^53 either way.
@@ -41,40 +39,6 @@ fn number_within(number: i64) -> Read<i64>
     } else {
         Err(ShapeFault::BadNumber)
     }
-}
-
-/// Whether the text is digits behind an optional sign.
-fn is_whole(text: &[u8]) -> bool
-    ensures { result ≡ is_whole text.now }
-{
-    are_digits(without_sign(text))
-}
-
-/// What stands behind an optional sign.
-fn without_sign(text: &[u8]) -> &[u8]
-    ensures { result.now ≡ without_leading_sign text.now }
-{
-    match text {
-        [first, rest @ ..] => if *first == b'+' || *first == b'-' {
-            rest
-        } else {
-            text
-        },
-        [] => text,
-    }
-}
-
-/// Whether the text is one digit or more, and nothing else.
-fn are_digits(text: &[u8]) -> bool
-    ensures { result ≡ are_digits text.now }
-{
-    text.len() > 0 && has_digits_alone(text)
-}
-
-fn has_digits_alone(text: &[u8]) -> bool
-    ensures { result ≡ list_all is_ascii_digit text.now }
-{
-    text.iter().all(|byte| byte.is_ascii_digit())
 }
 
 /// The column that a key of criteria names.

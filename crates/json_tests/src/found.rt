@@ -1,6 +1,6 @@
 use crate::common::{check, is_answer, text};
 use cell_value::Items;
-use dev_metadata::{Item, Sight, SightKind, Spot, SpotKind};
+use dev_metadata::{Item, Spot, SpotKind, Visibility, VisibilityKind};
 use grid_range::{Area, Axis, Band};
 use sheets_json::{
     Answer, DataFilter, DimensionRange, Location, MatchedMetadata, MatchedRange, MatchingStrategy,
@@ -9,13 +9,13 @@ use sheets_json::{
 use std::alloc::Global;
 
 /// The item with the id 1 and the key `k` at a place.
-fn item(alloc: Global, value: &str, spot: Spot, sight: Sight) -> Item {
+fn item(alloc: Global, value: &str, spot: Spot, visibility: Visibility) -> Item {
     Item {
         id: 1,
         key: text(alloc, "k"),
         value: text(alloc, value),
         spot,
-        sight,
+        visibility,
     }
 }
 
@@ -46,7 +46,7 @@ fn whole(alloc: Global) -> MetadataLookup {
         metadata_id: Some(5),
         metadata_key: Some(text(alloc, "k")),
         metadata_value: Some(text(alloc, "")),
-        visibility: Some(SightKind::Project),
+        visibility: Some(VisibilityKind::Project),
     }
 }
 
@@ -83,7 +83,7 @@ static PLACES: [(Spot, &str); 5] = [
 
 /// Whether an item at a place that everybody sees has that text.
 fn is_item(alloc: Global, spot: Spot, wanted: &str) -> bool {
-    let answer = Answer::Item(item(alloc, "", spot, Sight::Document));
+    let answer = Answer::Item(item(alloc, "", spot, Visibility::Document));
     is_answer(alloc, &answer, wanted)
 }
 
@@ -96,8 +96,8 @@ fn items_are_answered(rt: HostRuntime) {
 
 /// The item of a project on a sheet.
 fn of_project(alloc: Global) -> Item {
-    let sight = Sight::Project(text(alloc, "p"));
-    item(alloc, "v", Spot::Sheet(2), sight)
+    let visibility = Visibility::Project(text(alloc, "p"));
+    item(alloc, "v", Spot::Sheet(2), visibility)
 }
 
 #[test]

@@ -1,7 +1,7 @@
 -- A protected cell's entered content changes only for its editors and the owner (Google Sheets API v4 reference,
--- ProtectedRange: `range`, `unprotectedRanges`, `warningOnly` and `editors`): what a request, a write, a clear or an append
--- of another user makes leaves the cell where it is, with what was entered into it. Each is judged by the protected ranges
--- as they are before it, and what is written behind added lines once these are there.
+-- ProtectedRange: `range`, `unprotectedRanges`, `warningOnly` and `editors`): what a request, a write, a clear or an
+-- append of another user makes leaves the cell where it is, with what was entered into it. Each is judged by the
+-- protected ranges as they are before it, and what is written behind added lines once these are there.
 use Rattle.std.specs.Prelude.{◌≡◌, ℕ, Bool, List, [], ◌++◌, Option, None, Some, Ok}
 use Rattle.cell_value.specs.declared.cell.Block.{Block}
 use Rattle.grid_range.specs.declared.area.Area.{Area}

@@ -1,5 +1,5 @@
--- Cells that a request, a write, a clear or an append doesn't touch keep what was entered into them, whoever's it is: what
--- a user does leaves each other cell than those that are touched.
+-- Cells that a request, a write, a clear or an append doesn't touch keep what was entered into them, whoever's it is:
+-- what a user does leaves each other cell than those that are touched.
 use Rattle.std.specs.Prelude.{◌≡◌, ℕ, Bool, true, false, List, [], Option, Some, Result, Ok}
 use Rattle.cell_value.specs.declared.cell.Block.{Block}
 use Rattle.grid_range.specs.declared.area.Area.{Area}

@@ -14,8 +14,8 @@ pub fn untouched_cells_keep()
     left_cells_stay();
 }
 
-/// What a request, a write, a clear or an append of a user makes leaves what was entered into each cell that is protected
-/// from him (Sheets API v4 reference, ProtectedRange).
+/// What a request, a write, a clear or an append of a user makes leaves what was entered into each cell that is
+/// protected from him (Sheets API v4 reference, ProtectedRange).
 pub fn protected_cells_keep()
     ensures { ProtectedCellsKeep }
 {

@@ -465,8 +465,8 @@ pub static RANGES_LISTED: [Exchange; 8] = [
     ),
 ];
 
-/// What becomes of a named range where the formula with its name is on another sheet, where a move tears its lines, where
-/// its area goes past the grid, and which id the next one gets behind one that was given.
+/// What becomes of a named range where the formula with its name is on another sheet, where a move tears its lines,
+/// where its area goes past the grid, and which id the next one gets behind one that was given.
 pub static NAMES_FOLLOWED: [Exchange; 4] = [
     (
         &[

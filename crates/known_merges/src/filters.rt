@@ -1810,8 +1810,8 @@ pub static FILTERS_BY_OTHERS: [Exchange; 3] = [
     ),
 ];
 
-/// Filters with a null for a criterion, beside errors, with keys whose order by bytes isn't that of the numbers, of a sheet
-/// that gets another title, and with a criterion past the grid.
+/// Filters with a null for a criterion, beside errors, with keys whose order by bytes isn't that of the numbers, of a
+/// sheet that gets another title, and with a criterion past the grid.
 pub static MORE_FILTERS: [Exchange; 6] = [
     (
         &[

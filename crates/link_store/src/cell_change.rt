@@ -7,8 +7,7 @@ ghost use Rattle.link_store.specs.Crossings.{IsGrid, GoesAlong, HasDeletedEmpty,
 ghost use Rattle.link_store.specs.Crossings.{KeepsItems, TakesListsAgain};
 
 use crate::cells::Cells;
-use crate::counting::Steps;
-use cell_value::NoMemory;
+use cell_value::{NoMemory, Steps};
 use grid_range::{Axis, Change, places_stay_below};
 use std::sync::ledger::Ledger;
 

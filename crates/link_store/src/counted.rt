@@ -3,9 +3,8 @@ ghost use Rattle.std.specs.Prelude.{IfNone, OnSome, slice_get, Contains};
 ghost use Rattle.link_store.specs.Lists.{entries_of, first_node, node_after, HasEntry, IsLive, live_nodes};
 ghost use Rattle.link_store.specs.Lists.{with_entry, without_node, HasNodesOnce};
 
-use crate::counting::Steps;
 use crate::lists::Links;
-use cell_value::NoMemory;
+use cell_value::{NoMemory, Steps};
 use std::sync::ledger::Ledger;
 
 /// The calls of [`Links`], each with one step counted.

@@ -6,7 +6,7 @@ ghost use Rattle.link_store.specs.Crossings.{IsGrid, LosesFirst, LosesItems};
 ghost use Rattle.grid_range.specs.declared.axis.Axis.TheVariants.{Rows, Columns};
 
 use crate::cells::Cells;
-use crate::counting::Steps;
+use cell_value::Steps;
 use grid_range::Axis;
 use std::sync::ledger::Ledger;
 

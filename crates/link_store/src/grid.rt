@@ -4,9 +4,8 @@ ghost use Rattle.cell_store.specs.Table.{empty_table, filled_places, most_lines}
 ghost use Rattle.cell_store.specs.Moved.{GoesWithLines, IsRoomAfter, lines_on, size_after};
 
 use crate::cells::Cells;
-use crate::counting::Steps;
 use cell_store::{Grid, held_by_rows, tables_by_items};
-use cell_value::{Duplicate, Items, NoMemory};
+use cell_value::{Duplicate, Items, NoMemory, Steps};
 use grid_range::{Area, Axis, Change};
 use std::alloc::Global;
 use std::marker::{Brand, Model};

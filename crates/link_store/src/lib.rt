@@ -7,7 +7,6 @@
 mod cell_change;
 mod cells;
 mod counted;
-mod counting;
 mod deletion;
 mod entries;
 mod grid;
@@ -18,7 +17,6 @@ mod lists;
 mod nodes;
 mod store;
 
-pub use counting::Steps;
 pub use entries::Entries;
 pub use grid::LinkGrid;
 pub use lists::Links;

@@ -6,9 +6,8 @@ ghost use Rattle.link_store.specs.Lines.{AreLines, AreSameLines, AreMoved, HasSa
 ghost use Rattle.link_store.specs.Lines.{IsInsertion, OpenedFrom, list_of};
 ghost use Rattle.std.specs.List.Sorted.{IsPermutation};
 
-use crate::counting::Steps;
 use crate::lines::Lines;
-use cell_value::NoMemory;
+use cell_value::{NoMemory, Steps};
 use grid_range::{Change, places_stay_apart, places_stay_below};
 use std::sync::ledger::Ledger;
 

@@ -5,10 +5,9 @@ ghost use Rattle.link_store.specs.Lists.{entries_of, live_nodes};
 ghost use Rattle.cell_store.specs.Turning.{source};
 ghost use Rattle.link_store.specs.Lines.{AreLines, AreSameLines, HasSameEntries, list_of};
 
-use crate::counting::Steps;
 use crate::lists::Links;
 use cell_store::turn;
-use cell_value::NoMemory;
+use cell_value::{NoMemory, Steps};
 use std::alloc::Global;
 use std::marker::Brand;
 use std::sync::ledger::{Blank, Ledger};

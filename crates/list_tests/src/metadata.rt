@@ -4,7 +4,7 @@ ghost use Rattle.dev_metadata.specs.Following.{IsBelow, IsSpotBelow};
 use crate::common::{check, text};
 use cell_value::{Duplicate, Items, NoMemory, Text};
 use dev_metadata::{
-    Item, ItemPatch, Lookup, MetaFault, Metadata, Sight, SightKind, Spot, SpotKind,
+    Item, ItemPatch, Lookup, MetaFault, Metadata, Spot, SpotKind, Visibility, VisibilityKind,
 };
 use grid_range::{Axis, Change};
 use std::alloc::Global;
@@ -136,7 +136,7 @@ static BY_MEMBER: [(
     Option<bool>,
     Option<u32>,
     Option<&str>,
-    Option<SightKind>,
+    Option<VisibilityKind>,
     Result<&[u32], MetaFault>,
 ); 7] = [
     (Some(true), None, Some("a"), None, Err(MetaFault::BadLookup)),
@@ -154,10 +154,10 @@ static BY_MEMBER: [(
         None,
         None,
         Some("a"),
-        Some(SightKind::Document),
+        Some(VisibilityKind::Document),
         Ok(&[1, 5]),
     ),
-    (None, None, None, Some(SightKind::Project), Ok(&[3])),
+    (None, None, None, Some(VisibilityKind::Project), Ok(&[3])),
 ];
 
 #[test]
@@ -226,7 +226,7 @@ fn one_at(alloc: Global, spot: Spot, sheet: u32, axis: Axis) -> Metadata
         text(alloc, "k"),
         text(alloc, ""),
         spot,
-        Sight::Document,
+        Visibility::Document,
     ) {
         Ok(_) => list,
         Err(_) => Metadata::new(alloc),
@@ -292,7 +292,7 @@ fn update(alloc: Global, list: &mut Metadata) -> bool {
         key: None,
         value: Some(text(alloc, "v")),
         spot: Some(ROW),
-        sight: Some(SightKind::Project),
+        visibility: Some(VisibilityKind::Project),
     };
     are_updated(alloc, list, &patch)
         && has_texts(list, 5, "a", "v")
@@ -349,12 +349,12 @@ fn add(
     spot: Spot,
     project: Option<&str>,
 ) -> Result<u32, MetaFault> {
-    let sight = match project {
-        Some(project) => Sight::Project(text(alloc, project)),
-        None => Sight::Document,
+    let visibility = match project {
+        Some(project) => Visibility::Project(text(alloc, project)),
+        None => Visibility::Document,
     };
     if list.count() < 100 {
-        list.create(id, text(alloc, key), text(alloc, ""), spot, sight)
+        list.create(id, text(alloc, key), text(alloc, ""), spot, visibility)
     } else {
         Err(MetaFault::NoMemory)
     }
@@ -382,7 +382,7 @@ fn by_spot(kind: Option<SpotKind>, spot: Option<Spot>, intersecting: Option<bool
         id: None,
         key: None,
         value: None,
-        sight: None,
+        visibility: None,
     }
 }
 
@@ -391,7 +391,7 @@ fn by_member(
     intersecting: Option<bool>,
     id: Option<u32>,
     key: Option<&str>,
-    sight: Option<SightKind>,
+    visibility: Option<VisibilityKind>,
 ) -> Lookup {
     let key = match key {
         Some(key) => Some(text(alloc, key)),
@@ -400,7 +400,7 @@ fn by_member(
     Lookup {
         id,
         key,
-        sight,
+        visibility,
         ..by_spot(None, None, intersecting)
     }
 }

@@ -1,11 +1,10 @@
 -- A loop that puts what each item becomes in its own place, and one that counts what is still to come.
-use Rattle.std.proofs.Common.{◌≡◌, ℕ, ◌+◌, ◌<◌, Bool, true, false, cond, List, [], ◌∷◌, ◌++◌, All, map, take, drop, set, replicate, length, get_or, sym, ap, ◌∙◌, arith}
-use Rattle.std.specs.List.{AllZip, count_by}
-use Rattle.std.proofs.lemmas.List.{take_more, take_more_set, same_from_push, drop_more, length-map, length-take, get_or_at}
+use Rattle.std.proofs.Common.{◌≡◌, ℕ, ◌+◌, ◌<◌, Bool, true, false, cond, List, [], ◌∷◌, ◌++◌, map, take, drop, set, replicate, length, get_or, sym, ap, ◌∙◌, arith}
+use Rattle.std.specs.List.{count_by}
+use Rattle.std.proofs.lemmas.List.{same_from_push, drop_more, length-map, length-take, get_or_at}
 use Rattle.std.proofs.lemmas.Grind.{replicate_next}
 use Rattle.std.proofs.lemmas.List.Sums.{sum_by-drop_more}
 use Rattle.std.proofs.lemmas.List.Edits.{map_over_more}
-use Rattle.std.proofs.lemmas.List.Elements.{AllZip-push, All-append, All-same, All-replicate}
 
 -- the items before `at` are what they become; so is the one that comes next, where that is put
 pub map_one_more : {X : Type 0} (f : X → X) (before now : List X) (at : ℕ) (old new : X)

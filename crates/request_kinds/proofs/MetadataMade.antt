@@ -9,11 +9,11 @@ use Rattle.cell_value.specs.Ids.{IsLeastUnused, IsNewId, is_taken}
 use Rattle.dev_metadata.specs.Listed.{AreIdsInOrder, AreInOrderOfId, HaveOwnIds, found, found_by_some, has_id, ids_of}
 use Rattle.dev_metadata.specs.Listed.{not_found, with_one_more}
 use Rattle.dev_metadata.specs.Lookup.{has_bad, is_bad}
-use Rattle.dev_metadata.specs.SightKind.{sight_given}
+use Rattle.dev_metadata.specs.VisibilityKind.{visibility_given}
 use Rattle.dev_metadata.specs.declared.types.Item.{Item}
 use Rattle.dev_metadata.specs.declared.types.MetaFault.{MetaFault}
 use Rattle.dev_metadata.specs.declared.types.MetaFault.TheVariants as fault
-use Rattle.dev_metadata.specs.declared.types.Sight.{Sight}
+use Rattle.dev_metadata.specs.declared.types.Visibility.{Visibility}
 use Rattle.dev_metadata.specs.declared.types.Spot.{Spot}
 use Rattle.world_model.specs.Book.{PlaceBook}
 use Rattle.world_model.specs.BookChange.{BookChange}
@@ -131,14 +131,14 @@ module _ (project : List ℕ) (asked : NewMetadata) (before after : PlaceBook) w
     made = with_item (item_made project asked id) before.metadata
 
     -- an item of what is asked is put in
-    pub put_in : (key value : List ℕ) (place : Spot) (sight : Sight) → key ≡ asked.metadata_key
+    pub put_in : (key value : List ℕ) (place : Spot) (visibility : Visibility) → key ≡ asked.metadata_key
         → value ≡ unwrap_or asked.metadata_value [] → place ≡ spot_of asked.location
-        → sight ≡ sight_given project asked.visibility
-        → MetadataBecomes (with_one_more id key value place sight before.metadata) before after
+        → visibility ≡ visibility_given project asked.visibility
+        → MetadataBecomes (with_one_more id key value place visibility before.metadata) before after
         → MetadataBecomes made before after
-    put_in key value place sight key_is value_is place_is sight_is becomes =
-        let same : with_one_more id key value place sight before.metadata ≡ made =
-        rw (key_is, value_is, place_is, sight_is) refl in
+    put_in key value place visibility key_is value_is place_is visibility_is becomes =
+        let same : with_one_more id key value place visibility before.metadata ≡ made =
+        rw (key_is, value_is, place_is, visibility_is) refl in
         subst (λ items. MetadataBecomes items before after) same becomes
 
     abbrev told_created : Item → Result (Reply × List BookChange) Rule

@@ -9,7 +9,7 @@ use Rattle.std.proofs.lemmas.List.Elements.{All-head, All-tail, All-filter, filt
 use Rattle.std.proofs.lemmas.List.Sorted.{All-permutation, IsPermutation-map}
 use Rattle.dev_metadata.specs.Listed.{AreIdsInOrder, AreInOrderOfId, HaveOwnIds, found, ids_of, seen_with_id}
 use Rattle.dev_metadata.specs.Lookup.{finds, meets, sees}
-use Rattle.dev_metadata.specs.Sight.{of_document}
+use Rattle.dev_metadata.specs.Visibility.{of_document}
 use Rattle.dev_metadata.specs.declared.types.Item.{Item}
 use Rattle.dev_metadata.specs.declared.types.Lookup.{Lookup}
 use Rattle.dev_metadata.specs.declared.types.Spot.TheVariants as spot
@@ -23,7 +23,7 @@ ids_ascend : (items : List Item) → IsNonDecreasingBy (λ (item : Item). item.i
     → IsNonDecreasingBy (λ (id : ℕ). id) (ids_of items)
 ids_ascend items ascend one other d before there =
     let number = λ (item : Item). item.id in
-    let any : Item = record { id = d; key = []; value = []; spot = spot.Spreadsheet; sight = of_document } in
+    let any : Item = record { id = d; key = []; value = []; spot = spot.Spreadsheet; visibility = of_document } in
     let long = length-map items number in
     let at_one = get_or-map number items one any d (omega arith) in
     let at_other = get_or-map number items other any d (omega arith) in

@@ -9,6 +9,7 @@ use Rattle.grid_range.specs.Area.{AreaWithin}
 use Rattle.grid_range.specs.declared.axis.Axis.TheVariants.{Rows}
 use Rattle.grid_range.specs.declared.change.Change.TheVariants.{Insert}
 use Rattle.merge_ranges.specs.Tests.{tears_merge}
+use Rattle.world_model.specs.declared.limits.TheConstants.{MOST_ROWS}
 use Rattle.world_model.specs.Book.{PlaceBook}
 use Rattle.world_model.specs.BookChange.{AreChanges, BookChange}
 use Rattle.world_model.specs.ChangingLaws.{ChangesApart, ChangesInTurn, UpdatesAreChanges}
@@ -83,6 +84,17 @@ module _ (writes : WritesOnce) (apart : ChangesApart) (turns : ChangesInTurn) (u
   pub append_cells_once : IsOne (IsAppendCells user sheet rows book)
   append_cells_once = on_found_once (place_sheet_with sheet book.sheets)
 
+-- ---- no rows are appended
+
+pub none_appended : (user : List ℕ) (sheet : ℕ) (rows : Block) (book : PlaceBook) (found : PlaceSheet)
+    → Some found ≡ place_sheet_with sheet book.sheets → rows_needed rows ≡ 0
+    → IsAppendCells user sheet rows book (Ok (reply.Empty, []))
+none_appended user sheet rows book found is none =
+    let told : Result (Reply × List BookChange) Rule = Ok (reply.Empty, []) in
+    subst (λ (one : Option PlaceSheet). MatchOption one (told ≡ Err rule.NoSheet)
+    (λ found. UnlessNone (rows_needed rows == 0) (AreRowsAppended user sheet rows book found) told)) is
+    (subst (λ n. UnlessNone (n == 0) (AreRowsAppended user sheet rows book found) told) (sym none) refl)
+
 -- ---- rows that are added
 
 abbrev wrong : Rule → Result (Unit {0}) Rule
@@ -137,7 +149,7 @@ module _ (sheet count : ℕ) (before : PlaceBook) (found : PlaceSheet)
   abbrev is_cut : PlaceSheet → Bool
   is_cut own = list_any (tears_merge Rows (lines_of_sheet Rows own) (Insert found.table.rows count)) own.merges
 
-  pub many_refused : 1000000 < count → AreRowsAdded sheet count found before before (Err (rule.PastLimit limit.Rows))
+  pub many_refused : MOST_ROWS < count → AreRowsAdded sheet count found before before (Err (rule.PastLimit limit.Rows))
   many_refused many =
       let rows = found.table.rows in
       let places = places_changed sheet Rows (Insert rows count) before.sheets in
@@ -155,7 +167,7 @@ module _ (sheet count : ℕ) (before : PlaceBook) (found : PlaceSheet)
       ∙ ap (λ past. first_broken (record unbroken {
         past_limit = cond past (Some limit.Rows) (behind_rows places);
         merge_cut = is_cut found;
-      })) (lt-ltb 1000000 (rows + count) (omega (arith, many)))
+      })) (lt-ltb MOST_ROWS (rows + count) (omega (arith, many)))
 
   size_added : (after : Option PlaceSheet) → option_map size_of after
       ≡ option_map (size_changed sheet Rows (Insert found.table.rows count)) (Some found)

@@ -1,5 +1,5 @@
--- addProtectedRange (Google Sheets API v4 reference, AddProtectedRangeRequest): a protected range is added and is replied
--- as its user is shown it, who is put at the end of its editors where he would be kept off. No cell is touched.
+-- addProtectedRange (Google Sheets API v4 reference, AddProtectedRangeRequest): a protected range is added and is
+-- replied as its user is shown it, who is put at the end of its editors where he would be kept off. No cell is touched.
 use Rattle.std.specs.Prelude.{◌≡◌, ◌+◌, ◌||◌, ℕ, List, [], ◌∷◌, length, Option, None, Some, Result, Ok, Err}
 use Rattle.std.specs.Option.{is_none}
 use Rattle.cell_value.specs.Ids.{IsLeastUnused, IsNewId, is_taken}
@@ -35,8 +35,8 @@ put_among user book protection = (
   BookChange.ProtectionsSet (with_one_more protection book.protections) ∷ [],
 )
 
--- what is told where that is the first broken rule, or else of the protected range, whose id is the one that is given or
--- the least from 1 on that none has
+-- what is told where that is the first broken rule, or else of the protected range, whose id is the one that is given
+-- or the least from 1 on that none has
 abbrev pub IsProtectionAdded : List ℕ → Option ℕ → ProtectionPatch → PlaceBook → Option Rule
     → Result (Reply × List BookChange) Rule → Type 0
 IsProtectionAdded user id patch book (Some broken) told = told ≡ Err broken

@@ -4,7 +4,7 @@
 use Rattle.std.specs.Prelude.{◌≡◌, ◌+◌, ℕ, List, [], ◌∷◌, length, unwrap_or, Result, Ok}
 use Rattle.cell_value.specs.Ids.{IsLeastUnused, IsNewId, is_taken}
 use Rattle.dev_metadata.specs.Listed.{has_id, with_one_more}
-use Rattle.dev_metadata.specs.SightKind.{sight_given}
+use Rattle.dev_metadata.specs.VisibilityKind.{visibility_given}
 use Rattle.dev_metadata.specs.declared.types.Item.{Item}
 use Rattle.world_model.specs.Book.{PlaceBook}
 use Rattle.world_model.specs.BookChange.{BookChange}
@@ -30,12 +30,12 @@ item_made project asked id = record {
   key = asked.metadata_key;
   value = unwrap_or asked.metadata_value [];
   spot = spot_of asked.location;
-  sight = sight_given project asked.visibility;
+  visibility = visibility_given project asked.visibility;
 }
 
 -- it stands behind the others
 abbrev pub with_item : Item → List Item → List Item
-with_item item items = with_one_more item.id item.key item.value item.spot item.sight items
+with_item item items = with_one_more item.id item.key item.value item.spot item.visibility items
 
 -- and it is replied
 abbrev pub item_put : PlaceBook → Item → Reply × List BookChange

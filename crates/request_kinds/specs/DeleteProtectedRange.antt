@@ -1,5 +1,5 @@
--- deleteProtectedRange (Google Sheets API v4 reference, DeleteProtectedRangeRequest): the protected range with the id is
--- deleted. Only an editor of it or the owner may do it, and everybody where it is a warning. No cell is touched.
+-- deleteProtectedRange (Google Sheets API v4 reference, DeleteProtectedRangeRequest): the protected range with the id
+-- is deleted. Only an editor of it or the owner may do it, and everybody where it is a warning. No cell is touched.
 use Rattle.std.specs.Prelude.{ℕ, List, [], ◌∷◌, Result}
 use Rattle.std.specs.Option.{is_none}
 use Rattle.protection.specs.Listed.{with_id, without_id}

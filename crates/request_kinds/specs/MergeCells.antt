@@ -1,7 +1,7 @@
 -- mergeCells (Google Sheets API v4 reference, MergeCellsRequest and MergeType): all cells of an area become one, or
 -- those of each of its columns or of its rows. The merges that the area holds whole are dissolved first, and only the
--- upper-left cell of those that become one keeps its content. Every cell of the area is touched. That the area is cut at
--- the grid, and how many merges there can be, is this project's profile.
+-- upper-left cell of those that become one keeps its content. Every cell of the area is touched. That the area is cut
+-- at the grid, and how many merges there can be, is this project's profile.
 use Rattle.std.specs.Prelude.{ℕ, ◌+◌, ◌∷◌, nat_lt, List, [], length, filter}
 use Rattle.std.specs.Prelude.{Option, None, Some, IsSomeAnd, Result, if◌then◌else◌}
 use Rattle.std.specs.Option.{option_map_or}
@@ -42,8 +42,8 @@ rectangle_on sheet area =
 
 -- ---- the merges
 
--- the parts of the area each of which becomes one merge: all of it, or each of its columns or of its rows; a part of one
--- cell becomes none
+-- the parts of the area each of which becomes one merge: all of it, or each of its columns or of its rows; a part of
+-- one cell becomes none
 abbrev pub parts_of : MergeType → Area → List Area
 parts_of merge.All area = filter has_many_cells (area ∷ [])
 parts_of merge.Columns area = lines_of axis.Columns area

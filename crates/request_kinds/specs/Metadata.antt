@@ -75,7 +75,7 @@ lookup_of asked = record {
   id = asked.metadata_id;
   key = asked.metadata_key;
   value = asked.metadata_value;
-  sight = asked.visibility;
+  visibility = asked.visibility;
 }
 
 abbrev pub lookups_of : List MetadataLookup → List Lookup

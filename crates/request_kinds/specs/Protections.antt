@@ -1,5 +1,5 @@
--- What requests for protected ranges have in common (Google Sheets API v4 reference, ProtectedRange). That areas are cut
--- at the grid, and how many protected ranges there can be, is this project's profile.
+-- What requests for protected ranges have in common (Google Sheets API v4 reference, ProtectedRange). That areas are
+-- cut at the grid, and how many protected ranges there can be, is this project's profile.
 use Rattle.std.specs.Prelude.{ℕ, false, ◌++◌, nat_lt, List, [], ◌∷◌, map, unwrap_or}
 use Rattle.std.specs.List.{list_any}
 use Rattle.std.specs.Option.{option_map, option_map_or}

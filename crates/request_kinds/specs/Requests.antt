@@ -1,6 +1,6 @@
 -- A request of a user, and of the project under which he sees metadata (Google Sheets API v4 reference,
--- spreadsheets.batchUpdate, Request and Response). Each kind of request says its reply, what it changes, the rules that it
--- breaks and the cells that it touches in a file of its own.
+-- spreadsheets.batchUpdate, Request and Response). Each kind of request says its reply, what it changes, the rules that
+-- it breaks and the cells that it touches in a file of its own.
 use Rattle.std.specs.Prelude.{◌≡◌, ℕ, false, List, unwrap_or, Result}
 use Rattle.world_model.specs.Book.{PlaceBook}
 use Rattle.world_model.specs.BookChange.{BookChange}

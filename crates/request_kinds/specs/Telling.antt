@@ -1,5 +1,5 @@
--- What is told of what is done to a spreadsheet, and the changes that it makes; of a request its reply and these, or the
--- first rule that it breaks.
+-- What is told of what is done to a spreadsheet, and the changes that it makes; of a request its reply and these, or
+-- the first rule that it breaks.
 use Rattle.std.specs.Prelude.{◌≡◌, ℕ, List, [], ◌∷◌, Option, None, Some, Result, Ok, Err}
 use Rattle.world_model.specs.Book.{PlaceBook}
 use Rattle.world_model.specs.BookChange.{AreChanges, BookChange}

@@ -1,7 +1,7 @@
--- The cells that a request touches: it is refused where a protected range denies its user one of them. Each kind of request
--- says which they are in its own file. Lines that are inserted, sheets that are added, named ranges, protected ranges,
--- filters and metadata touch none. Rows that are appended may touch cells of new lines, so that which they touch is said
--- of the spreadsheet that has these lines, where they are appended.
+-- The cells that a request touches: it is refused where a protected range denies its user one of them. Each kind of
+-- request says which they are in its own file. Lines that are inserted, sheets that are added, named ranges, protected
+-- ranges, filters and metadata touch none. Rows that are appended may touch cells of new lines, so that which they
+-- touch is said of the spreadsheet that has these lines, where they are appended.
 use Rattle.std.specs.Prelude.{List}
 use Rattle.protection.specs.Denial.{Cells}
 use Rattle.world_model.specs.Sheet.{PlaceSheet}

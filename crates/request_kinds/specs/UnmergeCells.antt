@@ -1,5 +1,5 @@
--- unmergeCells (Google Sheets API v4 reference, UnmergeCellsRequest): the merges in an area are dissolved. Every cell of
--- the area is touched. That the area is cut at the grid is this project's profile.
+-- unmergeCells (Google Sheets API v4 reference, UnmergeCellsRequest): the merges in an area are dissolved. Every cell
+-- of the area is touched. That the area is cut at the grid is this project's profile.
 use Rattle.std.specs.Prelude.{List, [], None, IsSomeAnd, Result}
 use Rattle.grid_range.specs.declared.area.Area.{Area}
 use Rattle.merge_ranges.specs.Calls.{IsLeft}

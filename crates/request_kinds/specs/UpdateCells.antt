@@ -1,6 +1,6 @@
 -- updateCells (Google Sheets API v4 reference, UpdateCellsRequest): rows are written from a cell on as far as they
--- reach, or to a range, whose cells that they don't reach are emptied. The cells that are written or emptied are touched;
--- one that a merge covers is passed over where the rows reach it.
+-- reach, or to a range, whose cells that they don't reach are emptied. The cells that are written or emptied are
+-- touched; one that a merge covers is passed over where the rows reach it.
 use Rattle.std.specs.Prelude.{true, false, List, [], Result}
 use Rattle.cell_value.specs.declared.cell.Block.{Block}
 use Rattle.grid_range.specs.declared.area.Area.{Area}

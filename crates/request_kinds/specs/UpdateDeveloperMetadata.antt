@@ -26,7 +26,7 @@ patch_of asked = record {
   key = asked.metadata_key;
   value = asked.metadata_value;
   spot = option_map spot_of asked.location;
-  sight = asked.visibility;
+  visibility = asked.visibility;
 }
 
 -- the locations of the look-ups, and the one that is given

@@ -1,6 +1,6 @@
--- updateProtectedRange (Google Sheets API v4 reference, UpdateProtectedRangeRequest): the members of a protected range are
--- set that the mask takes. Its user is put at the end of its editors where he would be kept off. Only an editor or the
--- owner may do it, and everybody where it is a warning. No cell is touched.
+-- updateProtectedRange (Google Sheets API v4 reference, UpdateProtectedRangeRequest): the members of a protected range
+-- are set that the mask takes. Its user is put at the end of its editors where he would be kept off. Only an editor or
+-- the owner may do it, and everybody where it is a warning. No cell is touched.
 use Rattle.std.specs.Prelude.{ℕ, Bool, false, not, List, [], ◌∷◌, Option, Result}
 use Rattle.std.specs.Option.{is_none, option_map_or}
 use Rattle.protection.specs.Editors.{may_edit}

@@ -12,10 +12,7 @@ use grid_range::{Area, Axis, Band};
 use sheets_json::Reply;
 use std::alloc::Global;
 use values_api::{put_values, row_behind, rows_needed, write_denial};
-use world_model::{changes_in_turn, updates_are_changes};
-
-/// How many rows a sheet can have.
-const MOST_ROWS: usize = 1_000_000;
+use world_model::{MOST_ROWS, changes_in_turn, updates_are_changes};
 
 /// Writes rows behind the last row of the sheet that holds a cell, once those that are missing there are added.
 pub(crate) fn append_cells(
@@ -88,7 +85,7 @@ fn add_rows(book: &mut Book, sheet: u32, count: usize) -> Result<(), RuleOr>
     if count == 0 {
         return Ok(());
     }
-    if count > MOST_ROWS {
+    if count > MOST_ROWS as usize {
         return Err(RuleOr::Rule(Rule::PastLimit(Limit::Rows)));
     }
     match append_lines(book, sheet, Axis::Rows, count as u32) {

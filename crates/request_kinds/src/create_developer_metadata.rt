@@ -1,7 +1,6 @@
 ghost use Rattle.std.specs.Prelude.{◌≡◌, ◌<◌, ◌+◌, [], None, length, nat_lt, IfOk, unwrap_or};
 ghost use Rattle.cell_value.specs.Ids.{IsLeastUnused, IsNewId, is_taken};
 ghost use Rattle.dev_metadata.specs.Listed.{has_id};
-ghost use Rattle.dev_metadata.specs.SightKind.{sight_given};
 ghost use Rattle.dimension_ops.specs.Broken.{first_broken};
 ghost use Rattle.dimension_ops.specs.MetadataRequests.{MetadataBecomes};
 ghost use Rattle.dimension_ops.specs.Rules.{IsUnlessNoMemory};
@@ -12,7 +11,7 @@ ghost use Rattle.request_kinds.specs.Metadata.{most_metadata, spot_of};
 
 use crate::metadata::{broken_by_locations, spot_of};
 use cell_value::{Duplicate, NoMemory, Text};
-use dev_metadata::{Item, Sight, SightKind};
+use dev_metadata::Item;
 use dimension_ops::{Book, Limit, Rule, RuleOr};
 use json_requests::NewMetadata;
 use sheets_json::Reply;
@@ -91,9 +90,9 @@ fn created(
 {
     let key = asked.metadata_key.duplicate()?;
     let value = value_of(alloc, asked)?;
-    let sight = sight_given(alloc, project, asked.visibility)?;
+    let visibility = asked.visibility.under(alloc, project)?;
     let spot = spot_of(&asked.location);
-    match book.create_item(asked.metadata_id, key, value, spot, sight) {
+    match book.create_item(asked.metadata_id, key, value, spot, visibility) {
         Ok(id) => Ok(id),
         Err(_) => Err(NoMemory),
     }
@@ -108,7 +107,7 @@ fn item_of(alloc: Global, project: &str, asked: &NewMetadata, id: u32) -> Result
         key: asked.metadata_key.duplicate()?,
         value: value_of(alloc, asked)?,
         spot: spot_of(&asked.location),
-        sight: sight_given(alloc, project, asked.visibility)?,
+        visibility: asked.visibility.under(alloc, project)?,
     })
 }
 
@@ -119,15 +118,5 @@ fn value_of(alloc: Global, asked: &NewMetadata) -> Result<Text, NoMemory>
     match &asked.metadata_value {
         Some(value) => value.duplicate(),
         None => Ok(Text::of(String::new(alloc))),
-    }
-}
-
-/// Under which projects an item of the project is seen.
-fn sight_given(alloc: Global, project: &str, word: SightKind) -> Result<Sight, NoMemory>
-    ensures { IfOk result (λ sight. sight ≡ sight_given project.now word) }
-{
-    match word {
-        SightKind::Document => Ok(Sight::Document),
-        SightKind::Project => Ok(Sight::Project(Text::of(String::from_str(alloc, project)?))),
     }
 }

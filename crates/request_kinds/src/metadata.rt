@@ -140,7 +140,7 @@ pub fn lookup_of(asked: &MetadataLookup) -> Result<Lookup, NoMemory>
         id: asked.metadata_id,
         key: given_text(&asked.metadata_key)?,
         value: given_text(&asked.metadata_value)?,
-        sight: asked.visibility,
+        visibility: asked.visibility,
     })
 }
 

@@ -65,6 +65,6 @@ fn patch_of(asked: &MetadataPatch) -> Result<ItemPatch, NoMemory>
         key: given_text(&asked.metadata_key)?,
         value: given_text(&asked.metadata_value)?,
         spot: given_spot(&asked.location),
-        sight: asked.visibility,
+        visibility: asked.visibility,
     })
 }

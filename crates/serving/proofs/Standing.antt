@@ -8,8 +8,7 @@ use Rattle.std.proofs.lemmas.Bool.{cases_lt}
 use mathlib.Core.Logic.{dite}
 use native.Mathlib.Decide.{ℕ_discrete}
 use Rattle.std.proofs.lemmas.List.{append-nil}
-use Rattle.cell_value.specs.FaultCount.{last_count, Rose}
-use Rattle.sheets_http.specs.Outside.{StaysSteady}
+use Rattle.cell_value.specs.FaultCount.{last_count, Rose, StaysSteady}
 use Rattle.std.proofs.lemmas.List.Elements.{All-nil, All-cons, All-head, All-tail, All-weaker, All-contains, Contains-append_left, Contains-append_right}
 use Rattle.history_lock.specs.History.{StartsWith, NoneOf, AreSilent}
 use Rattle.history_lock.specs.declared.view.Drawing.TheVariants.{Alone}

@@ -18,6 +18,7 @@ use Rattle.desk.specs.Desks.{IsPass, pair_at, list_at, callers_at}
 use Rattle.desk.specs.Histories.{AreAccepted}
 use Rattle.desk.specs.Steps.{Outcome}
 use Rattle.conversation.specs.declared.ended.Ended.TheVariants as how
+use Rattle.sheets_http.specs.declared.next.TheConstants.{LONGEST_TALK}
 use Rattle.conversation.specs.Conversation.{at_moment, IsConversation, EndsAs, Counts, LosesFirst}
 use Rattle.connections.specs.Calls.{UserTable}
 use Rattle.connections.specs.Doors.{LinkSeen, IsFresh, Ending, Connection, Shown, after_accept}
@@ -25,10 +26,6 @@ use Rattle.serving.specs.declared.accepting.Served.{Served}
 use Rattle.serving.specs.declared.accepting.Served.TheVariants as served
 
 -- ---- one connection
-
--- how many bytes of a connection are served
-abbrev pub longest_talk : ℕ
-longest_talk = 1099511627776
 
 -- a connection as it was accepted: who calls the desk for it, the list that this caller had seen then, and what its
 -- link told
@@ -52,10 +49,10 @@ AnswersAt E K W A = Desk E K W A → UserTable → ℕ → List Noted → Wire �
 -- that it had seen after; it ended as their talk does, or was cut off.
 pub record IsVisit {E K W A : Type 0} (answers : AnswersAt E K W A) (desk : Desk E K W A) (users : UserTable)
     (arrival : Arrival) (after : List Noted) (ending : Ending) : Type 0 where
-  pub served : IsConversation (answers desk users arrival.caller) longest_talk arrival.link.left
+  pub served : IsConversation (answers desk users arrival.caller) LONGEST_TALK arrival.link.left
       (at_moment arrival.before arrival.link.written arrival.link.shortages)
       (at_moment after ending.link.written ending.link.shortages) ending.ended
-  pub ends : IfSome arrival.link.left (λ bytes. EndsAs longest_talk bytes ending.ended)
+  pub ends : IfSome arrival.link.left (λ bytes. EndsAs LONGEST_TALK bytes ending.ended)
   pub left : LosesFirst arrival.link.left ending.link.left
   pub grows : StartsWith after arrival.before
   pub read : ending.ended ≡ how.ReadFault → Rose arrival.link.read_faults ending.link.read_faults
@@ -165,10 +162,10 @@ HasVisitor number count visits item =
     Contains (map visitor visits) (caller_of item) ⊎ ((caller_of item < count) × (caller_of item ≢ number))
 
 -- What serving many connections came to, by the pass that was given. The history is the entries of the list that the
--- desk told when it was closed, each accepted behind those before it. What is kept is its journal, or that of it and one
--- entry more, which has a mark behind the last; the keeper's count of faults is that of the list's last mark. Each item
--- since the opening is from one of the desk's callers. Where the pass alone drew numbers, each that it had not seen is
--- from the caller of a connection, or from one that had a number before.
+-- desk told when it was closed, each accepted behind those before it. What is kept is its journal, or that of it and
+-- one entry more, which has a mark behind the last; the keeper's count of faults is that of the list's last mark. Each
+-- item since the opening is from one of the desk's callers. Where the pass alone drew numbers, each that it had not
+-- seen is from the caller of a connection, or from one that had a number before.
 pub record AreServed {E K W A : Type 0} (plain : List Entry → Ask → Outcome → Type 0) (answers : AnswersAt E K W A)
     (desk : Desk E K W A) (users : UserTable) (pass : Pass Noted) (limit : ℕ) (end : Served)
     (shown shown' : Option Shown) (entries : List Entry) (failures : ℕ) (kept : Option (List ℕ)) : Type 0 where

@@ -1,7 +1,6 @@
 ghost use Rattle.std.specs.Prelude.{◌≡◌, ◌+◌, ◌<◌, ◌≤◌, [], length, IfOk, IfErr, IfSome, IsTrue};
 ghost use Rattle.std.specs.Option.{option_map};
-ghost use Rattle.cell_value.specs.FaultCount.{last_count, Rose};
-ghost use Rattle.sheets_http.specs.Outside.{StaysSteady};
+ghost use Rattle.cell_value.specs.FaultCount.{last_count, Rose, StaysSteady};
 ghost use Rattle.history_lock.specs.Passes.{count_of, drawing_of, met_by};
 ghost use Rattle.desk.specs.Desks.{IsPass};
 ghost use Rattle.connections.specs.Calls.{IsAnswer};
@@ -13,7 +12,7 @@ use cell_value::Failed;
 use connections::{Doors, converse};
 use conversation::Ended;
 use desk::{Desk, Engine, History, Keeper, Pass};
-use sheets_http::Users;
+use sheets_http::{LONGEST_TALK, Users};
 use std::alloc::Global;
 use std::marker::Model;
 use std::snapshot::Snapshot;
@@ -21,9 +20,6 @@ use std::sync::atomic::{AtomicU64, Ordering};
 use std::sync::{Arc, Wait};
 use std::thread;
 use std::thread::{Promise, PromisedHandle, Scope, Threads};
-
-/// The most bytes of a connection that are served.
-pub const LONGEST_TALK: u64 = 1_099_511_627_776;
 
 /// How the accepting of connections ended.
 #[derive(Clone, Copy, Debug, PartialEq, Eq)]

@@ -5,4 +5,4 @@
 
 mod accepting;
 
-pub use accepting::{LONGEST_TALK, Served, serve_all, steady_doors};
+pub use accepting::{Served, serve_all, steady_doors};

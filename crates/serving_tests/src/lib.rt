@@ -1,5 +1,5 @@
-//! The tests of many connections: links in memory whose reads wait for what another link was answered; and what the tests
-//! of the program have in common.
+//! The tests of many connections: links in memory whose reads wait for what another link was answered; and what the
+//! tests of the program have in common.
 #![tactic(auto)]
 
 mod links;

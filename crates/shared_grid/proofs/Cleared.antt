@@ -19,8 +19,9 @@ use Rattle.grid_range.specs.declared.axis.Axis.TheVariants.{Rows, Columns}
 use Rattle.shared_map.specs.Map.{AreKeysWithin}
 use Rattle.shared_grid.specs.Orders.{LineOrder}
 use Rattle.shared_grid.specs.Orders.{number_of}
-use Rattle.shared_grid.specs.Cells.{numbers, key_of, line_in, across_in, HasMarks, HasFewer, AreKeysOnRow, AreMarksOnColumn, IsCleared}
+use Rattle.shared_grid.specs.Cells.{numbers, key_of, line_in, across_in, HasItems, HasMarks, HasFewer, AreKeysOnRow, AreMarksOnColumn, IsCleared}
 use Rattle.shared_grid.specs.Sheets.{AreCleared, AreOnAxis, deleted}
+use Rattle.shared_grid.proofs.Keys.{all_pass}
 use Rattle.shared_grid.proofs.Numbers.{same_key, key_itself, line-key, across-key}
 
 -- the keys of a row
@@ -69,6 +70,20 @@ marks_on_column items marks are column first last keys held fits first_is last_i
             subst (λ (xs : List ℕ). Contains xs mark) (sym is) (Contains-filter there keys mark has found.1)),
       );
     }
+
+-- each of them, where there are no other marks
+pub all_marks_on_column : {T M : Type 0} (items : map.FinMap nat_cmp T) (marks : map.FinMap nat_cmp M) → HasMarks items marks
+    → HasItems items marks → (column first last : ℕ) (keys : List ℕ) → column < numbers
+    → first ≡ key_of column 0 → last ≡ key_of column 4294967295 → AreKeysWithin first last marks keys
+    → AreMarksOnColumn column items keys
+all_marks_on_column items marks are have column first last keys fits first_is last_is within =
+    marks_on_column items marks are column first last keys keys fits first_is last_is within
+    (all_pass (λ mark. is_some (map.get items (key_of (across_in mark) column))) keys (λ mark has.
+    let found = (within.exactly mark).0 has in
+    let low = found.0 in
+    let high = found.1 in
+    let same : mark ≡ key_of column (across_in mark) = omega (arith, first_is, last_is, low, high) in
+    have.each (across_in mark) column (omega arith) fits (subst (λ (k : ℕ). IsSome (map.get marks k)) same found.2)))
 
 -- keys that differ do so by the test
 differ : (one other : ℕ) → one ≢ other → eq_by_cmp nat_cmp one other ≡ false

@@ -1,4 +1,6 @@
 pub mod Numbers
+pub mod Keys
+pub mod Exact
 pub mod Continued
 pub mod Turned
 pub mod Changed

@@ -8,6 +8,7 @@ use Rattle.std.specs.List.Sorted.{IsStrictlySortedBy}
 use Rattle.std.specs.FinMap as fin
 use Rattle.std.proofs.lemmas.Bool.{cases_lt}
 use Rattle.std.proofs.lemmas.List.{append-nil}
+use Rattle.std.proofs.lemmas.Simd.{map-map}
 use Rattle.std.proofs.lemmas.List.Elements.{Contains-append_left, Contains-append_right, Contains-append_cases, Contains-push_cases}
 use Rattle.std.proofs.lemmas.Map.Keys.{IsDistinct-head, IsDistinct-tail, IsDistinct-cons, below_from_sorted}
 use Rattle.cell_value.specs.Elements.{Contains-head, Contains-cons, nothing_in, IsDistinct-none, Contains-filter_map, Contains-filter_map_from}
@@ -19,13 +20,15 @@ use Rattle.grid_range.specs.Band.{HasLine, first_line, end_line}
 use Rattle.cell_store.specs.Table.{Table, item_at, HasItemsInside}
 use Rattle.cell_store.specs.Places.{AreFilledPlaces}
 use Rattle.cell_store.specs.Laws.{TablesByItems}
+use Rattle.shared_map.specs.Found.{halves_of}
 use Rattle.shared_map.specs.Map.{AreKeysWithin}
 use Rattle.shared_grid.specs.Orders.{LineOrder}
-use Rattle.shared_grid.specs.Orders.{number_of, place_noted}
+use Rattle.shared_grid.specs.Orders.{number_of, place_noted, IsPlain}
 use Rattle.shared_grid.specs.Cells.{numbers, key_of, line_in, across_in, AreKeysOnRow, AreMarksOnColumn}
 use Rattle.cell_store.specs.Kept.{KeptTable}
-use Rattle.shared_grid.specs.Sheets.{key_at, place_in, numbered_table, IsOnLines, IsSheet, AreOnColumns, AreOnRows}
+use Rattle.shared_grid.specs.Sheets.{key_at, place_in, place_of, numbered_table, AreNumbered, IsOnLines, IsSheet, AreOnColumns, AreOnRows}
 use Rattle.shared_grid.proofs.Numbers.{same_place, line-key, across-key, noted-line, small, place-key, place-line}
+use Rattle.shared_grid.proofs.Keys.{map_alike}
 use Rattle.shared_grid.proofs.Views.{item-view, inside-view}
 
 -- places that aren't one differ by the test
@@ -138,6 +141,14 @@ module _ {X : Type 0} (laws : TablesByItems X) (rows columns : LineOrder) (items
         is.columns_are.each.within line.column (omega (arith, line.there.1, is.columns_are.count)),
         is.columns_are.long,
       )
+
+  -- where each line has its place as its number, the halves of a key are its place
+  pub row_halves : IsPlain rows → IsPlain columns → map halves_of keys ≡ map place keys
+  row_halves plain_rows plain_columns = map_alike halves_of place keys (λ key has.
+      let line : line_in key ≡ row = ((listed.exactly key).0 has).0 ∙ number_is
+      ∙ plain_rows.numbers row (omega (arith, row_there, is.rows_are.count)) in
+      let across : place_noted columns (across_in key) ≡ across_in key = plain_columns.places (across_in key) (column_there key has) in
+      λ i. (line i, sym across i))
 
   pub row_more : (first : ℕ) (before after : List (ℕ × ℕ)) → after ≡ before ++ map place keys
       → AreOnRows first row sheet.table before → AreOnRows first (row + 1) sheet.table after
@@ -347,6 +358,19 @@ module _ {X : Type 0} (laws : TablesByItems X) (rows columns : LineOrder) (items
         is.columns_are.each.within line.column (omega (arith, line.there.1, is.columns_are.count)),
         is.columns_are.long,
       )
+
+  -- the halves of the keys, and the places of these
+  pub halves_numbered : AreNumbered rows columns (map halves_of keys)
+  halves_numbered = record {
+    each = λ pair has.
+        let found = from_map halves_of keys pair has in
+        let low : line_in found.0 < length rows.places = rows_noted found.0 found.1 in
+        let across : across_in found.0 < length columns.places = columns_noted found.0 found.1 in
+        subst (λ (p : ℕ × ℕ). (p.0 < length rows.places) × (p.1 < length columns.places)) found.2 (low, across);
+  }
+
+  pub halves_placed : map (place_of rows columns) (map halves_of keys) ≡ map (place_in rows columns) keys
+  halves_placed = map-map (place_of rows columns) halves_of keys
 
   pub all_rows : AreOnRows 0 rows.count sheet.table (map (place_in rows columns) keys)
   all_rows = record {

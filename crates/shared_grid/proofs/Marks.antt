@@ -45,7 +45,7 @@ module _ {X : Type 0} (held : map.FinMap nat_cmp X) (at : ℕ) where
         | false ↦ λ _ held. held
       ] refl (subst IsSome (map.get-insert nat_cmp_total held at item key) some)
 
-  taken_before : (key : ℕ) → IsSome (map.get (map.remove held at) key) → (key ≢ at) × IsSome (map.get held key)
+  pub taken_before : (key : ℕ) → IsSome (map.get (map.remove held at) key) → (key ≢ at) × IsSome (map.get held key)
   taken_before key some =
       elim (eq_by_cmp nat_cmp key at) as (λ b. eq_by_cmp nat_cmp key at ≡ b → IsSome (cond b None (map.get held key))
       → (key ≢ at) × IsSome (map.get held key)) [
@@ -56,7 +56,7 @@ module _ {X : Type 0} (held : map.FinMap nat_cmp X) (at : ℕ) where
         )
       ] refl (subst IsSome (map.get-remove nat_cmp_total held at key) some)
 
-  taken_other : (key : ℕ) → key ≢ at → IsSome (map.get held key) → IsSome (map.get (map.remove held at) key)
+  pub taken_other : (key : ℕ) → key ≢ at → IsSome (map.get held key) → IsSome (map.get (map.remove held at) key)
   taken_other key other some = subst IsSome (sym (map.get-remove nat_cmp_total held at key))
       (elim (eq_by_cmp nat_cmp key at) as (λ b. eq_by_cmp nat_cmp key at ≡ b → IsSome (cond b None (map.get held key))) [
         | true ↦ λ same. absurd (other (same_key key at same))
@@ -64,7 +64,7 @@ module _ {X : Type 0} (held : map.FinMap nat_cmp X) (at : ℕ) where
       ] refl)
 
 -- two keys are one where the turned ones are
-turned : (row column row' column' : ℕ) → row < numbers → column < numbers → row' < numbers → column' < numbers
+pub turned : (row column row' column' : ℕ) → row < numbers → column < numbers → row' < numbers → column' < numbers
     → key_of row' column' ≡ key_of row column → key_of column' row' ≡ key_of column row
 turned row column row' column' a b a' b' same =
     let rows : row' ≡ row = sym (line-key row' column' b') ∙ ap line_in same ∙ line-key row column b in

@@ -27,6 +27,11 @@ pub record HasMarks {T M : Type 0} (items : map.FinMap nat_cmp T) (marks : map.F
   pub each : (row column : ℕ) → row < numbers → column < numbers → IsSome (map.get items (key_of row column))
       → IsSome (map.get marks (key_of column row))
 
+-- each mark by its column and row is that of an item
+pub record HasItems {T M : Type 0} (items : map.FinMap nat_cmp T) (marks : map.FinMap nat_cmp M) : Type 0 where
+  pub each : (row column : ℕ) → row < numbers → column < numbers → IsSome (map.get marks (key_of column row))
+      → IsSome (map.get items (key_of row column))
+
 -- these are the keys of the items on the row with that number, in order
 pub record AreKeysOnRow {T : Type 0} (row : ℕ) (items : map.FinMap nat_cmp T) (keys : List ℕ) : Type 0 where
   pub in_order : IsStrictlySortedBy nat_cmp keys

@@ -38,6 +38,11 @@ number_of order line = slice_index order.numbers line
 abbrev pub place_noted : LineOrder → ℕ → ℕ
 place_noted order number = slice_index order.places number
 
+-- each number is its line, and its own place
+pub record IsPlain (order : LineOrder) : Type 0 where
+  pub numbers : (line : ℕ) → line < length order.numbers → number_of order line ≡ line
+  pub places : (number : ℕ) → number < length order.places → place_noted order number ≡ number
+
 -- each number below their length stands once
 pub record AreNumbers (numbers : List ℕ) : Type 0 where
   pub within : (index : ℕ) → index < length numbers → slice_index numbers index < length numbers

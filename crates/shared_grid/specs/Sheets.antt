@@ -18,6 +18,14 @@ use Rattle.cell_store.specs.Kept.{KeptTable}
 abbrev pub place_in : LineOrder → LineOrder → ℕ → ℕ × ℕ
 place_in rows columns key = (place_noted rows (line_in key), place_noted columns (across_in key))
 
+-- the place of the lines with these numbers
+abbrev pub place_of : LineOrder → LineOrder → ℕ × ℕ → ℕ × ℕ
+place_of rows columns pair = (place_noted rows pair.0, place_noted columns pair.1)
+
+-- the pairs have the numbers of rows and of columns
+pub record AreNumbered (rows columns : LineOrder) (pairs : List (ℕ × ℕ)) : Type 0 where
+  pub each : (pair : ℕ × ℕ) → Contains pairs pair → (pair.0 < length rows.places) × (pair.1 < length columns.places)
+
 -- the key of the place at a row and a column
 abbrev pub key_at : LineOrder → LineOrder → ℕ → ℕ → ℕ
 key_at rows columns row column = key_of (number_of rows row) (number_of columns column)

@@ -1,17 +1,17 @@
-ghost use Rattle.std.specs.Prelude.{◌≡◌, ◌+◌, ◌-◌, ◌*◌, ◌≤◌, ◌∷◌, ◌++◌, [], if◌then◌else◌, Some, IfOk, OnOk, OnErr, IfErr};
+ghost use Rattle.std.specs.Prelude.{◌≡◌, ◌+◌, ◌-◌, ◌*◌, ◌≤◌, ◌∷◌, ◌++◌, [], if◌then◌else◌, Some, IsTrue, IfOk, OnOk, OnErr, IfErr};
 ghost use Rattle.std.specs.Option.{option_copied, IsSome};
 ghost use Rattle.std.specs.Borrow.{sem, LendsSoOk};
 ghost use Rattle.std.specs.FinMap as map;
 ghost use Rattle.grid_range.specs.declared.axis.Axis.TheVariants.{Rows, Columns};
-ghost use Rattle.shared_grid.specs.Cells.{across_in, key_of, line_in, AreKeysOnRow, AreMarksOnColumn, IsCleared};
-ghost use Rattle.shared_map.specs.Map.{AreKeysWithin};
+ghost use Rattle.shared_grid.specs.Cells.{across_in, key_of, line_in, AreKeysOnRow, AreMarksOnColumn, HasItems, HasMarks, IsCleared};
+ghost use Rattle.shared_map.specs.Map.{AreKeysWithin, AreListed};
+ghost use Rattle.shared_map.specs.Found.{halves_of};
 ghost use Rattle.shared_grid.specs.Orders.{IsOrder};
 ghost use Rattle.shared_grid.specs.Sheets.{AreCleared};
 ghost use Rattle.shared_grid.specs.contracts.cells.Cells.{the_row};
 
-use crate::counting::Steps;
 use crate::order::Order;
-use cell_value::{Duplicate, Items, NoMemory};
+use cell_value::{Duplicate, NoMemory, Steps};
 use grid_range::Axis;
 use shared_map::SharedMap;
 use std::alloc::Global;
@@ -137,15 +137,17 @@ impl<T: Duplicate + Drop> Cells<T> {
         Ok(item)
     }
 
-    /// The keys of all items, in order.
+    /// The keys of all items in order, each as the numbers of its row and its column.
     ///
     /// # Errors
     ///
     /// [`NoMemory`] where memory runs out.
-    pub(crate) fn keys(&self) -> Result<Items<u64>, NoMemory>
-        ensures { IfOk result (AreKeysWithin 0 18446744073709551615 self.now) }
+    pub(crate) fn keys(&self, alloc: Global) -> Result<Vec<(u32, u32)>, NoMemory>
+        ensures { IfOk result (λ keys.
+            AreListed halves_of (AreKeysWithin 0 18446744073709551615 self.now) [] keys.items) }
     {
-        self.items.keys(0, u64::MAX)
+        let none = Vec::with_capacity(alloc, self.count() as usize)?;
+        self.items.keys_behind(0, u64::MAX, none)
     }
 
     /// The keys of the items on the row, in order.
@@ -153,27 +155,51 @@ impl<T: Duplicate + Drop> Cells<T> {
     /// # Errors
     ///
     /// [`NoMemory`] where memory runs out.
-    pub(crate) fn on_row(&self, row: u32) -> Result<Items<u64>, NoMemory>
-        ensures { IfOk result (AreKeysOnRow row self.now) }
+    pub(crate) fn on_row(&self, row: u32) -> Result<Vec<u64>, NoMemory>
+        ensures { IfOk result (λ keys. AreKeysOnRow row self.now keys.items) }
     {
         self.items.keys(key(row, 0), key(row, u32::MAX))
     }
 
-    /// The marks of the items on the column, in order.
+    /// The keys of the items on the row behind others, each as the numbers of its row and its column.
     ///
     /// # Errors
     ///
     /// [`NoMemory`] where memory runs out.
-    pub(crate) fn on_column(&self, alloc: Global, column: u32) -> Result<Items<u64>, NoMemory>
-        ensures { IfOk result (AreMarksOnColumn column self.now) }
+    pub(crate) fn row_behind(
+        &self,
+        row: u32,
+        others: Vec<(u32, u32)>,
+    ) -> Result<Vec<(u32, u32)>, NoMemory>
+        ensures { IfOk result (λ keys. AreListed halves_of (AreKeysOnRow row self.now) others.items keys.items) }
+    {
+        self.items
+            .keys_behind(key(row, 0), key(row, u32::MAX), others)
+    }
+
+    /// The marks of the items on the column, in order. Where there is no other mark, no item is looked up.
+    ///
+    /// # Errors
+    ///
+    /// [`NoMemory`] where memory runs out.
+    pub(crate) fn on_column(&self, alloc: Global, column: u32) -> Result<Vec<u64>, NoMemory>
+        ensures { IfOk result (λ marks. AreMarksOnColumn column self.now marks.items) }
     {
         let marks = self.marks.keys(key(column, 0), key(column, u32::MAX))?;
+        if has_items(&self.items, &self.marks) {
+            return Ok(marks);
+        }
         let mut held = Vec::new(alloc);
         for mark in marks.as_slice() {
             let item = self.get(across(*mark), column);
             push_if(&mut held, *mark, item.is_some())?;
         }
-        Ok(Items::of(held))
+        Ok(held)
+    }
+
+    /// Whether no mark is left without an item, so that a column is listed without a look-up.
+    pub(crate) fn has_exact_marks(&self) -> bool {
+        has_items(&self.items, &self.marks)
     }
 
     /// The items without those on the lines from `first` to `end - 1`, with two steps for each of these,
@@ -285,7 +311,7 @@ impl<T: Duplicate + Drop> Cells<T> {
         ensures steps { OnOk result (steps.new + 2 * map.len self.new ≡ steps.old + 2 * map.len self.old + 1) }
     {
         steps.tick();
-        let marks = self.marks.keys(key(column, 0), key(column, u32::MAX))?;
+        let marks: Vec<u64> = self.marks.keys(key(column, 0), key(column, u32::MAX))?;
         for mark in marks.as_slice() {
             self.drop_item(across(*mark), column, steps)?;
         }
@@ -326,6 +352,14 @@ impl<T: Duplicate + Drop> Cells<T> {
     }
 }
 
+/// Whether there is an item for each of the marks: there are as many.
+fn has_items<T: Duplicate + Drop>(items: &SharedMap<T>, marks: &SharedMap<Mark>) -> bool
+    requires { HasMarks items.now marks.now }
+    ensures { IsTrue result → HasItems items.now marks.now }
+{
+    marks.count() == items.count()
+}
+
 /// Puts the mark behind the others, where its item is there.
 fn push_if(marks: &mut Vec<u64>, mark: u64, held: bool) -> Result<(), NoMemory>
     ensures { OnOk result (marks.new.items ≡ marks.old.items ++ (if held then mark ∷ [] else [])) }
@@ -342,13 +376,6 @@ fn key(line: u32, across: u32) -> u64
     ensures { result ≡ key_of line across }
 {
     u64::from(line) * 4_294_967_296 + u64::from(across)
-}
-
-/// The number of the line, in the key of a place.
-pub(crate) fn line(key: u64) -> u32
-    ensures { result ≡ line_in key }
-{
-    (key / 4_294_967_296) as u32
 }
 
 /// The number of the line across, in the key of a place.

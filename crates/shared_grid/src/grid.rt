@@ -10,17 +10,16 @@ ghost use Rattle.cell_store.specs.Places.{AreFilledPlaces};
 ghost use Rattle.grid_range.specs.Band.{end_line, first_line};
 ghost use Rattle.grid_range.specs.Change.{Fits, count_after};
 ghost use Rattle.grid_range.specs.declared.axis.Axis.TheVariants.{Rows, Columns};
-ghost use Rattle.shared_grid.specs.Cells.{across_in, line_in};
+ghost use Rattle.shared_grid.specs.Cells.{across_in};
 ghost use Rattle.shared_grid.specs.Orders.{AreMoved, IsOrder, number_of, place_noted};
-ghost use Rattle.shared_grid.specs.Sheets.{AreCleared, AreOnAxis, AreOnColumns, AreOnRows, deleted, place_in};
+ghost use Rattle.shared_grid.specs.Sheets.{AreCleared, AreNumbered, AreOnAxis, AreOnColumns, AreOnRows, deleted, place_of};
 ghost use Rattle.shared_grid.specs.contracts.grid.SharedGrid.{the_row};
 
-use crate::cells::{Cells, across, line};
-use crate::counting::Steps;
+use crate::cells::{Cells, across};
 use crate::held::Held;
 use crate::order::Order;
 use cell_store::{CellStore, held_by_rows, tables_by_items};
-use cell_value::{Duplicate, Items, NoMemory};
+use cell_value::{Duplicate, Items, NoMemory, Steps};
 use grid_range::{Area, Axis, Band, Change, places_stay_below};
 use std::alloc::Global;
 use std::marker::{Brand, Model};
@@ -216,22 +215,30 @@ impl<T: Duplicate + Drop> SharedGrid<T> {
         requires { (first ≤ end) × (end ≤ self.now.table.rows) }
         ensures { IfOk result (λ places. AreOnRows first end self.now.table places.items) }
     {
-        let mut places = Vec::new(self.alloc);
+        let mut places = Vec::with_capacity(self.alloc, self.cells.count().min(64) as usize)?;
         for row in first..end {
-            self.put_row(row, &mut places)?;
+            places = self.with_row(row, places)?;
         }
         Ok(places)
     }
 
-    /// Puts the filled places of the row behind those of the rows before it.
-    fn put_row(&self, row: u32, places: &mut Vec<(u32, u32)>) -> Result<(), NoMemory>
+    /// The filled places of the row behind those of the rows before it. Where each line has its place as its
+    /// number, they are listed as they are.
+    fn with_row(&self, row: u32, before: Vec<(u32, u32)>) -> Result<Vec<(u32, u32)>, NoMemory>
         requires { row < self.now.table.rows }
-        ensures { OnOk result ((first : ℕ) → AreOnRows first row self.now.table places.old.items
-            → AreOnRows first (row + 1) self.now.table places.new.items) }
+        ensures { IfOk result (λ places. (first : ℕ) → AreOnRows first row self.now.table before.items
+            → AreOnRows first (row + 1) self.now.table places.items) }
     {
         tables_by_items::<T>();
-        let keys = self.cells.on_row(number(&self.rows, row))?;
-        put_places(row, self.columns.value(), keys.as_slice(), places)
+        let number = number(&self.rows, row);
+        let columns = self.columns.value();
+        if self.rows.value().is_plain() && columns.is_plain() {
+            return self.cells.row_behind(number, before);
+        }
+        let keys = self.cells.on_row(number)?;
+        let mut places = before;
+        put_places(row, columns, keys.as_slice(), &mut places)?;
+        Ok(places)
     }
 
     /// The filled places of the columns from `first` to `end - 1`.
@@ -274,10 +281,10 @@ impl<T: Duplicate + Drop> SharedGrid<T> {
         ensures { IfOk result (AreFilledPlaces area.now self.now.table) }
     {
         tables_by_items::<T>();
-        let keys = self.cells.keys()?;
+        let keys = self.cells.keys(self.alloc)?;
         let rows = self.rows.value();
         let columns = self.columns.value();
-        let places = places_of(self.alloc, rows, columns, keys.as_slice())?;
+        let places = placed(self.alloc, rows, columns, keys)?;
         Ok(held_by_rows(places, area))
     }
 
@@ -289,6 +296,22 @@ impl<T: Duplicate + Drop> SharedGrid<T> {
         let (first, end) = ends(area.cols, count(&self.columns));
         let places = self.places_on_columns(first, end)?;
         Ok(held_by_rows(places, area))
+    }
+
+    /// Whether a walk of the area's columns takes less time than one of its rows, where the sheet is full. To
+    /// look an item up, or to put one of several columns in its place by rows, takes that of sixteen that are
+    /// listed.
+    fn is_narrow(&self, area: &Area) -> bool {
+        let (rows, columns) = (count(&self.rows), count(&self.columns));
+        let walked = lines_in(area.cols, columns);
+        let item: u64 = if walked == 1 && self.cells.has_exact_marks() {
+            1
+        } else {
+            16
+        };
+        let by_rows = u64::from(lines_in(area.rows, rows)).saturating_mul(u64::from(columns) + 16);
+        let by_columns = u64::from(walked).saturating_mul(u64::from(rows));
+        by_columns.saturating_mul(item) <= by_rows
     }
 }
 
@@ -378,17 +401,18 @@ impl<T: Duplicate + Drop> CellStore<T> for SharedGrid<T> {
     }
 
     /// The filled places of the area, by rows. Only the rows of the area are visited, or only its columns,
-    /// or all items where these are no more than its rows, whichever is estimated to take less time. Its
-    /// sheet isn't looked at.
+    /// or all items where these are no more than its rows or it has all rows, whichever is estimated to take
+    /// less time. Its sheet isn't looked at.
     ///
     /// # Errors
     ///
     /// [`NoMemory`] where memory runs out.
     fn places(&self, area: &Area) -> Result<Items<(u32, u32)>, NoMemory> {
         let rows = count(&self.rows);
-        if is_narrow(area, rows, count(&self.columns)) {
+        let walked = lines_in(area.rows, rows);
+        if self.is_narrow(area) {
             self.places_by_columns(area)
-        } else if self.cells.count() <= rows_of(area, rows) {
+        } else if walked == rows || self.cells.count() <= u64::from(walked) {
             self.places_of_all(area)
         } else {
             self.places_by_rows(area)
@@ -444,20 +468,10 @@ fn ends(band: Band, count: u32) -> (u32, u32)
     (band.first_line().min(end), end)
 }
 
-/// Whether a walk of the area's columns in a full sheet of that size takes less time than one of its
-/// rows: to look an item up takes that of sixteen that are listed.
-fn is_narrow(area: &Area, rows: u32, columns: u32) -> bool {
-    let (top, bottom) = ends(area.rows, rows);
-    let (left, right) = ends(area.cols, columns);
-    let by_rows = u64::from(bottom - top).saturating_mul(u64::from(columns) + 16);
-    let by_columns = u64::from(right - left).saturating_mul(u64::from(rows));
-    by_columns.saturating_mul(16) <= by_rows
-}
-
-/// How many of so many rows are the area's.
-fn rows_of(area: &Area, rows: u32) -> u64 {
-    let (top, bottom) = ends(area.rows, rows);
-    u64::from(bottom - top)
+/// How many of so many lines are the band's.
+fn lines_in(band: Band, count: u32) -> u32 {
+    let (first, end) = ends(band, count);
+    end - first
 }
 
 /// The lines after the change, with a step for each line before and one for each line after.
@@ -520,22 +534,35 @@ fn deleted(change: &Change) -> (u32, u32)
     }
 }
 
-/// The places of the keys, each of which is of a row's and a column's number.
+/// [`places_of`], which are the numbers themselves where each line has its place as its number.
+fn placed(
+    alloc: Global,
+    rows: &Order,
+    columns: &Order,
+    keys: Vec<(u32, u32)>,
+) -> Result<Vec<(u32, u32)>, NoMemory>
+    requires { AreNumbered rows.now columns.now keys.items }
+    ensures { IfOk result (λ places. places.items ≡ map (place_of rows.now columns.now) keys.items) }
+{
+    if rows.is_plain() && columns.is_plain() {
+        return Ok(keys);
+    }
+    places_of(alloc, rows, columns, keys.as_slice())
+}
+
+/// The places of the keys, each the numbers of a row and of a column.
 fn places_of(
     alloc: Global,
     rows: &Order,
     columns: &Order,
-    keys: &[u64],
+    keys: &[(u32, u32)],
 ) -> Result<Vec<(u32, u32)>, NoMemory>
-    requires rows { (key : ℕ) → Contains keys.now key → line_in key < length rows.now.places }
-    requires columns { (key : ℕ) → Contains keys.now key → across_in key < length columns.now.places }
-    ensures { IfOk result (λ places. places.items ≡ map (place_in rows.now columns.now) keys.now) }
+    requires { AreNumbered rows.now columns.now keys.now }
+    ensures { IfOk result (λ places. places.items ≡ map (place_of rows.now columns.now) keys.now) }
 {
-    let mut places = Vec::new(alloc);
+    let mut places = Vec::with_capacity(alloc, keys.len())?;
     for key in keys {
-        let row = rows.place(line(*key));
-        let column = columns.place(across(*key));
-        places.push((row, column))?;
+        places.push((rows.place(key.0), columns.place(key.1)))?;
     }
     Ok(places)
 }

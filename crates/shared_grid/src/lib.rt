@@ -2,11 +2,9 @@
 #![tactic(auto)]
 
 mod cells;
-mod counting;
 mod grid;
 mod held;
 mod order;
 
 pub use cells::Mark;
-pub use counting::Steps;
 pub use grid::SharedGrid;

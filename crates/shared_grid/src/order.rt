@@ -1,13 +1,12 @@
-ghost use Rattle.std.specs.Prelude.{◌≡◌, ℕ, ◌+◌, ◌<◌, ◌≤◌, length, max, slice_index, slice_set, IfOk};
+ghost use Rattle.std.specs.Prelude.{◌≡◌, ℕ, ◌+◌, ◌<◌, ◌≤◌, length, max, slice_index, slice_set, IsTrue, IfOk};
 ghost use Rattle.grid_range.specs.Change.{Fits, count_after};
 ghost use Rattle.cell_store.specs.Table.{most_lines};
-ghost use Rattle.shared_grid.specs.Orders.{AreMoved, AreNumbers, IsOrder};
+ghost use Rattle.shared_grid.specs.Orders.{AreMoved, AreNumbers, IsOrder, IsPlain};
 ghost use Rattle.shared_grid.specs.Orders.{entry, number_of, parts_of, place_noted};
 
-use crate::counting::Steps;
 use crate::held::Held;
 use cell_store::turn;
-use cell_value::NoMemory;
+use cell_value::{NoMemory, Steps};
 use grid_range::{Change, places_stay_apart, places_stay_below};
 use std::alloc::Global;
 use std::marker::Model;
@@ -198,6 +197,13 @@ impl Order {
         ensures { result ≡ number_of self.now line }
     {
         entry(&self.lists.value().numbers, line)
+    }
+
+    /// Whether each line has its place as its number, as long as none came, went or moved but at the end.
+    pub(crate) fn is_plain(&self) -> bool
+        ensures { IsTrue result → IsPlain self.now }
+    {
+        self.lists.value().numbers.is_empty()
     }
 
     /// The place of the line with the number.

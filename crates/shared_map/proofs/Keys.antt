@@ -1,18 +1,18 @@
 -- The keys that are found below an end: over parts, and in order.
 use native.Mathlib.Omega.{arith}
-use Rattle.std.proofs.Common.{◌≡◌, ℕ, zero, suc, ◌+◌, ◌-◌, ◌*◌, ◌/◌, ◌%◌, ◌<◌, ◌≤◌, ◌⊎◌, inl, inr, true, false, List, [], ◌∷◌, ◌++◌, refl, sym, ap, ◌∙◌, append_assoc}
+use Rattle.std.proofs.Common.{◌≡◌, ℕ, zero, suc, ◌+◌, ◌-◌, ◌*◌, ◌/◌, ◌%◌, ◌<◌, ◌≤◌, ◌⊎◌, inl, inr, true, false, List, [], ◌∷◌, ◌++◌, map, refl, sym, ap, ◌∙◌, append_assoc}
 use Rattle.std.proofs.Math.Nat.{add-zero, add-suc, add_assoc, suc-mul, le-div_iff_mul-le}
 use Rattle.std.proofs.lemmas.Nat.{div-mul-add, mod-mul-add}
 use Rattle.std.proofs.Math.Bool.{and-false}
-use Rattle.std.proofs.lemmas.Bool.{lt-leb, le-leb}
+use Rattle.std.proofs.lemmas.Bool.{lt-leb, le-leb, lt-ltb, le-ltb}
 use Rattle.std.proofs.lemmas.Bool.Decides.{nat_tests}
-use Rattle.std.proofs.lemmas.List.{append-nil}
+use Rattle.std.proofs.lemmas.List.{append-nil, map-append}
 use Rattle.std.proofs.Math.ListN.{get_or-eq_default}
-use Rattle.std.specs.Prelude.{Option, Some, None, is_some, nat_le, min, length}
+use Rattle.std.specs.Prelude.{Option, Some, None, is_some, cond, nat_le, min, length}
 use Rattle.std.specs.Borrow.{Bor}
 use Rattle.std.specs.Option.{option_copied}
 use Rattle.shared_map.specs.Found.{keys_found}
-use Rattle.shared_map.specs.Places.{place_at, in_part, in_parts}
+use Rattle.shared_map.specs.Places.{place_at, in_part, in_parts, in_headed}
 
 first_after : (first start count : ℕ) → nat_le first (start + count) ≡ nat_le (first - start) count
 first_after first start count = grind (arith, nat_tests)
@@ -31,6 +31,14 @@ module _ {T : Type 0} where
   keys_found-none find base first zero none = refl
   keys_found-none find base first (suc key) none =
       rw (none key (omega arith), and-false (nat_le first key), keys_found-none find base first key (λ k lt. none k (omega arith))) refl
+
+  -- where the same is found there are the same keys
+  pub keys_found-same : (find part : ℕ → Option T) (base first end : ℕ) → ((key : ℕ) → key < end → find key ≡ part key)
+      → keys_found find base first end ≡ keys_found part base first end
+  unfolding keys_found
+  keys_found-same find part base first zero same = refl
+  keys_found-same find part base first (suc key) same =
+      rw (same key (omega arith), keys_found-same find part base first key (λ k lt. same k (omega arith))) refl
 
   -- the keys of a part that begins at `start` stand behind those before it
   pub keys_found-part : (find part : ℕ → Option T) (base first start count : ℕ)
@@ -122,6 +130,38 @@ module _ {P T : Type 0} (find : P → ℕ → Option T) (span : ℕ) (parts : Li
       ∙ ap (λ end. keys_found (in_parts find span parts) base first end
       ++ keys_found (in_part find (place_at parts index)) (base + index * span) (first - index * span) (min (last - index * span) (span - 1) + 1)) (sym (from_start (index * span) last le))
 
+-- what is found where the first keys stand in a part of their own
+module _ {H R T : Type 0} (find_head : H → ℕ → Option T) (find_rest : R → ℕ → Option T) (span : ℕ) (head : H) (rest : R) where
+  in_head : (key : ℕ) → key < span → in_headed find_head find_rest span head rest key ≡ find_head head key
+  in_head key lt = ap (λ b. cond b (find_head head key) (find_rest rest (key - span))) (lt-ltb key span lt)
+
+  in_rest : (key : ℕ) → in_headed find_head find_rest span head rest (span + key) ≡ find_rest rest key
+  in_rest key =
+      ap (λ b. cond b (find_head head (span + key)) (find_rest rest (span + key - span))) (le-ltb (span + key) span (omega arith))
+      ∙ ap (find_rest rest) (let e : span + key - span ≡ key = omega arith in e)
+
+  module _ (base first last : ℕ) where
+    pub head_listed : last < span
+        → keys_found (in_headed find_head find_rest span head rest) base first (last + 1)
+        ≡ keys_found (find_head head) base first (min (last + 1) span)
+    head_listed lt =
+        keys_found-same (in_headed find_head find_rest span head rest) (find_head head) base first (last + 1)
+        (λ key less. in_head key (omega arith))
+        ∙ ap (keys_found (find_head head) base first) (let e : last + 1 ≡ min (last + 1) span = omega arith in e)
+
+    pub both_listed : span ≤ last
+        → keys_found (in_headed find_head find_rest span head rest) base first (last + 1)
+        ≡ keys_found (find_head head) base first (min (last + 1) span)
+        ++ keys_found (find_rest rest) (base + span) (first - span) (last - span + 1)
+    both_listed le =
+        ap (keys_found (in_headed find_head find_rest span head rest) base first)
+        (let e : last + 1 ≡ span + (last - span + 1) = omega arith in e)
+        ∙ keys_found-part (in_headed find_head find_rest span head rest) (find_rest rest) base first span (last - span + 1)
+        (λ key lt. in_rest key)
+        ∙ ap (λ keys. keys ++ keys_found (find_rest rest) (base + span) (first - span) (last - span + 1))
+        (keys_found-same (in_headed find_head find_rest span head rest) (find_head head) base first span in_head
+        ∙ ap (keys_found (find_head head) base first) (let e : span ≡ min (last + 1) span = omega arith in e))
+
 pub is_some-copied : {T : Type 0} (item : Option (Bor T)) → is_some (option_copied item) ≡ is_some item
 is_some-copied None = refl
 is_some-copied (Some item) = refl
@@ -133,13 +173,15 @@ reaches : (last reached : ℕ) → reached < last + 1 → min (last + 1) reached
 reaches last reached lt = omega arith
 
 -- the keys so far, and those at one more, in the list that they are put behind
-pub listed_more : (before keys more found after keys_after : List ℕ) → found ≡ before ++ keys → after ≡ found ++ more → keys_after ≡ keys ++ more
-    → after ≡ before ++ keys_after
-listed_more before keys more found after keys_after have put are =
-    put ∙ ap (λ list. list ++ more) have ∙ append_assoc before keys more ∙ ap (λ list. before ++ list) (sym are)
+pub listed_more : {K : Type 0} (listed : ℕ → K) (before : List K) (keys more : List ℕ) (found after : List K) (keys_after : List ℕ)
+    → found ≡ before ++ map listed keys → after ≡ found ++ map listed more → keys_after ≡ keys ++ more
+    → after ≡ before ++ map listed keys_after
+listed_more listed before keys more found after keys_after have put are =
+    put ∙ ap (λ list. list ++ map listed more) have ∙ append_assoc before (map listed keys) (map listed more)
+    ∙ ap (λ list. before ++ list) (sym (map-append listed keys more) ∙ ap (map listed) (sym are))
 
-pub listed_none : (before keys : List ℕ) → keys ≡ [] → before ≡ before ++ keys
-listed_none before keys none = sym (ap (λ list. before ++ list) none ∙ append-nil before)
+pub listed_none : {K : Type 0} (listed : ℕ → K) (before : List K) (keys : List ℕ) → keys ≡ [] → before ≡ before ++ map listed keys
+listed_none listed before keys none = sym (ap (λ list. before ++ map listed list) none ∙ append-nil before)
 
 module _ {T : Type 0} (find : ℕ → Option T) (base first last reached : ℕ) where
   -- where the last key is reached, or nothing is found from there on, all keys are listed
@@ -171,6 +213,15 @@ module _ {T : Type 0} (find : ℕ → Option T) (base first last reached : ℕ) 
       ap (keys_found find base first) (one_listed reached lt) ∙ keys_found-past find base first reached none
       ∙ ap (keys_found find base first) (sym (reaches last reached lt))
 
--- what is put behind nothing
-pub behind_nothing : (before after keys : List ℕ) → before ≡ [] → after ≡ before ++ keys → after ≡ keys
-behind_nothing before after keys none put = put ∙ ap (λ list. list ++ keys) none
+-- the keys of a head are listed where it has some from the first on, and where not
+pub head_put : {K T : Type 0} (listed : ℕ → K) (find : ℕ → Option T) (base first last span : ℕ) (before after : List K)
+    → ((first < span) × (after ≡ before ++ map listed (keys_found find base first (min last (span - 1) + 1))))
+    ⊎ ((span ≤ first) × (after ≡ before))
+    → after ≡ before ++ map listed (keys_found find base first (min (last + 1) span))
+head_put listed find base first last span before after (inl put) =
+    let lt : first < span = put.0 in
+    put.1 ∙ ap (λ (end : ℕ). before ++ map listed (keys_found find base first end))
+    (let e : min last (span - 1) + 1 ≡ min (last + 1) span = omega arith in e)
+head_put listed find base first last span before after (inr none) =
+    let le : span ≤ first = none.0 in
+    none.1 ∙ listed_none listed before _ (keys_found-before find base first (min (last + 1) span) (omega arith))

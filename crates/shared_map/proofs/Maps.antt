@@ -68,6 +68,13 @@ module _ {T : Type 0} where
   unfolding map_of
   get_past find key le = map.get-from_entries nat_cmp_total (entries_below find (2 ^ 64)) key ∙ none_from find (2 ^ 64) key le
 
+  -- a key that holds an item is of 64 bits
+  pub key_fits : (find : ℕ → Option T) (key : ℕ) → is_some (map.get (map_of find) key) ≡ true → key < 2 ^ 64
+  key_fits find key some = elim (below_or key (2 ^ 64)) [
+    | inl lt ↦ lt
+    | inr le ↦ absurd (false≢true (sym (ap is_some (get_past find key le)) ∙ some))
+  ]
+
   get_same : (old new : ℕ → Option T) (key : ℕ) → new key ≡ old key → map.get (map_of new) key ≡ map.get (map_of old) key
   get_same old new key same = elim (below_or key (2 ^ 64)) [
     | inl lt ↦ get-map_of new key lt ∙ same ∙ sym (get-map_of old key lt)

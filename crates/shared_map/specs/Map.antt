@@ -1,5 +1,6 @@
 -- The finite map that is found by a function from keys.
-use Rattle.std.specs.Prelude.{ℕ, zero, suc, ◌≤◌, ◌↔◌, ◌^◌, List, [], ◌∷◌, Option, Some, None, Contains}
+use Rattle.std.specs.Prelude.{ℕ, zero, suc, ◌≡◌, ◌≤◌, ◌++◌, ◌↔◌, ◌^◌, List, [], ◌∷◌, Option, Some, None, Contains}
+use Rattle.std.specs.Prelude.{map as list_map}
 use Rattle.std.specs.Option.{IsSome}
 use Rattle.std.specs.Ordering.{nat_cmp}
 use Rattle.std.specs.List.Sorted.{IsStrictlySortedBy}
@@ -23,3 +24,9 @@ map_of find = map.from_entries (entries_below find (2 ^ 64))
 pub record AreKeysWithin {T : Type 0} (first last : ℕ) (items : map.FinMap nat_cmp T) (keys : List ℕ) : Type 0 where
   pub in_order : IsStrictlySortedBy nat_cmp keys
   pub exactly : (key : ℕ) → Contains keys key ↔ ((first ≤ key) × (key ≤ last) × IsSome (map.get items key))
+
+-- such keys stand behind others, as they are listed
+pub record AreListed {K : Type 0} (listed : ℕ → K) (Are : List ℕ → Type 0) (before after : List K) : Type 0 where
+  pub keys : List ℕ
+  pub are : Are keys
+  pub is : after ≡ before ++ list_map listed keys

@@ -1,5 +1,5 @@
 -- What is found at a place of a list, and in parts that span so many keys each.
-use Rattle.std.specs.Prelude.{ℕ, ◌/◌, ◌%◌, List, Option, None, slice_index_or, cond, ◌==◌}
+use Rattle.std.specs.Prelude.{ℕ, ◌/◌, ◌%◌, List, Option, None, slice_index_or, cond, ◌==◌, ◌-◌, nat_lt}
 use Rattle.std.specs.Option.{option_and_then}
 
 -- what stands at the place; nothing behind the last
@@ -17,3 +17,7 @@ in_parts find span parts key = in_part find (place_at parts (key / span)) (key %
 -- the number, or 1 for 0
 abbrev pub positive : ℕ → ℕ
 positive n = cond (n == 0) 1 n
+
+-- what is found at the key where the first keys stand in a part of their own
+abbrev pub in_headed : {H R T : Type 0} → (H → ℕ → Option T) → (R → ℕ → Option T) → (span : ℕ) → H → R → ℕ → Option T
+in_headed find_head find_rest span head rest key = cond (nat_lt key span) (find_head head key) (find_rest rest (key - span))

@@ -1,9 +1,10 @@
-ghost use Rattle.std.specs.Prelude.{◌≡◌, ℕ, ◌+◌, ◌++◌, ◌<◌, ◌^◌, length, None, IsTrue, IfOk, OnOk, OnErr};
+ghost use Rattle.std.specs.Prelude.{◌≡◌, ℕ, ◌+◌, ◌++◌, ◌<◌, ◌^◌, length, map, None, IsTrue, IfOk, OnOk, OnErr};
 ghost use Rattle.std.specs.Option.{option_copied};
 ghost use Rattle.shared_map.specs.Finding.{FindsSame, Updates};
 ghost use Rattle.shared_map.specs.Found.{keys_found};
 ghost use Rattle.shared_map.specs.Places.{in_part, in_parts, place_at, positive};
 
+use crate::key::Key;
 use crate::part::Part;
 use crate::places::{reach, trim};
 use crate::shared::Shared;
@@ -38,17 +39,17 @@ impl<C: Part + Drop, const SPAN: u64> Branch<C, SPAN> {
     }
 
     /// [`Part::list`] of the part at the index, where there is one.
-    fn list_part(
+    fn list_part<K: Key>(
         &self,
         index: u64,
         base: u64,
         first: u64,
         last: u64,
-        found: &mut Vec<u64>,
+        found: &mut Vec<K>,
     ) -> Result<(), NoMemory>
         requires { base + last < 2 ^ 64 }
         ensures { OnOk result (found.new.items ≡ found.old.items
-            ++ keys_found (in_part C.at (place_at self.now.parts.items index)) base first (last + 1)) }
+            ++ map K.listed (keys_found (in_part C.at (place_at self.now.parts.items index)) base first (last + 1))) }
     {
         match self.part(index) {
             Some(part) => part.list(base, first, last, found),
@@ -170,7 +171,13 @@ impl<C: Part + Drop, const SPAN: u64> Part for Branch<C, SPAN> {
         })
     }
 
-    fn list(&self, base: u64, first: u64, last: u64, found: &mut Vec<u64>) -> Result<(), NoMemory> {
+    fn list<K: Key>(
+        &self,
+        base: u64,
+        first: u64,
+        last: u64,
+        found: &mut Vec<K>,
+    ) -> Result<(), NoMemory> {
         let span = span::<SPAN>();
         let count = self.parts.len() as u64;
         let top = last / span;

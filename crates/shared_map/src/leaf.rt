@@ -2,6 +2,7 @@ ghost use Rattle.std.specs.Prelude.{◌≡◌, None, IfOk, OnOk, OnErr};
 ghost use Rattle.shared_map.specs.Finding.{FindsSame, Updates};
 ghost use Rattle.shared_map.specs.Places.{place_at};
 
+use crate::key::Key;
 use crate::part::Part;
 use crate::places::{reach, trim};
 use cell_value::{Duplicate, NoMemory};
@@ -86,12 +87,18 @@ impl<T: Duplicate + Drop> Part for Leaf<T> {
         })
     }
 
-    fn list(&self, base: u64, first: u64, last: u64, found: &mut Vec<u64>) -> Result<(), NoMemory> {
+    fn list<K: Key>(
+        &self,
+        base: u64,
+        first: u64,
+        last: u64,
+        found: &mut Vec<K>,
+    ) -> Result<(), NoMemory> {
         let count = self.places.len() as u64;
         let end = if last < count { last + 1 } else { count };
         for key in first..end {
             if self.get(key).is_some() {
-                found.push(base + key)?;
+                found.push(K::of(base + key))?;
             }
         }
         Ok(())

@@ -3,10 +3,14 @@
 #![tactic(auto)]
 
 mod branch;
+mod headed;
+mod key;
 mod leaf;
+mod line;
 mod map;
 mod part;
 mod places;
 mod shared;
 
+pub use key::Key;
 pub use map::SharedMap;

@@ -1,31 +1,34 @@
-ghost use Rattle.std.specs.Prelude.{◌≡◌, Some, IfOk, OnOk, OnErr, IfErr};
+ghost use Rattle.std.specs.Prelude.{◌≡◌, ℕ, ◌<◌, ◌^◌, [], Some, IfOk, OnOk, OnErr, IfErr};
 ghost use Rattle.std.specs.Option.{option_copied, IsSome};
 ghost use Rattle.std.specs.FinMap as map;
-ghost use Rattle.shared_map.specs.Map.{AreKeysWithin};
+ghost use Rattle.shared_map.specs.Map.{AreKeysWithin, AreListed};
 ghost use Rattle.std.specs.Borrow.{sem, LendsSoOk};
 ghost use Rattle.shared_map.specs.contracts.map.SharedMap.{the_row};
 
 use crate::branch::Branch;
-use crate::leaf::Leaf;
+use crate::headed::Headed;
+use crate::key::Key;
+use crate::line::Line;
 use crate::shared::Shared;
-use cell_value::{Duplicate, Items, NoMemory};
+use cell_value::{Duplicate, NoMemory};
 use std::alloc::Global;
 use std::marker::Model;
 
-/// The keys of one number of a line, by digits of 6, 6, 6 and 14 bits from the last: 64 places a part,
-/// but for the first digit, whose part has as many places as are in use, at most 16,384.
-type Line<T> = Branch<Branch<Branch<Leaf<T>, 64>, 4_096>, 262_144>;
-
-/// All keys of 64 bits: of the upper 32 the same digits again.
-type Root<T> = Branch<
-    Branch<Branch<Branch<Line<T>, 4_294_967_296>, 274_877_906_944>, 17_592_186_044_416>,
-    1_125_899_906_842_624,
+/// All keys of 64 bits: of the upper 32 the digits of a line again. The way to the first 4,096 lines is two
+/// parts long.
+type Root<T> = Headed<
+    Branch<Branch<Line<T>, 4_294_967_296>, 274_877_906_944>,
+    Branch<
+        Branch<Branch<Branch<Line<T>, 4_294_967_296>, 274_877_906_944>, 17_592_186_044_416>,
+        1_125_899_906_842_624,
+    >,
+    17_592_186_044_416,
 >;
 
 /// A finite map from keys of 64 bits to items, of which any number of versions can be held: a copy
 /// copies no item, and a write to one version shows in no other.
 ///
-/// A call takes steps in proportion to the depth, which is eight, and to the places of the parts on the
+/// A call takes steps in proportion to the depth, which is eight at most, and to the places of the parts on the
 /// way; a write copies those that another version shares. A version that is dropped costs what it
 /// alone held.
 #[derive(Drop)]
@@ -68,9 +71,10 @@ impl<T: Duplicate + Drop> SharedMap<T> {
         })
     }
 
-    /// How many keys hold an item.
+    /// How many keys hold an item. Each is of 64 bits.
     pub fn count(&self) -> u64
-        ensures { result ≡ map.len self.now }
+        ensures is { result ≡ map.len self.now }
+        ensures keys { (key : ℕ) → IsSome (map.get self.now key) → key < 2 ^ 64 }
     {
         self.count
     }
@@ -158,16 +162,34 @@ impl<T: Duplicate + Drop> SharedMap<T> {
         })
     }
 
-    /// The keys from the first to the last that hold an item, in order.
+    /// The keys from the first to the last that hold an item, in order, as they are listed.
     ///
     /// # Errors
     ///
     /// [`NoMemory`] where memory runs out.
-    pub fn keys(&self, first: u64, last: u64) -> Result<Items<u64>, NoMemory>
-        ensures { IfOk result (AreKeysWithin first last self.now) }
+    pub fn keys<K: Key>(&self, first: u64, last: u64) -> Result<Vec<K>, NoMemory>
+        ensures { IfOk result (λ keys. AreListed K.listed (AreKeysWithin first last self.now) [] keys.items) }
     {
-        let mut found = Vec::new(self.alloc);
-        self.root.list(0, first, last, &mut found)?;
-        Ok(Items::of(found))
+        let none = Vec::with_capacity(self.alloc, self.count.min(64) as usize)?;
+        self.keys_behind(first, last, none)
+    }
+
+    /// The keys from the first to the last that hold an item behind others, in order, as they are listed.
+    ///
+    /// # Errors
+    ///
+    /// [`NoMemory`] where memory runs out.
+    pub fn keys_behind<K: Key>(
+        &self,
+        first: u64,
+        last: u64,
+        others: Vec<K>,
+    ) -> Result<Vec<K>, NoMemory>
+        ensures { IfOk result (λ keys.
+            AreListed K.listed (AreKeysWithin first last self.now) others.items keys.items) }
+    {
+        let mut keys = others;
+        self.root.list(0, first, last, &mut keys)?;
+        Ok(keys)
     }
 }

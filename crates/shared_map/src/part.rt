@@ -1,9 +1,10 @@
-ghost use Rattle.std.specs.Prelude.{◌≡◌, ℕ, ◌+◌, ◌++◌, ◌<◌, ◌^◌, Option, None, Some, IsTrue, IfOk, OnOk, OnErr, IfErr};
+ghost use Rattle.std.specs.Prelude.{◌≡◌, ℕ, ◌+◌, ◌++◌, ◌<◌, ◌^◌, Option, None, Some, map, IsTrue, IfOk, OnOk, OnErr, IfErr};
 ghost use Rattle.std.specs.Option.{option_copied, IsSome};
 ghost use Rattle.std.specs.Borrow.{sem, LendsSoOk};
 ghost use Rattle.shared_map.specs.Finding.{FindsSame, Updates};
 ghost use Rattle.shared_map.specs.Found.{keys_found};
 
+use crate::key::Key;
 use cell_value::{Duplicate, NoMemory};
 use std::alloc::Global;
 
@@ -79,7 +80,14 @@ pub trait Part {
     /// # Errors
     ///
     /// [`NoMemory`] where memory runs out.
-    fn list(&self, base: u64, first: u64, last: u64, found: &mut Vec<u64>) -> Result<(), NoMemory>
+    fn list<K: Key>(
+        &self,
+        base: u64,
+        first: u64,
+        last: u64,
+        found: &mut Vec<K>,
+    ) -> Result<(), NoMemory>
         requires { base + last < 2 ^ 64 }
-        ensures { OnOk result (found.new.items ≡ found.old.items ++ keys_found (at self.now) base first (last + 1)) };
+        ensures { OnOk result (found.new.items
+            ≡ found.old.items ++ map K.listed (keys_found (at self.now) base first (last + 1))) };
 }

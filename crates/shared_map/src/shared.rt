@@ -1,10 +1,11 @@
-ghost use Rattle.std.specs.Prelude.{◌≡◌, ℕ, ◌+◌, ◌++◌, ◌<◌, ◌^◌, Option, None, Some, IsTrue, IfOk, OnOk, OnErr, IfErr};
+ghost use Rattle.std.specs.Prelude.{◌≡◌, ℕ, ◌+◌, ◌++◌, ◌<◌, ◌^◌, Option, None, Some, map, IsTrue, IfOk, OnOk, OnErr, IfErr};
 ghost use Rattle.std.specs.Option.{option_copied, IsSome};
 ghost use Rattle.std.specs.Borrow.{sem, LendsSoOk};
 ghost use Rattle.shared_map.specs.Finding.{FindsSame, Updates};
 ghost use Rattle.shared_map.specs.Found.{keys_found};
 ghost use Rattle.shared_map.specs.contracts.shared.Shared.{the_row};
 
+use crate::key::Key;
 use crate::part::Part;
 use cell_value::NoMemory;
 use std::alloc::{AllocError, Global};
@@ -124,15 +125,16 @@ impl<C: Part + Drop> Shared<C> {
     }
 
     /// [`Part::list`].
-    pub fn list(
+    pub fn list<K: Key>(
         &self,
         base: u64,
         first: u64,
         last: u64,
-        found: &mut Vec<u64>,
+        found: &mut Vec<K>,
     ) -> Result<(), NoMemory>
         requires { base + last < 2 ^ 64 }
-        ensures { OnOk result (found.new.items ≡ found.old.items ++ keys_found (C.at self.now) base first (last + 1)) }
+        ensures { OnOk result (found.new.items
+            ≡ found.old.items ++ map K.listed (keys_found (C.at self.now) base first (last + 1))) }
     {
         self.shared.part.list(base, first, last, found)
     }

@@ -17,7 +17,7 @@ use Rattle.batch_engine.specs.Calls.{effect_of, effect_on, told_of}
 use Rattle.batch_engine.specs.Create.{IsCreateOf, makes_book, unless_broken}
 use Rattle.batch_engine.specs.Effects.{Effect, Becomes, IsNext}
 use Rattle.batch_engine.specs.Effects.Effect.{Nothing, Changes, Makes}
-use Rattle.batch_engine.specs.Members.{Told}
+use Rattle.batch_engine.specs.Members.{ToldOfAll}
 use Rattle.batch_engine.specs.Values.{rule_of}
 use Rattle.batch_engine.specs.declared.calls.Caller.{Caller}
 use Rattle.sheet_engine.specs.Answers.{Ends, as_fault, is_accepted, is_writing}
@@ -63,7 +63,7 @@ all_made : {M A : Type 0} (Is : PlaceBook → M → Result (A × List BookChange
     → AreMade Is members at answer_of book told effect → Writes told effect
 all_made {M} {A} Is members at answer_of book told effect is = go is.all is.told_is is.effect_is
   where
-    go : (all : Told A) → told ≡ answered_at at answer_of all → effect ≡ effect_of book all is.changes
+    go : (all : ToldOfAll A) → told ≡ answered_at at answer_of all → effect ≡ effect_of book all is.changes
         → Writes told effect
     go (Ok all) same made = writes told (Ok (answer_of all)) effect (Changes book.id is.changes) refl same made
     go (Err (number, broken)) same made = writes told (Err (at number, broken)) effect Nothing refl same made

@@ -6,3 +6,4 @@ pub mod Answering
 pub mod Once
 pub mod Quoting
 pub mod Dumping
+pub mod HasOutcome

@@ -2,3 +2,4 @@ pub mod Asks
 pub mod Answers
 pub mod Replay
 pub mod Dump
+pub mod Answered

@@ -5,9 +5,11 @@
 mod asking;
 mod dump;
 mod fault;
+mod laws;
 mod sheets;
 mod step;
 
 pub use asking::Reading;
 pub use fault::Fault;
+pub use laws::asks_answered;
 pub use sheets::Sheets;

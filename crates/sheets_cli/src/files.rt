@@ -95,8 +95,8 @@ fn load_fault(error: &Error, faults: &mut u64) -> LoadFault
     LoadFault::Failed
 }
 
-/// Opens a file to be read and written. With `make` one that is missing is made, and it is locked until it is closed: one
-/// that another open has locked isn't opened, since each would cut off what the other has added.
+/// Opens a file to be read and written. With `make` one that is missing is made, and it is locked until it is closed:
+/// one that another open has locked isn't opened, since each would cut off what the other has added.
 fn open_journal<R: Files<File = File>>(rt: &R, name: &str, make: bool) -> io::Result<File> {
     let file = OpenOptions::new()
         .read(true)

@@ -1,4 +1,5 @@
-//! The program: its words are a command, which is done over the devices that it is given; and the devices of the system.
+//! The program: its words are a command, which is done over the devices that it is given; and the devices of the
+//! system.
 #![tactic(auto)]
 
 mod files;

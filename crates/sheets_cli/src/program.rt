@@ -17,14 +17,14 @@ ghost use Rattle.sheets_cli.specs.Program.{IsAskedBy, NamesJournal, RanOut, Read
 
 use command_line::{Command, command_of};
 use commands::{
-    BAD_FILE, Finish, LONG_TALK, MOST, NO_MEMORY, READ_FAULT, TRUNCATED, UNAVAILABLE, USAGE,
-    WRITE_FAULT, Wanted, replay, run, say, serve, workload,
+    BAD_FILE, Finish, LONG_TALK, NO_MEMORY, READ_FAULT, TRUNCATED, UNAVAILABLE, USAGE, WRITE_FAULT,
+    Wanted, replay, run, say, serve, workload,
 };
 use connections::Doors;
 use conversation::Ended;
 use folder::Folder;
 use sheet_engine::Sheets;
-use sheets_http::{Sink, Source};
+use sheets_http::{LONGEST_TALK, Sink, Source};
 use std::sync::Wait;
 use std::thread::Threads;
 
@@ -32,11 +32,11 @@ use std::thread::Threads;
 /// where connections come in. It answers its status.
 ///
 /// `run` serves one conversation over input and output, at a desk that nobody else has; its history is empty at first.
-/// `serve` opens the doors on a port and serves so many connections at one desk, each by a thread of its own; behind the
-/// last one it writes what their history comes to. Its history begins with that of its journal, where the words name
-/// one, and each call that is accepted is in the journal before it is answered. A request comes from the user of its
-/// token in the file of users; where the words name none, from the user whom its token names. `replay` writes what the
-/// history of a journal comes to, and `workload` what a number of fixed calls comes to.
+/// `serve` opens the doors on a port and serves so many connections at one desk, each by a thread of its own; behind
+/// the last one it writes what their history comes to. Its history begins with that of its journal, where the words
+/// name one, and each call that is accepted is in the journal before it is answered. A request comes from the user of
+/// its token in the file of users; where the words name none, from the user whom its token names. `replay` writes what
+/// the history of a journal comes to, and `workload` what a number of fixed calls comes to.
 ///
 /// Where memory runs out before the words are read, no command is done, and the status is that of want of memory.
 ///
@@ -71,8 +71,8 @@ pub fn sheets_main<
     ensures refused { ReadsAsNone (map string_bytes words.now)
         → (output.new ≡ output.old) × (folder.new ≡ folder.old) }
 
-    // Only `run` reads the input, and only `serve` asks the doors. The folder is asked for what the words name alone, or
-    // for nothing, where memory ran out before they were read.
+    // Only `run` reads the input, and only `serve` asks the doors. The folder is asked for what the words name alone,
+    // or for nothing, where memory ran out before they were read.
     ensures untouched { ¬ (ReadsAsRun (map string_bytes words.now)) → input.new ≡ input.old }
     ensures unasked { ¬ (ReadsAsServe (map string_bytes words.now)) → doors.new ≡ doors.old }
     ensures asked { (command : Meaning) → ReadsAs command (map string_bytes words.now)
@@ -93,7 +93,7 @@ pub fn sheets_main<
     // Where the talk of the input ends so, that is the status, unless the file of users is bad, memory ran out, or a
     // device failed.
     ensures exactly { ReadsAsRun (map string_bytes words.now) → IfSome (I.left input.old)
-        (λ bytes. (requests : List Wire) → (end : End) → Talk MOST bytes requests end
+        (λ bytes. (requests : List Wire) → (end : End) → Talk LONGEST_TALK bytes requests end
         → (result ≡ status_at end) ⊎ ((result ≡ BAD_FILE) ⊎ ((result ≡ NO_MEMORY)
         ⊎ ((result ≡ READ_FAULT) ⊎ (result ≡ WRITE_FAULT))))) }
 
@@ -133,9 +133,9 @@ pub fn sheets_main<
         → Rose (F.failures folder.old) (F.failures folder.new) }
     ensures write { result ≡ WRITE_FAULT → Rose (O.sink_faults output.old) (O.sink_faults output.new) }
     ensures cut { result ≡ TRUNCATED → ReadsAsRun (map string_bytes words.now)
-        × IfSome (I.left input.old) (λ bytes. (count : ℕ) × HasEnd MOST bytes (truncated count)) }
+        × IfSome (I.left input.old) (λ bytes. (count : ℕ) × HasEnd LONGEST_TALK bytes (truncated count)) }
     ensures long { result ≡ LONG_TALK → ReadsAsRun (map string_bytes words.now)
-        × IfSome (I.left input.old) (λ bytes. HasEnd MOST bytes long_talk) }
+        × IfSome (I.left input.old) (λ bytes. HasEnd LONGEST_TALK bytes long_talk) }
     ensures unavailable { result ≡ UNAVAILABLE → Rose (F.keeper_failures folder.old) (F.keeper_failures folder.new) }
     ensures unopened { result ≡ UNAVAILABLE → NamesJournal (map string_bytes words.now) × (doors.new ≡ doors.old) }
     ensures steady_read { ReadsAsRun (map string_bytes words.now) → IsTrue (I.steady input.old)

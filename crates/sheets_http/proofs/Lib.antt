@@ -13,3 +13,4 @@ pub mod RouteLemmas
 pub mod QueryLemmas
 pub mod SplitLemmas
 pub mod OneCall
+pub mod HasRoute

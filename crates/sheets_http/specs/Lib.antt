@@ -13,6 +13,7 @@ pub mod Responses
 pub mod Table
 pub mod Queries
 pub mod Routes
+pub mod RouteLaws
 pub mod Routing
 pub mod Users
 pub mod Faults

@@ -1,16 +1,11 @@
 -- What the devices outside the program are to a contract: what they hold, where they tell it, and
 -- how often they have failed.
-use Rattle.std.specs.Prelude.{◌≡◌, ℕ, ◌<◌, Bool, true, List, [], ◌++◌, length, take, Option, None, Result, Ok, Err, IfSome, IsTrue}
+use Rattle.std.specs.Prelude.{◌≡◌, ℕ, ◌<◌, Bool, true, List, [], ◌++◌, length, take, Option, None, Result, Ok, Err, IfSome}
 use Rattle.std.specs.Option.{option_map}
 use Rattle.std.specs.Borrow.{GName}
 use Rattle.cell_value.specs.declared.failure.Failed.{Failed}
 use Rattle.sheets_http.specs.declared.outside.SinkFault.{SinkFault}
 use Rattle.sheets_http.specs.declared.outside.SinkFault.TheVariants as fault
-
--- a steady device stays steady, and its count doesn't rise
-abbrev pub StaysSteady : Bool → Bool → ℕ → ℕ → Type 0
-StaysSteady steady steady_after count count_after =
-    IsTrue steady → IsTrue steady_after × (count_after ≡ count)
 
 -- one side of a device that is read and written, which a call on the other side leaves as it is: its
 -- bytes where it tells them, its count of faults, how often a write found no memory, whether it is

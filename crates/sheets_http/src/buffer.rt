@@ -1,7 +1,6 @@
 ghost use Rattle.std.specs.Prelude.{◌≡◌, ◌≢◌, ℕ, ◌+◌, ◌-◌, ◌^◌, ◌<◌, ◌≤◌, List, [], ◌++◌, length, take, drop, slice_range, vec_len, IfOk, OnOk, OnErr, IfSome};
 ghost use Rattle.std.specs.Option.{option_map};
-ghost use Rattle.cell_value.specs.FaultCount.{Rose};
-ghost use Rattle.sheets_http.specs.Outside.{StaysSteady};
+ghost use Rattle.cell_value.specs.FaultCount.{Rose, StaysSteady};
 ghost use Rattle.sheets_http.specs.Requests.{stream_of};
 ghost use Rattle.sheets_http.specs.Buffering.{IsScanned};
 

@@ -1,7 +1,7 @@
 ghost use Rattle.std.specs.Prelude.{◌≡◌, ◌<◌, ◌≤◌, ◌↔◌, true, [], length, is_err, OnErr, IfOk};
 ghost use Rattle.cell_value.specs.Calls.{no_calls, fails_next, after_call};
-ghost use Rattle.cell_value.specs.FaultCount.{Rose};
-ghost use Rattle.sheets_http.specs.Outside.{StaysSteady, Gives, EndsThere, Takes};
+ghost use Rattle.cell_value.specs.FaultCount.{Rose, StaysSteady};
+ghost use Rattle.sheets_http.specs.Outside.{Gives, EndsThere, Takes};
 ghost use Rattle.sheets_http.specs.Memory.{given, taken};
 
 use crate::{Sink, SinkFault, Source, SteadySink, SteadySource};

@@ -1,5 +1,6 @@
 ghost use Rattle.sheets_http.specs.Laws.{HasOneNext, HasOneTalk, KeepsRequests, HasTalk, TakesBytes, HoldsRequests};
 ghost use Rattle.sheets_http.specs.Routes.{HasOneCall};
+ghost use Rattle.sheets_http.specs.RouteLaws.{HasRoute};
 
 /// The laws of a conversation, as its contract has them: one thing comes next in a stream, it has
 /// one list of requests and one end, a longer stream keeps the requests of a shorter one, the bytes
@@ -18,4 +19,10 @@ pub fn conversation_laws()
 /// when it runs.
 pub fn one_call()
     ensures { HasOneCall }
+{}
+
+/// No request line is without a route, or one of the faults of a request line. It does nothing when it runs.
+#[tactic(auto, using(crate::proofs::HasRoute::has_route))]
+pub fn has_route()
+    ensures { HasRoute }
 {}

@@ -25,9 +25,9 @@ mod verb;
 
 pub use buffer::Buffer;
 pub use failing::{MemorySink, MemorySource};
-pub use laws::{conversation_laws, one_call};
+pub use laws::{conversation_laws, has_route, one_call};
 pub use memory::{SteadySink, SteadySource};
-pub use next::next_request;
+pub use next::{LONGEST_TALK, next_request};
 pub use outside::{Duplex, Link, Sink, SinkFault, Source};
 pub use request::{HeadFault, Next, Wire};
 pub use response::{no_memory_response, response_text};

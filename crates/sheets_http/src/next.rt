@@ -1,6 +1,5 @@
 ghost use Rattle.std.specs.Prelude.{◌≡◌, ◌≢◌, IsTrue, ◌+◌, ◌^◌, ◌<◌, ◌≤◌, length, take, drop, IfOk, OnOk, OnErr, IfSome};
-ghost use Rattle.cell_value.specs.FaultCount.{Rose};
-ghost use Rattle.sheets_http.specs.Outside.{StaysSteady};
+ghost use Rattle.cell_value.specs.FaultCount.{Rose, StaysSteady};
 ghost use Rattle.sheets_http.specs.Heads.{skip_breaks};
 ghost use Rattle.sheets_http.specs.Requests.{room_of, stream_of, HoldsMessage, IsRequest, IsAnswer, IsExact};
 ghost use Rattle.sheets_http.specs.Buffering.{end_answer, IsScanned, IsProgress, AnswersNoRequest, IsBody};
@@ -12,6 +11,9 @@ use crate::summary::HeadSummary;
 use crate::{Next, Source, Wire};
 use cell_value::{Bytes, NoMemory};
 use std::alloc::Global;
+
+/// The most bytes that the requests of one connection have together, 2^40.
+pub const LONGEST_TALK: u64 = 1_099_511_627_776;
 
 /// Reads on until it is known what comes next in a conversation of at most `most` bytes, of which
 /// `buffer` holds what was read already.

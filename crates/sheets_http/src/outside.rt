@@ -1,7 +1,7 @@
 ghost use Rattle.std.specs.Prelude.{◌≡◌, ℕ, ◌<◌, ◌≤◌, List, [], ◌∷◌, Option, Bool, length, IfOk, IsTrue, OnErr};
 ghost use Rattle.std.specs.Borrow.{GName};
-ghost use Rattle.cell_value.specs.FaultCount.{last_count, Rose};
-ghost use Rattle.sheets_http.specs.Outside.{Side, StaysSteady, Gives, EndsThere, Takes};
+ghost use Rattle.cell_value.specs.FaultCount.{last_count, Rose, StaysSteady};
+ghost use Rattle.sheets_http.specs.Outside.{Side, Gives, EndsThere, Takes};
 
 use cell_value::Failed;
 use std::error::Error;

@@ -1,6 +1,6 @@
 ghost use Rattle.std.specs.Prelude.{◌≡◌, ◌≢◌, ◌≤◌, IsTrue, MatchResult};
-ghost use Rattle.cell_value.specs.FaultCount.{Rose};
-ghost use Rattle.sheets_http.specs.Outside.{StaysSteady, TakesAll, TakesSome};
+ghost use Rattle.cell_value.specs.FaultCount.{Rose, StaysSteady};
+ghost use Rattle.sheets_http.specs.Outside.{TakesAll, TakesSome};
 
 use crate::{Sink, SinkFault};
 

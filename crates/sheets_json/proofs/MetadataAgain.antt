@@ -4,9 +4,9 @@ use Rattle.std.specs.Prelude.{Ok, Err, IfSome}
 use Rattle.serde_json.specs.Data.{no_members}
 use Rattle.grid_range.specs.declared.axis.Axis.{Axis}
 use Rattle.grid_range.specs.declared.axis.Axis.TheVariants.{Rows, Columns}
-use Rattle.dev_metadata.specs.declared.types.Sight.{Sight}
-use Rattle.dev_metadata.specs.declared.types.Sight.TheVariants as seen
-use Rattle.dev_metadata.specs.declared.types.SightKind.{SightKind}
+use Rattle.dev_metadata.specs.declared.types.Visibility.{Visibility}
+use Rattle.dev_metadata.specs.declared.types.Visibility.TheVariants as seen
+use Rattle.dev_metadata.specs.declared.types.VisibilityKind.{VisibilityKind}
 use Rattle.dev_metadata.specs.declared.types.Spot.{Spot}
 use Rattle.dev_metadata.specs.declared.types.Spot.TheVariants as place
 use Rattle.json_shapes.specs.declared.fault.ShapeFault.TheVariants.{BadShape}
@@ -68,16 +68,16 @@ pub id_again : (id : ℕ) → id ≤ greatest_index → index (count_data id) �
 id_again id small = simp (is_index id small) refl
 
 -- what is read of the parts of an item
-abbrev read_of : Reading ℕ → Reading (List ℕ) → Option (List ℕ) → Reading Location → SightKind → Reading NewMetadata
+abbrev read_of : Reading ℕ → Reading (List ℕ) → Option (List ℕ) → Reading Location → VisibilityKind → Reading NewMetadata
 read_of id key value lies visibility =
     made first_part (both
     (made new_metadata_of (both (both (both (both (made Some id) key) (Ok value)) lies) (Ok visibility)))
     (nothing_left no_members))
 
-parts_read : (id : ℕ) (key value : List ℕ) (lies : Spot) (sight : Sight)
-    → object_of new_metadata (item_data (record { id = id; key = key; value = value; spot = lies; sight = sight }))
+parts_read : (id : ℕ) (key value : List ℕ) (lies : Spot) (visibility : Visibility)
+    → object_of new_metadata (item_data (record { id = id; key = key; value = value; spot = lies; visibility = visibility }))
     ≡ read_of (index (count_data id)) (metadata_key (text_data key)) (if_filled value)
-    (object_of metadata_location (spot_data lies)) (visibility_of sight)
+    (object_of metadata_location (spot_data lies)) (visibility_of visibility)
 parts_read id key [] lies seen.Document = refl
 parts_read id key [] lies (seen.Project project) = refl
 parts_read id key (byte ∷ bytes) lies seen.Document = refl
@@ -85,10 +85,10 @@ parts_read id key (byte ∷ bytes) lies (seen.Project project) = refl
 
 pub items_again : ItemsAreReadAgain
 items_again item small is indexed =
-    parts_read item.id item.key item.value item.spot item.sight
+    parts_read item.id item.key item.value item.spot item.visibility
     ∙ ap (λ id. read_of id (metadata_key (text_data item.key)) (if_filled item.value)
-    (object_of metadata_location (spot_data item.spot)) (visibility_of item.sight)) (id_again item.id small)
+    (object_of metadata_location (spot_data item.spot)) (visibility_of item.visibility)) (id_again item.id small)
     ∙ ap (λ key. read_of (Ok item.id) key (if_filled item.value) (object_of metadata_location (spot_data item.spot))
-    (visibility_of item.sight)) (key_again item.key is)
-    ∙ ap (λ lies. read_of (Ok item.id) (Ok item.key) (if_filled item.value) lies (visibility_of item.sight))
+    (visibility_of item.visibility)) (key_again item.key is)
+    ∙ ap (λ lies. read_of (Ok item.id) (Ok item.key) (if_filled item.value) lies (visibility_of item.visibility))
     (spot_again item.spot indexed)

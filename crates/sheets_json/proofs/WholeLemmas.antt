@@ -18,8 +18,8 @@ use Rattle.basic_filter.specs.declared.types.Filter.{Filter}
 use Rattle.cell_value.specs.declared.cell.Cell.{Cell}
 use Rattle.cell_value.specs.declared.cell.Cell.TheVariants as cell
 use Rattle.dev_metadata.specs.declared.types.Item.{Item}
-use Rattle.dev_metadata.specs.declared.types.SightKind.{SightKind}
-use Rattle.dev_metadata.specs.declared.types.SightKind.TheVariants as sight
+use Rattle.dev_metadata.specs.declared.types.VisibilityKind.{VisibilityKind}
+use Rattle.dev_metadata.specs.declared.types.VisibilityKind.TheVariants as visibility
 use Rattle.dev_metadata.specs.declared.types.Spot.{Spot}
 use Rattle.dev_metadata.specs.declared.types.SpotKind.{SpotKind}
 use Rattle.dev_metadata.specs.declared.types.SpotKind.TheVariants as spot
@@ -212,9 +212,9 @@ strategy_whole : (one : MatchingStrategy) → Whole (strategy_data one)
 strategy_whole strategy.Exact = whole refl
 strategy_whole strategy.Intersecting = whole refl
 
-visibility_whole : (kind : SightKind) → Whole (visibility_data kind)
-visibility_whole sight.Document = whole refl
-visibility_whole sight.Project = whole refl
+visibility_whole : (kind : VisibilityKind) → Whole (visibility_data kind)
+visibility_whole visibility.Document = whole refl
+visibility_whole visibility.Project = whole refl
 
 with_location : (asked : Location) {members : Members} → AreWhole members → AreWhole (put_location asked members)
 with_location location.Spreadsheet m = with_one (codes "spreadsheet") {value = boolean true} (whole refl) m
@@ -236,7 +236,7 @@ item_whole item = object_whole (
     with_one (codes "metadataId") (count_whole item.id) (
     with_one (codes "metadataKey") (text_whole item.key) (
     with_filled (codes "metadataValue") item.value (
-    with_one (codes "visibility") (visibility_whole (visibility_of item.sight)) none)))))
+    with_one (codes "visibility") (visibility_whole (visibility_of item.visibility)) none)))))
 
 with_texts : (lookup : MetadataLookup) {members : Members} → AreWhole members → AreWhole (put_texts lookup members)
 with_texts lookup m =

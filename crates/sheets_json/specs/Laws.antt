@@ -93,7 +93,7 @@ item_asked item = record {
   metadata_key = item.key;
   metadata_value = if_filled item.value;
   location = location_of item.spot;
-  visibility = visibility_of item.sight;
+  visibility = visibility_of item.visibility;
 }
 
 -- an item is read again

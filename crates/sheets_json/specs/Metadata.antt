@@ -6,10 +6,10 @@ use Rattle.serde_json.specs.Data.{Data, object, Members, no_members, put}
 use Rattle.grid_range.specs.declared.axis.Axis.{Axis}
 use Rattle.grid_range.specs.declared.axis.Axis.TheVariants.{Rows, Columns}
 use Rattle.dev_metadata.specs.declared.types.Item.{Item}
-use Rattle.dev_metadata.specs.declared.types.Sight.{Sight}
-use Rattle.dev_metadata.specs.declared.types.Sight.TheVariants as seen
-use Rattle.dev_metadata.specs.declared.types.SightKind.{SightKind}
-use Rattle.dev_metadata.specs.declared.types.SightKind.TheVariants as sight
+use Rattle.dev_metadata.specs.declared.types.Visibility.{Visibility}
+use Rattle.dev_metadata.specs.declared.types.Visibility.TheVariants as seen
+use Rattle.dev_metadata.specs.declared.types.VisibilityKind.{VisibilityKind}
+use Rattle.dev_metadata.specs.declared.types.VisibilityKind.TheVariants as visibility
 use Rattle.dev_metadata.specs.declared.types.Spot.{Spot}
 use Rattle.dev_metadata.specs.declared.types.Spot.TheVariants as place
 use Rattle.dev_metadata.specs.declared.types.SpotKind.{SpotKind}
@@ -37,9 +37,9 @@ abbrev pub strategy_data : MatchingStrategy → Data
 strategy_data strategy.Exact = text_data (codes "EXACT_LOCATION")
 strategy_data strategy.Intersecting = text_data (codes "INTERSECTING_LOCATION")
 
-abbrev pub visibility_data : SightKind → Data
-visibility_data sight.Document = text_data (codes "DOCUMENT")
-visibility_data sight.Project = text_data (codes "PROJECT")
+abbrev pub visibility_data : VisibilityKind → Data
+visibility_data visibility.Document = text_data (codes "DOCUMENT")
+visibility_data visibility.Project = text_data (codes "PROJECT")
 
 -- ---- locations
 
@@ -84,9 +84,9 @@ spot_data lies =
 -- ---- items
 
 -- that an item is one of a project is said, and not of which
-abbrev pub visibility_of : Sight → SightKind
-visibility_of seen.Document = sight.Document
-visibility_of (seen.Project project) = sight.Project
+abbrev pub visibility_of : Visibility → VisibilityKind
+visibility_of seen.Document = visibility.Document
+visibility_of (seen.Project project) = visibility.Project
 
 -- a value is said where there is one
 abbrev pub item_data : Item → Data
@@ -95,7 +95,7 @@ item_data item = object (
     put (codes "metadataId") (count_data item.id) (
     put (codes "metadataKey") (text_data item.key) (
     put_filled (codes "metadataValue") item.value (
-    put (codes "visibility") (visibility_data (visibility_of item.sight)) no_members)))))
+    put (codes "visibility") (visibility_data (visibility_of item.visibility)) no_members)))))
 
 -- ---- filters of data
 

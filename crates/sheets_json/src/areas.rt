@@ -2,7 +2,7 @@ ghost use Rattle.std.specs.Prelude.{◌≡◌, IfOk};
 ghost use Rattle.serde_json.specs.View.{view};
 ghost use Rattle.sheets_json.specs.Areas.{start_of, end_of, area_data, dimension_data, lines_data};
 
-use crate::writing::{Written, text_json, with, with_given};
+use crate::writing::{ToJson, text_json, with, with_given};
 use cell_value::NoMemory;
 use grid_range::{Area, Axis, Band};
 use serde_json::{Map, Value as Json};
@@ -30,7 +30,7 @@ fn end_of(band: Band) -> Option<u32>
     }
 }
 
-impl Written for Area {
+impl ToJson for Area {
     ghost json_data = { area_data };
 
     fn to_json(&self, alloc: Global) -> Result<Json, NoMemory> {
@@ -44,7 +44,7 @@ impl Written for Area {
     }
 }
 
-impl Written for Axis {
+impl ToJson for Axis {
     ghost json_data = { dimension_data };
 
     fn to_json(&self, alloc: Global) -> Result<Json, NoMemory> {

@@ -4,7 +4,7 @@ ghost use Rattle.serde_json.specs.Data.{put};
 ghost use Rattle.serde_json.specs.View.{members_view};
 ghost use Rattle.sheets_json.specs.Filters.{type_text, values_of, value_data, condition_data, criterion_data, criteria_members, put_criteria, filter_data};
 
-use crate::writing::{Written, text_json, with, with_given, with_items, with_json};
+use crate::writing::{ToJson, text_json, with, with_given, with_items, with_json};
 use basic_filter::{Condition, Criterion, Filter};
 use cell_value::{Items, NoMemory, Text};
 use serde_json::{Map, Value as Json};
@@ -56,7 +56,7 @@ impl ConditionValue {
     }
 }
 
-impl Written for ConditionValue {
+impl ToJson for ConditionValue {
     ghost json_data = { value_data };
 
     fn to_json(&self, alloc: Global) -> Result<Json, NoMemory> {
@@ -124,7 +124,7 @@ fn values_of(alloc: Global, condition: &Condition) -> Result<Items<ConditionValu
     }
 }
 
-impl Written for Condition {
+impl ToJson for Condition {
     ghost json_data = { condition_data };
 
     fn to_json(&self, alloc: Global) -> Result<Json, NoMemory> {
@@ -136,7 +136,7 @@ impl Written for Condition {
     }
 }
 
-impl Written for Criterion {
+impl ToJson for Criterion {
     ghost json_data = { criterion_data };
 
     fn to_json(&self, alloc: Global) -> Result<Json, NoMemory> {
@@ -188,7 +188,7 @@ fn with_criteria(
     }
 }
 
-impl Written for Filter {
+impl ToJson for Filter {
     ghost json_data = { filter_data };
 
     fn to_json(&self, alloc: Global) -> Result<Json, NoMemory> {

@@ -4,15 +4,15 @@ ghost use Rattle.sheets_json.specs.Areas.{lines_data};
 ghost use Rattle.sheets_json.specs.Metadata.{location_type_data, strategy_data, visibility_data, dimension_range_data, put_location, location_data, line_kind, kind_of, location_of, spot_data, visibility_of, item_data, put_texts, lookup_data, data_filter_data};
 
 use crate::areas::{Lines, lines_json};
-use crate::writing::{Written, text_json, with, with_filled, with_given, with_json};
+use crate::writing::{ToJson, text_json, with, with_filled, with_given, with_json};
 use cell_value::NoMemory;
-use dev_metadata::{Item, Sight, SightKind, Spot, SpotKind};
+use dev_metadata::{Item, Spot, SpotKind, Visibility, VisibilityKind};
 use grid_range::Axis;
 use json_requests::{DataFilter, DimensionRange, Location, MatchingStrategy, MetadataLookup};
 use serde_json::{Map, Value as Json};
 use std::alloc::Global;
 
-impl Written for SpotKind {
+impl ToJson for SpotKind {
     ghost json_data = { location_type_data };
 
     fn to_json(&self, alloc: Global) -> Result<Json, NoMemory> {
@@ -25,7 +25,7 @@ impl Written for SpotKind {
     }
 }
 
-impl Written for MatchingStrategy {
+impl ToJson for MatchingStrategy {
     ghost json_data = { strategy_data };
 
     fn to_json(&self, alloc: Global) -> Result<Json, NoMemory> {
@@ -36,18 +36,18 @@ impl Written for MatchingStrategy {
     }
 }
 
-impl Written for SightKind {
+impl ToJson for VisibilityKind {
     ghost json_data = { visibility_data };
 
     fn to_json(&self, alloc: Global) -> Result<Json, NoMemory> {
         match self {
-            SightKind::Document => text_json(alloc, "DOCUMENT"),
-            SightKind::Project => text_json(alloc, "PROJECT"),
+            VisibilityKind::Document => text_json(alloc, "DOCUMENT"),
+            VisibilityKind::Project => text_json(alloc, "PROJECT"),
         }
     }
 }
 
-impl Written for DimensionRange {
+impl ToJson for DimensionRange {
     ghost json_data = { dimension_range_data };
 
     fn to_json(&self, alloc: Global) -> Result<Json, NoMemory> {
@@ -87,7 +87,7 @@ fn with_location(
     }
 }
 
-impl Written for Location {
+impl ToJson for Location {
     ghost json_data = { location_data };
 
     fn to_json(&self, alloc: Global) -> Result<Json, NoMemory> {
@@ -149,7 +149,7 @@ fn line_json(alloc: Global, sheet: u32, dimension: Axis, at: u32) -> Result<Json
     lines_json(alloc, lines)
 }
 
-impl Written for Spot {
+impl ToJson for Spot {
     ghost json_data = { spot_data };
 
     fn to_json(&self, alloc: Global) -> Result<Json, NoMemory> {
@@ -160,20 +160,20 @@ impl Written for Spot {
 }
 
 /// Whether an item is one of a project.
-fn visibility_of(sight: &Sight) -> SightKind
-    ensures { result ≡ visibility_of sight.now }
+fn visibility_of(visibility: &Visibility) -> VisibilityKind
+    ensures { result ≡ visibility_of visibility.now }
 {
-    match sight {
-        Sight::Document => SightKind::Document,
-        Sight::Project(_) => SightKind::Project,
+    match visibility {
+        Visibility::Document => VisibilityKind::Document,
+        Visibility::Project(_) => VisibilityKind::Project,
     }
 }
 
-impl Written for Item {
+impl ToJson for Item {
     ghost json_data = { item_data };
 
     fn to_json(&self, alloc: Global) -> Result<Json, NoMemory> {
-        let visibility = visibility_of(&self.sight);
+        let visibility = visibility_of(&self.visibility);
         let members = with(alloc, Map::new(alloc), "visibility", &visibility)?;
         let members = with_filled(alloc, members, "metadataValue", &self.value)?;
         let members = with(alloc, members, "metadataKey", &self.key)?;
@@ -197,7 +197,7 @@ fn with_texts(
     with_given(alloc, members, "metadataId", &lookup.metadata_id)
 }
 
-impl Written for MetadataLookup {
+impl ToJson for MetadataLookup {
     ghost json_data = { lookup_data };
 
     fn to_json(&self, alloc: Global) -> Result<Json, NoMemory> {
@@ -213,7 +213,7 @@ impl Written for MetadataLookup {
     }
 }
 
-impl Written for DataFilter {
+impl ToJson for DataFilter {
     ghost json_data = { data_filter_data };
 
     fn to_json(&self, alloc: Global) -> Result<Json, NoMemory> {

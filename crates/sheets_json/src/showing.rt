@@ -4,7 +4,7 @@ ghost use Rattle.sheets_json.specs.Written.{put_given};
 ghost use Rattle.sheets_json.specs.Spreadsheets.{named_range_data, editors_data, cover_members, protection_data, grid_properties_data, place_members, properties_data, row_data, grid_data, grids_data, own_members, sheet_data, title_data, spreadsheet_data, reply_object, reply_data, batch_data};
 
 use crate::writing::{
-    Written, text_json, with, with_filled, with_given, with_items, with_json, with_true,
+    ToJson, text_json, with, with_filled, with_given, with_items, with_json, with_true,
 };
 use crate::{
     DimensionProperties, GridData, Reply, ShownProperties, ShownProtection, ShownSheet, Spreadsheet,
@@ -14,7 +14,7 @@ use named_ranges::NamedRange;
 use serde_json::{Map, Value as Json};
 use std::alloc::Global;
 
-impl Written for NamedRange {
+impl ToJson for NamedRange {
     ghost json_data = { named_range_data };
 
     fn to_json(&self, alloc: Global) -> Result<Json, NoMemory> {
@@ -67,7 +67,7 @@ fn with_editors(
     }
 }
 
-impl Written for ShownProtection {
+impl ToJson for ShownProtection {
     ghost json_data = { protection_data };
 
     fn to_json(&self, alloc: Global) -> Result<Json, NoMemory> {
@@ -97,7 +97,7 @@ fn place_members(alloc: Global, properties: &ShownProperties) -> Result<Map<Stri
     with(alloc, members, "index", &properties.index)
 }
 
-impl Written for ShownProperties {
+impl ToJson for ShownProperties {
     ghost json_data = { properties_data };
 
     fn to_json(&self, alloc: Global) -> Result<Json, NoMemory> {
@@ -109,7 +109,7 @@ impl Written for ShownProperties {
     }
 }
 
-impl Written for DimensionProperties {
+impl ToJson for DimensionProperties {
     ghost json_data = { row_data };
 
     fn to_json(&self, alloc: Global) -> Result<Json, NoMemory> {
@@ -123,7 +123,7 @@ impl Written for DimensionProperties {
     }
 }
 
-impl Written for GridData {
+impl ToJson for GridData {
     ghost json_data = { grid_data };
 
     fn to_json(&self, alloc: Global) -> Result<Json, NoMemory> {
@@ -167,7 +167,7 @@ fn own_members(alloc: Global, sheet: &ShownSheet) -> Result<Map<String, Json>, N
     with_given(alloc, members, "merges", &sheet.merges)
 }
 
-impl Written for ShownSheet {
+impl ToJson for ShownSheet {
     ghost json_data = { sheet_data };
 
     fn to_json(&self, alloc: Global) -> Result<Json, NoMemory> {
@@ -186,7 +186,7 @@ fn title_json(alloc: Global, title: &Text) -> Result<Json, NoMemory>
     Ok(Json::Object(members))
 }
 
-impl Written for Spreadsheet {
+impl ToJson for Spreadsheet {
     ghost json_data = { spreadsheet_data };
 
     fn to_json(&self, alloc: Global) -> Result<Json, NoMemory> {
@@ -213,7 +213,7 @@ fn reply_object(alloc: Global, kind: &str, name: &str, value: Json) -> Result<Js
     Ok(Json::Object(members))
 }
 
-impl Written for Reply {
+impl ToJson for Reply {
     ghost json_data = { reply_data };
 
     fn to_json(&self, alloc: Global) -> Result<Json, NoMemory> {

@@ -13,7 +13,7 @@ use serde_json::{Map, Value as Json, put};
 use std::alloc::Global;
 
 /// A value that is written as JSON.
-pub(crate) trait Written {
+pub(crate) trait ToJson {
     ghost use Rattle.serde_json.specs.Data.{Data};
 
     ghost json_data: { Self → Data };
@@ -23,7 +23,7 @@ pub(crate) trait Written {
         ensures { IfOk result (λ json. view json ≡ json_data self.now) };
 }
 
-impl Written for Text {
+impl ToJson for Text {
     ghost json_data = { text_data };
 
     fn to_json(&self, alloc: Global) -> Result<Json, NoMemory> {
@@ -38,7 +38,7 @@ pub(crate) fn text_json(alloc: Global, text: &str) -> Result<Json, NoMemory>
     Ok(Json::String(String::from_str(alloc, text)?))
 }
 
-impl Written for bool {
+impl ToJson for bool {
     ghost json_data = { truth_data };
 
     fn to_json(&self, _alloc: Global) -> Result<Json, NoMemory> {
@@ -46,7 +46,7 @@ impl Written for bool {
     }
 }
 
-impl Written for u32 {
+impl ToJson for u32 {
     ghost json_data = { count_data };
 
     fn to_json(&self, _alloc: Global) -> Result<Json, NoMemory> {
@@ -54,7 +54,7 @@ impl Written for u32 {
     }
 }
 
-impl Written for u64 {
+impl ToJson for u64 {
     ghost json_data = { count_data };
 
     fn to_json(&self, _alloc: Global) -> Result<Json, NoMemory> {
@@ -62,7 +62,7 @@ impl Written for u64 {
     }
 }
 
-impl Written for Cell {
+impl ToJson for Cell {
     ghost json_data = { cell_data };
 
     fn to_json(&self, alloc: Global) -> Result<Json, NoMemory> {
@@ -74,7 +74,7 @@ impl Written for Cell {
     }
 }
 
-impl<T: Written> Written for Items<T> {
+impl<T: ToJson> ToJson for Items<T> {
     ghost json_data = { list_data T.json_data };
 
     fn to_json(&self, alloc: Global) -> Result<Json, NoMemory> {
@@ -84,7 +84,7 @@ impl<T: Written> Written for Items<T> {
 }
 
 /// The JSON values of items, in order.
-fn each_json<T: Written>(alloc: Global, items: &[T]) -> Result<Vec<Json>, NoMemory>
+fn each_json<T: ToJson>(alloc: Global, items: &[T]) -> Result<Vec<Json>, NoMemory>
     ensures { IfOk result (λ values. map view values.items ≡ map T.json_data items.now) }
 {
     let mut values = Vec::with_capacity(alloc, items.len())?;
@@ -95,7 +95,7 @@ fn each_json<T: Written>(alloc: Global, items: &[T]) -> Result<Vec<Json>, NoMemo
 }
 
 /// The members of an object, with one more.
-pub(crate) fn with<T: Written>(
+pub(crate) fn with<T: ToJson>(
     alloc: Global,
     mut members: Map<String, Json>,
     name: &str,
@@ -109,7 +109,7 @@ pub(crate) fn with<T: Written>(
 }
 
 /// The members of an object, with one more, if it is given.
-pub(crate) fn with_given<T: Written>(
+pub(crate) fn with_given<T: ToJson>(
     alloc: Global,
     members: Map<String, Json>,
     name: &str,
@@ -173,7 +173,7 @@ pub(crate) fn with_filled(
 }
 
 /// The members of an object, with a list more, which is absent where it has no item.
-pub(crate) fn with_items<T: Written>(
+pub(crate) fn with_items<T: ToJson>(
     alloc: Global,
     members: Map<String, Json>,
     name: &str,
@@ -189,7 +189,7 @@ pub(crate) fn with_items<T: Written>(
     }
 }
 
-impl Written for ShownRange {
+impl ToJson for ShownRange {
     ghost json_data = { range_data };
 
     fn to_json(&self, alloc: Global) -> Result<Json, NoMemory> {
@@ -200,7 +200,7 @@ impl Written for ShownRange {
     }
 }
 
-impl Written for MatchedRange {
+impl ToJson for MatchedRange {
     ghost json_data = { matched_range_data };
 
     fn to_json(&self, alloc: Global) -> Result<Json, NoMemory> {
@@ -210,7 +210,7 @@ impl Written for MatchedRange {
     }
 }
 
-impl Written for MatchedMetadata {
+impl ToJson for MatchedMetadata {
     ghost json_data = { matched_metadata_data };
 
     fn to_json(&self, alloc: Global) -> Result<Json, NoMemory> {
@@ -221,7 +221,7 @@ impl Written for MatchedMetadata {
     }
 }
 
-impl Written for Update {
+impl ToJson for Update {
     ghost json_data = { update_data };
 
     fn to_json(&self, alloc: Global) -> Result<Json, NoMemory> {
@@ -326,7 +326,7 @@ fn write_many_json(
     Ok(Json::Object(members))
 }
 
-impl Written for Answer {
+impl ToJson for Answer {
     ghost json_data = { answer_data };
 
     fn to_json(&self, alloc: Global) -> Result<Json, NoMemory> {

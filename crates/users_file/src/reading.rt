@@ -1,6 +1,5 @@
 ghost use Rattle.std.specs.Prelude.{◌≡◌, ◌≢◌, ℕ, ◌<◌, ◌≤◌, [], Some, drop, length, IfOk, IfSome, IsTrue, OnOk};
-ghost use Rattle.cell_value.specs.FaultCount.{Rose};
-ghost use Rattle.sheets_http.specs.Outside.{StaysSteady};
+ghost use Rattle.cell_value.specs.FaultCount.{Rose, StaysSteady};
 ghost use Rattle.users_file.specs.Table.{IsBadTable, IsTable};
 
 use crate::UsersFault;

@@ -4,8 +4,8 @@ use Rattle.cell_value.specs.Elements.{Contains-head}
 use Rattle.cell_value.specs.declared.cell.Value.{Value}
 use Rattle.cell_value.specs.declared.cell.Value.TheVariants as value
 use Rattle.cell_calc.specs.Book.{Cell, Place, stored}
-use Rattle.cell_calc.specs.Calculated.{AreValues, IsStoredFormula, IsValueIn, StoredValues, one_cell}
-use Rattle.cell_calc.specs.Contents.{Contents, IsCell}
+use Rattle.cell_calc.specs.Calculated.{AreValues, IsValueIn, StoredValues, one_cell}
+use Rattle.cell_calc.specs.Contents.{Contents, IsCell, IsStoredFormula}
 use Rattle.cell_calc.specs.Known.{value_known}
 use Rattle.ref_rewrite.specs.declared.cell_content.Content.{Content}
 use Rattle.ref_rewrite.specs.declared.cell_content.Content.TheVariants as content

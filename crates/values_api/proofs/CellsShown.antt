@@ -14,8 +14,8 @@ use Rattle.ref_rewrite.specs.declared.cell_content.Content.{Content}
 use Rattle.ref_rewrite.specs.declared.cell_content.Content.TheVariants as content
 use Rattle.formula_reader.specs.Sheets.{Sheets}
 use Rattle.cell_calc.specs.Book.{Place, Cell, stored}
-use Rattle.cell_calc.specs.Calculated.{AreValues, IsValueIn, IsStoredFormula, StoredValues}
-use Rattle.cell_calc.specs.Contents.{IsCell}
+use Rattle.cell_calc.specs.Calculated.{AreValues, IsValueIn, StoredValues}
+use Rattle.cell_calc.specs.Contents.{IsCell, IsStoredFormula}
 use Rattle.cell_calc.specs.Known.{value_known}
 use Rattle.world_model.specs.Book.{PlaceBook}
 use Rattle.world_model.specs.Sheet.{PlaceSheet}

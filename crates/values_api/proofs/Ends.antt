@@ -15,6 +15,7 @@ use Rattle.cell_calc.specs.Marks.{values_of}
 use Rattle.cell_store.specs.Places.{AreFilledPlaces}
 use Rattle.cell_store.specs.Table.{item_at}
 use Rattle.ref_rewrite.specs.declared.cell_content.Content.{Content}
+use Rattle.world_model.specs.declared.limits.TheConstants.{MOST_COLUMNS, MOST_ROWS}
 use Rattle.world_model.specs.Sheet.{PlaceSheet}
 use Rattle.world_model.specs.Sound.{IsSheetSound}
 use Rattle.values_api.specs.declared.shown.Reading.{Reading}
@@ -83,16 +84,16 @@ module _ (reading : Reading) (is : IsReadOfSheet reading) where
   pub own : IsSheetSound reading.names.book.now.sheets sheet
   own = sound_sheet reading.names.book.now is.sound area.sheet sheet is.there
 
-  pub small_height : height area sheet ≤ 1000000
+  pub small_height : height area sheet ≤ MOST_ROWS
   small_height = let end = end_small area.rows sheet.table.rows is.within.0 in omega (arith, end, own.rows.1)
 
-  pub small_width : width area sheet ≤ 18278
+  pub small_width : width area sheet ≤ MOST_COLUMNS
   small_width = let end = end_small area.cols sheet.table.cols is.within.1 in omega (arith, end, own.cols.1)
 
-  pub row_small : (row : ℕ) → row < height area sheet → first_line area.rows + row < 1000000
+  pub row_small : (row : ℕ) → row < height area sheet → first_line area.rows + row < MOST_ROWS
   row_small row below = let end = end_small area.rows sheet.table.rows is.within.0 in omega (arith, below, end, own.rows.1)
 
-  pub col_small : (col : ℕ) → col < width area sheet → first_line area.cols + col < 18278
+  pub col_small : (col : ℕ) → col < width area sheet → first_line area.cols + col < MOST_COLUMNS
   col_small col below = let end = end_small area.cols sheet.table.cols is.within.1 in omega (arith, below, end, own.cols.1)
 
   module _ (places : List (ℕ × ℕ)) (filled : AreFilledPlaces area sheet.table places) where

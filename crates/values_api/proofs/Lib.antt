@@ -9,6 +9,7 @@ pub mod Ends
 pub mod CellsShown
 pub mod CellValues
 pub mod Readable
+pub mod LentCells
 pub mod LinesRead
 pub mod GivenCells
 pub mod Covering
@@ -36,3 +37,5 @@ pub mod Stored
 pub mod Sizes
 pub mod Adding
 pub mod Planning
+pub mod Answering
+pub mod CellsUpdated

@@ -5,6 +5,7 @@ use Rattle.std.proofs.lemmas.List.FromFn.{length-map-range_with_len, get_or-map-
 use Rattle.std.proofs.lemmas.List.{get_or_past}
 use Rattle.cell_value.specs.declared.cell.Cell.{Cell}
 use Rattle.cell_calc.specs.Marks.{values_of}
+use Rattle.world_model.specs.declared.limits.TheConstants.{MOST_COLUMNS, MOST_ROWS}
 use Rattle.world_model.specs.Book.{PlaceBook}
 use Rattle.values_api.specs.Sheets.{formula_sheets}
 use Rattle.values_api.specs.declared.shown.Reading.{Reading}
@@ -22,11 +23,11 @@ read_of reading book is =
     ap (λ (b : PlaceBook). area_shown (formula_sheets b.sheets) reading.area.now reading.columns_first reading.render
     reading.sheet.now (value_told reading.area.now reading.sheet.now (values_of reading.table.now))) is
 
-few_of : (b : Bool) (one other : ℕ) → one ≤ 1000000 → other ≤ 18278 → cond b other one ≤ 1000000
+few_of : (b : Bool) (one other : ℕ) → one ≤ MOST_ROWS → other ≤ MOST_COLUMNS → cond b other one ≤ MOST_ROWS
 few_of true one other few few' = omega (arith, few')
 few_of false one other few few' = few
 
-pub few_lines : (reading : Reading) → IsReadOfSheet reading → (ends : List ℕ) → AreEnds reading ends → length ends ≤ 1000000
+pub few_lines : (reading : Reading) → IsReadOfSheet reading → (ends : List ℕ) → AreEnds reading ends → length ends ≤ MOST_ROWS
 few_lines reading is ends are =
     let few = few_of reading.columns_first _ _ (small_height reading is) (small_width reading is) in
     omega (arith, are.few, few)

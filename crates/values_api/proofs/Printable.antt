@@ -11,14 +11,15 @@ use Rattle.ref_rewrite.specs.declared.pieces.Piece.TheVariants as piece
 use Rattle.ref_rewrite.specs.declared.reference.Ref.{Ref as Reference}
 use Rattle.formula_reader.specs.Printed.{IsPrintable, IsPrintableReference, ArePrintable}
 use Rattle.formula_reader.specs.ReferenceText.{HasForm}
+use Rattle.world_model.specs.declared.limits.TheConstants.{MOST_COLUMNS, MOST_ROWS}
 use Rattle.world_model.specs.Book.{PlaceBook}
 use Rattle.world_model.specs.Sheet.{PlaceSheet}
 use Rattle.world_model.specs.Sound.{HasNotation, IsAreaWithin, IsPieceWithin, IsSound, place_sheet_with}
 use Rattle.values_api.proofs.Finding.{some_and, sound_sheet}
 use Rattle.values_api.specs.Sheets.{formula_sheets}
 
-has_form : (rows cols : Band) (r c : ℕ) → HasNotation rows cols → Within rows r → Within cols c → r ≤ 1000000
-    → c ≤ 18278 → HasForm rows cols
+has_form : (rows cols : Band) (r c : ℕ) → HasNotation rows cols → Within rows r → Within cols c → r ≤ MOST_ROWS
+    → c ≤ MOST_COLUMNS → HasForm rows cols
 has_form Whole (Span start end) r c form rows cols few short = (tt, (omega (arith, cols.0), omega (arith, cols.1)))
 has_form (From first) (Span start end) r c form rows cols few short =
     (omega (arith, rows), (omega (arith, cols.0), omega (arith, cols.1)))

@@ -28,6 +28,7 @@ use Rattle.world_model.specs.Updating.{Updates}
 use Rattle.dimension_ops.specs.declared.rule.Limit.TheVariants.{Filled, Formulas, Tokens, References, Depth}
 use Rattle.dimension_ops.specs.declared.rule.Rule.{Rule}
 use Rattle.dimension_ops.specs.declared.rule.Rule.TheVariants.{PastLimit, ValuesPastRange}
+use Rattle.values_api.specs.declared.writing.TheConstants.{MOST_FORMULAS, MOST_STORED}
 use Rattle.values_api.specs.declared.writing.Written.{Written}
 use Rattle.values_api.specs.Sheets.{formula_sheets}
 use Rattle.values_api.specs.Shown.{cell_along}
@@ -155,11 +156,11 @@ IsFirstPassed entries None = (row col : ℕ) → passes (entries row col) ≡ No
 
 -- how many cells of a spreadsheet can be stored (this project's bound)
 abbrev pub most_stored : ℕ
-most_stored = 1000000
+most_stored = MOST_STORED
 
 -- and how many of them can hold a formula
 abbrev pub most_formulas : ℕ
-most_formulas = 20000
+most_formulas = MOST_FORMULAS
 
 -- the rule that a formula breaks by a limit
 abbrev pub rule_of_limit : FormulaFault → Rule

@@ -65,8 +65,8 @@ abbrev pub unless_denied : {A : Type 0} → Option ℕ → Result A Rule → Res
 unless_denied denied (Ok done) = judged_by (record unbroken { protected = denied }) done
 unless_denied denied (Err broken) = Err broken
 
--- something is done and told, unless it touches one of the cells and a protected range of the spreadsheet denies the user
--- that one
+-- something is done and told, unless it touches one of the cells and a protected range of the spreadsheet denies the
+-- user that one
 pub record IsUnlessDenied {A : Type 0} (user : List ℕ) (book : PlaceBook) (cells : Cells) (Is : Result A Rule → Type 0)
     (told : Result A Rule) : Type 0 where
   pub denied : Option ℕ
@@ -75,7 +75,8 @@ pub record IsUnlessDenied {A : Type 0} (user : List ℕ) (book : PlaceBook) (cel
   pub is : Is done
   pub told_is : told ≡ unless_denied denied done
 
--- the user's values are written to the area, or from its first cell on: the cells that are written or emptied are touched
+-- the user's values are written to the area, or from its first cell on: the cells that are written or emptied are
+-- touched
 abbrev pub IsWriteBy : List ℕ → Bool → Area → Block → PlaceSheet → PlaceBook → PlaceBook → Result Written Rule → Type 0
 IsWriteBy user one_cell area block sheet before after =
     IsUnlessDenied user before (WriteCells before.sheets one_cell area block)

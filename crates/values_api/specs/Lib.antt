@@ -10,6 +10,7 @@ pub mod Denials
 pub mod DenialLaws
 pub mod Given
 pub mod Laws
+pub mod Answered
 pub mod Tables
 pub mod Rows
 pub mod Appends

@@ -1,5 +1,5 @@
--- The table that an append of values looks for (Google Sheets API v4 reference, spreadsheets.values.append: the range is
--- used to find existing data). What a table is, is this project's profile.
+-- The table that an append of values looks for (Google Sheets API v4 reference, spreadsheets.values.append: the range
+-- is used to find existing data). What a table is, is this project's profile.
 use Rattle.std.specs.Prelude.{◌≡◌, ◌<◌, ◌≤◌, ◌⊎◌, ◌+◌, ℕ, Bool, true, false, List, map, Contains, ◌↔◌, ◌-◌, ◌==◌, ◌&&◌, ◌||◌, nat_lt, Option, None, Some}
 use Rattle.std.specs.Option.{IsSome}
 use Rattle.grid_range.specs.Area.{Holds}

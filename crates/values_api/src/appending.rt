@@ -15,16 +15,7 @@ use cell_value::Block;
 use dimension_ops::{Book, Limit, Rule, RuleOr, Sheet, change_sheet};
 use grid_range::{Area, Axis, Band, Change};
 use std::alloc::Global;
-use world_model::{changes_in_turn, updates_are_changes};
-
-/// How many rows a sheet can have.
-const MOST_ROWS: u32 = 1_000_000;
-
-/// How many columns a sheet can have.
-const MOST_COLUMNS: u32 = 18_278;
-
-/// How many places the sheets of a spreadsheet can have together.
-const MOST_PLACES: u64 = 10_000_000;
+use world_model::{MOST_COLUMNS, MOST_PLACES, MOST_ROWS, changes_in_turn, updates_are_changes};
 
 /// The lines that an append adds to a sheet.
 #[derive(Clone, Copy, Debug)]
@@ -230,8 +221,8 @@ fn needed(block: &Block) -> (usize, usize)
 
 /// The one cell of the sheet.
 fn cell_area(sheet: u32, cell: (u32, u32)) -> Area
-    requires rows { cell.0 < 1000000 }
-    requires cols { cell.1 < 18278 }
+    requires rows { cell.0 < MOST_ROWS }
+    requires cols { cell.1 < MOST_COLUMNS }
     ensures { result ≡ cell_area sheet cell }
 {
     Area {

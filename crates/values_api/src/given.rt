@@ -18,7 +18,7 @@ use dimension_ops::Book;
 use formula_reader::{FormulaFault, reads_once};
 use grid_range::{Area, Axis, Band};
 use std::alloc::Global;
-use world_model::{updates_are_writes, updates_follow};
+use world_model::{MOST_ROWS, updates_are_writes, updates_follow};
 
 /// Values for the cells from the first one of an area on, as far as the ends.
 #[derive(Drop)]
@@ -205,8 +205,8 @@ fn is_within(first: u32, count: usize, end: u32) -> bool
 
 /// So many lines from the first one on, and one at least.
 fn lines_from(first: u32, count: usize) -> Band
-    requires few { first + count ≤ 1000000 }
-    requires there { first < 1000000 }
+    requires few { first + count ≤ MOST_ROWS }
+    requires there { first < MOST_ROWS }
     ensures { result ≡ lines_from first count }
 {
     Band::Span(first, first + (count as u32).max(1))

@@ -1,11 +1,15 @@
 //! Laws of reads, writes, appends and updates: each function does nothing of its own, and its contract is the law.
 
+ghost use Rattle.values_api.specs.Answered.{AreasEmpty, ReadsAnswered};
 ghost use Rattle.values_api.specs.Laws.{AppendsOnce, ReadsOnce, UpdatesOnce, WritesOnce};
 ghost use Rattle.values_api.specs.Values.{CellsHaveOneValue};
 
-use cell_calc::values_once;
+use cell_calc::{has_values, values_once};
 use formula_reader::reads_once;
-use world_model::{changes_apart, changes_in_turn, stands_for_apart, stands_for_some};
+use world_model::{
+    changes_apart, changes_in_turn, ids_find, stands_for_apart, stands_for_some,
+    updates_are_writes, updates_follow, writes_stay_sound,
+};
 
 /// A read shows one thing of an area.
 pub fn shows_once()
@@ -45,4 +49,21 @@ pub fn updates_once()
 {
     stands_for_some();
     stands_for_apart();
+}
+
+/// No read is without an answer: a range text names an area or breaks a rule, and a read shows something of each area.
+pub fn reads_answered()
+    ensures { ReadsAnswered }
+{
+    has_values();
+    ids_find();
+}
+
+/// The cells of an area can be emptied whose sheet is there.
+pub fn areas_empty()
+    ensures { AreasEmpty }
+{
+    updates_are_writes();
+    writes_stay_sound();
+    updates_follow();
 }

@@ -24,7 +24,10 @@ pub use appending::{append_values, rows_needed};
 pub use clearing::{clear_values, empty_area};
 pub use denial::{area_denial, areas_denial, fill_denial, write_denial};
 pub use filled::row_behind;
-pub use laws::{appends_once, cells_have_one_value, shows_once, updates_once, writes_once};
+pub use laws::{
+    appends_once, areas_empty, cells_have_one_value, reads_answered, shows_once, updates_once,
+    writes_once,
+};
 pub use printed::range_text;
 pub use ranges::resolve;
 pub use rest::empty_rest;

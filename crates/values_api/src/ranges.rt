@@ -1,11 +1,11 @@
 ghost use Rattle.std.specs.Prelude.{◌≡◌, IfOk};
 ghost use Rattle.std.specs.Option.{option_copied};
 ghost use Rattle.grid_range.specs.Band.{IsNonEmpty};
-ghost use Rattle.formula_reader.specs.ReferenceText.{has_one_line, is_one_cell};
+ghost use Rattle.formula_reader.specs.ReferenceText.{is_one_cell};
 ghost use Rattle.dimension_ops.specs.Rules.{IsUnlessNoMemory};
 ghost use Rattle.values_api.specs.Ranges.{Resolves, IsThere, IsOf, HasLines, unread, on_sheet, on_found, of_range, part_called, part_of_sheet, part_of};
 
-use a1_notation::{A1, A1Fault, Part, is_one_line, read_a1};
+use a1_notation::{A1, A1Fault, Part, read_a1};
 use dimension_ops::{Book, Rule, RuleOr, Sheet};
 use grid_range::{Area, Band};
 use named_ranges::NamedRange;
@@ -139,15 +139,5 @@ fn on_sheet(rows: Band, cols: Band, sheet: &Sheet) -> Result<(Area, bool), Rule>
 fn is_one_cell(rows: Band, cols: Band) -> bool
     ensures { result ≡ is_one_cell rows cols }
 {
-    has_one_line(rows) && has_one_line(cols)
-}
-
-/// Whether the band has both ends, and one line.
-fn has_one_line(band: Band) -> bool
-    ensures { result ≡ has_one_line band }
-{
-    match band {
-        Band::Whole | Band::From(_) => false,
-        Band::Span(start, end) => is_one_line((start, end)),
-    }
+    rows.has_one_line() && cols.has_one_line()
 }

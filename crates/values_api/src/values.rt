@@ -1,6 +1,7 @@
 ghost use Rattle.std.specs.Prelude.{◌≡◌, ◌<◌, IfOk, OnOk};
 ghost use Rattle.std.specs.Option.{option_copied};
-ghost use Rattle.cell_calc.specs.Calculated.{IsStoredFormula, IsTableOf, IsValueIn};
+ghost use Rattle.cell_calc.specs.Calculated.{IsTableOf, IsValueIn};
+ghost use Rattle.cell_calc.specs.Contents.{IsStoredFormula};
 ghost use Rattle.values_api.specs.Sheets.{stored_in};
 ghost use Rattle.values_api.specs.Values.{plain_value, value_alone};
 

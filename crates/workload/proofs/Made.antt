@@ -8,7 +8,7 @@ use Rattle.desk.specs.declared.entry.Noted.{Noted}
 use Rattle.desk.specs.declared.entry.Noted.TheVariants as noted
 use Rattle.desk.specs.declared.entry.Reply.{Reply}
 use Rattle.desk.specs.Entries.{entries_entry}
-use Rattle.desk.specs.Points.{entries_of, Happens, IsStep}
+use Rattle.desk.specs.Points.{as_one_thread, as_out_of_memory, as_unavailable, entries_of, Happens, IsStep}
 use Rattle.desk.specs.Steps.{Outcome}
 use Rattle.workload.specs.Work.{caller_number, ask_number, entry_number, IsMade, IsWork}
 
@@ -39,12 +39,10 @@ pub made : (plain : List Entry → Ask → Outcome → Type 0) (pair : ℕ × �
     (reply : Reply) → Happens plain pair (caller_number i) (ask_number i) told after reply → reply.status ≢ 507
     → (reply.status ≡ 503 → Rose 0 0) → IsMade plain pair.0 i (entries_of told) (entries_of after)
 made plain pair i told after reply happens suffices cause =
-    elim happens.one_of [
-      | inl step ↦ stepped plain pair i told after reply step
-      | inr failed ↦ elim failed [
-        | inl unavailable ↦ absurd (never_rose (cause unavailable.status_is))
-        | inr short ↦ absurd (suffices short.status_is)
-      ]
+    elim happens.comes_to [
+      | as_one_thread step ↦ stepped plain pair i told after reply step
+      | as_unavailable down ↦ absurd (never_rose (cause down.status_is))
+      | as_out_of_memory short ↦ absurd (suffices short.status_is)
     ]
 
 -- the history of a list that calls made, where its journal had this limit

@@ -6,7 +6,7 @@ use Rattle.desk.specs.declared.entry.Entry.{Entry}
 use Rattle.desk.specs.declared.entry.Ask.{Ask}
 use Rattle.desk.specs.Steps.{Outcome, StepsOnce, HasOneCount}
 use Rattle.desk.specs.Journal.{journal_text}
-use Rattle.workload.specs.declared.calls.Told.{Told}
+use Rattle.workload.specs.declared.calls.WorkSummary.{WorkSummary}
 use Rattle.workload.specs.Work.{ask_number, entry_number, IsMade, IsWork, Tells}
 
 -- a history that may be one entry longer
@@ -16,17 +16,17 @@ length_entered history e true = omega (arith, length-append history (e ∷ []))
 length_entered history e false = omega arith
 
 -- what is told of the same numbers is the same
-same_told : (told other : Told) → told.calls ≡ other.calls → told.accepted ≡ other.accepted
+same_told : (told other : WorkSummary) → told.calls ≡ other.calls → told.accepted ≡ other.accepted
     → told.refused ≡ other.refused → told.cells ≡ other.cells → told.history ≡ other.history → told ≡ other
 same_told told other calls accepted refused cells history =
-    let one : Told = record {
+    let one : WorkSummary = record {
       calls = told.calls;
       accepted = told.accepted;
       refused = told.refused;
       cells = told.cells;
       history = told.history;
     } in
-    let two : Told = record {
+    let two : WorkSummary = record {
       calls = other.calls;
       accepted = other.accepted;
       refused = other.refused;
@@ -65,7 +65,7 @@ module _ (plain : List Entry → Ask → Outcome → Type 0) (limit : ℕ) where
         (one_work i work'.0 work.0 work'.1 work.1)
         work'.2)
 
-    pub tells_once : (cells : List Entry → ℕ → Type 0) → HasOneCount cells → (calls : ℕ) (told other : Told)
+    pub tells_once : (cells : List Entry → ℕ → Type 0) → HasOneCount cells → (calls : ℕ) (told other : WorkSummary)
         → Tells plain limit cells calls told → Tells plain limit cells calls other → told ≡ other
     tells_once cells counts calls told other tells tells' =
         let same : tells.history ≡ tells'.history =

@@ -5,7 +5,7 @@ use Rattle.desk.specs.declared.entry.Ask.{Ask}
 use Rattle.desk.specs.declared.entry.Entry.{Entry}
 use Rattle.desk.specs.Steps.{Outcome, entry_of, StepsTo}
 use Rattle.desk.specs.Journal.{journal_text}
-use Rattle.workload.specs.declared.calls.Told.{Told}
+use Rattle.workload.specs.declared.calls.WorkSummary.{WorkSummary}
 use Rattle.workload.specs.Table.{call_of}
 
 -- two callers take turns
@@ -44,7 +44,7 @@ module _ (plain : List Entry → Ask → Outcome → Type 0) (limit : ℕ) where
 
   -- What is told of so many calls is how many they were, how many of them are in the history that they make, how many
   -- aren't, how many cells that history makes, and how many bytes its journal has.
-  pub record Tells (cells : List Entry → ℕ → Type 0) (calls : ℕ) (told : Told) : Type 0 where
+  pub record Tells (cells : List Entry → ℕ → Type 0) (calls : ℕ) (told : WorkSummary) : Type 0 where
     pub history : List Entry
     pub work : IsWork calls history
     pub calls_are : told.calls ≡ calls
@@ -59,4 +59,4 @@ module _ (plain : List Entry → Ask → Outcome → Type 0) (limit : ℕ) where
 
   -- so many calls are told of in one way
   abbrev pub TellsOnce : (List Entry → ℕ → Type 0) → Type 0
-  TellsOnce cells = (calls : ℕ) (told other : Told) → Tells cells calls told → Tells cells calls other → told ≡ other
+  TellsOnce cells = (calls : ℕ) (told other : WorkSummary) → Tells cells calls told → Tells cells calls other → told ≡ other

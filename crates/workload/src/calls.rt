@@ -9,7 +9,7 @@ use std::alloc::Global;
 
 /// What is told of the calls of a work.
 #[derive(Clone, Copy, Debug, PartialEq, Eq)]
-pub struct Told {
+pub struct WorkSummary {
     /// How many calls were made.
     pub calls: u64,
     /// How many of them were accepted.
@@ -28,8 +28,8 @@ pub struct Told {
 /// # Errors
 ///
 /// [`NoMemory`] where memory runs out, also in a call; no further one is made then.
-pub fn work<E: Engine>(alloc: Global, calls: u32) -> Result<Told, NoMemory>
-    ensures { IfOk result (Tells E.plain 1073741824 E.cells calls) }
+pub fn work<E: Engine>(alloc: Global, calls: u32) -> Result<WorkSummary, NoMemory>
+    ensures { IfOk result (Tells E.plain LONGEST_JOURNAL E.cells calls) }
 {
     let keeper = SteadyKeeper::new(Vec::new(alloc));
     let Ok(mut state) = State::<E, SteadyKeeper>::open(alloc, keeper, LONGEST_JOURNAL) else {
@@ -44,7 +44,7 @@ pub fn work<E: Engine>(alloc: Global, calls: u32) -> Result<Told, NoMemory>
         bytes,
     } = history.summary();
     let calls = u64::from(calls);
-    Ok(Told {
+    Ok(WorkSummary {
         calls,
         accepted,
         refused: calls - accepted,
@@ -89,8 +89,8 @@ fn make_call<E: Engine>(
 
 /// So many calls make one history, and one thing is told of them. It does nothing when it runs.
 pub fn one_work<E: Engine>()
-    ensures history { HasOneWork E.plain 1073741824 }
-    ensures told { TellsOnce E.plain 1073741824 E.cells }
+    ensures history { HasOneWork E.plain LONGEST_JOURNAL }
+    ensures told { TellsOnce E.plain LONGEST_JOURNAL E.cells }
 {
     one_step::<E>();
     E::one_count();

@@ -7,4 +7,4 @@ mod table;
 #[cfg(test)]
 mod tests;
 
-pub use calls::{Told, one_work, work};
+pub use calls::{WorkSummary, one_work, work};

@@ -17,6 +17,8 @@ use Rattle.world_model.specs.Sheet.{NameSheet}
 use Rattle.world_model.specs.Leaving.{HasCell, LeaveInTurn, Leaves, cell_of, content_kept, content_kept_by_all}
 use Rattle.world_model.specs.Updating.{Updates, sheet_updated, update_named}
 use Rattle.world_model.proofs.Changed.{both_listed}
+use Rattle.world_model.proofs.Inserted.{find-inserted}
+use Rattle.world_model.proofs.SheetDeleted.{find-others}
 use Rattle.world_model.proofs.Orders.{followed_cells, followed_id}
 
 -- ---- the sheet that is found
@@ -46,30 +48,17 @@ other_id one id apart = false_from_ne_true (one == id) (λ is. apart (eqb-true o
 -- a sheet with another id isn't found
 find_beside : (new : NameSheet) (id : ℕ) → new.id ≢ id → (at : ℕ) (sheets : List NameSheet)
     → sheet_with id (take at sheets ++ new ∷ drop at sheets) ≡ sheet_with id sheets
-find_beside new id apart zero sheets = not_found (new.id == id) new (sheet_with id sheets) (other_id new.id id apart)
-find_beside new id apart (suc at) [] = not_found (new.id == id) new None (other_id new.id id apart)
-find_beside new id apart (suc at) (sheet ∷ sheets) =
-    ap (λ found. cond (sheet.id == id) (Some sheet) found) (find_beside new id apart at sheets)
+find_beside new id apart at sheets =
+    find-inserted (λ (one : NameSheet). one.id == id) at new sheets (other_id new.id id apart)
 
 -- the others than the sheet that is deleted
 abbrev others : ℕ → List NameSheet → List NameSheet
 others gone sheets = filter (λ sheet. not (sheet.id == gone)) sheets
 
-left_one : (gone id : ℕ) (sheet : NameSheet) (sheets : List NameSheet) → id ≢ gone
-    → sheet_with id (others gone sheets) ≡ sheet_with id sheets → (b : Bool) → (sheet.id == gone) ≡ b
-    → sheet_with id (cond (not b) (sheet ∷ others gone sheets) (others gone sheets))
-    ≡ cond (sheet.id == id) (Some sheet) (sheet_with id sheets)
-left_one gone id sheet sheets apart rest true is = rest
-    ∙ sym (not_found (sheet.id == id) sheet (sheet_with id sheets)
-    (other_id sheet.id id (λ same. apart (sym same ∙ eqb-true sheet.id gone is))))
-left_one gone id sheet sheets apart rest false is = ap (λ found. cond (sheet.id == id) (Some sheet) found) rest
-
 -- they are found
 find_left : (gone id : ℕ) (sheets : List NameSheet) → id ≢ gone
     → sheet_with id (others gone sheets) ≡ sheet_with id sheets
-find_left gone id [] apart = refl
-find_left gone id (sheet ∷ sheets) apart =
-    left_one gone id sheet sheets apart (find_left gone id sheets apart) (sheet.id == gone) refl
+find_left gone id sheets apart = find-others (λ (one : NameSheet). one.id) gone id (other_id id gone apart) sheets
 
 none_one : (gone : ℕ) (sheet : NameSheet) (sheets : List NameSheet) → sheet_with gone (others gone sheets) ≡ None
     → (b : Bool) → (sheet.id == gone) ≡ b

@@ -313,13 +313,13 @@ line_in (NameSpot.Sheet sheet) = None
 line_in (NameSpot.Line sheet axis line) = Some (line_on sheet axis line)
 
 item_of_same : (one other : Item) → one.id ≡ other.id → one.key ≡ other.key → one.value ≡ other.value
-    → one.spot ≡ other.spot → one.sight ≡ other.sight → one ≡ other
-item_of_same one other id key value place sight =
+    → one.spot ≡ other.spot → one.visibility ≡ other.visibility → one ≡ other
+item_of_same one other id key value place visibility =
     ap (λ n. record one { id = n }) id
     ∙ ap (λ text. record one { id = other.id; key = text }) key
     ∙ ap (λ text. record one { id = other.id; key = other.key; value = text }) value
-    ∙ ap (λ found. record other { spot = found; sight = one.sight }) place
-    ∙ ap (λ seen. record other { sight = seen }) sight
+    ∙ ap (λ found. record other { spot = found; visibility = one.visibility }) place
+    ∙ ap (λ seen. record other { visibility = seen }) visibility
 
 -- a line where an item lies has a place in an order
 pub record HasPlace (order : List ℕ) (place : ℕ) : Type 0 where
@@ -392,7 +392,7 @@ module _ (sheets : List NameSheet) where
         item_of_same one other (ap (λ (named : NameItem). named.id) same) (ap (λ (named : NameItem). named.key) same)
         (ap (λ (named : NameItem). named.value) same)
         (one_spot one.spot other.spot within within' (ap (λ (named : NameItem). named.spot) same))
-        (ap (λ (named : NameItem). named.sight) same)
+        (ap (λ (named : NameItem). named.visibility) same)
 
     pub items_apart : (some more : List Item) → AreWithin ones some → AreWithin others more
         → map (item_named orders) some ≡ map (item_named orders) more → some ≡ more

@@ -67,8 +67,8 @@ pub record CanBeMade (bare : PlaceBook) (placed : List Placed) : Type 0 where
   pub room : IsRoomForAll bare placed
   pub visible : list_all (λ sheet. sheet.hidden) (with_all_placed bare placed).sheets ≡ false
 
--- sheets that are put in one after another are, by names, ones all of whose lines are new, and the spreadsheet can stand
--- behind those of a world
+-- sheets that are put in one after another are, by names, ones all of whose lines are new, and the spreadsheet can
+-- stand behind those of a world
 pub record BooksMade : Type 0 where
   pub sound : (id title owner : List ℕ) (placed : List Placed) → CanBeMade (bare_book id title owner) placed
       → IsSound (with_all_placed (bare_book id title owner) placed)

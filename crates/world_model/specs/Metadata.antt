@@ -2,7 +2,7 @@
 use Rattle.std.specs.Prelude.{ℕ, Bool, false, List, filter, get_or, not, ◌==◌}
 use Rattle.grid_range.specs.declared.axis.Axis.{Axis}
 use Rattle.dev_metadata.specs.declared.types.Item.{Item}
-use Rattle.dev_metadata.specs.declared.types.Sight.{Sight}
+use Rattle.dev_metadata.specs.declared.types.Visibility.{Visibility}
 use Rattle.dev_metadata.specs.declared.types.Spot.{Spot}
 use Rattle.dev_metadata.specs.declared.types.Spot.TheVariants as spot
 use Rattle.world_model.specs.Area.{Orders}
@@ -18,7 +18,7 @@ pub record NameItem : Type 0 where
   pub key : List ℕ
   pub value : List ℕ
   pub spot : NameSpot
-  pub sight : Sight
+  pub visibility : Visibility
 
 -- the location on the line at the place of a location
 abbrev pub spot_named : Orders → Spot → NameSpot
@@ -32,7 +32,7 @@ item_named orders item = record {
   key = item.key;
   value = item.value;
   spot = spot_named orders item.spot;
-  sight = item.sight;
+  visibility = item.visibility;
 }
 
 -- the location is the sheet or a line of it

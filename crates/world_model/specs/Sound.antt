@@ -27,6 +27,7 @@ use Rattle.ref_rewrite.specs.declared.cell_content.Content.{Content}
 use Rattle.ref_rewrite.specs.declared.cell_content.Content.TheVariants as content
 use Rattle.ref_rewrite.specs.declared.pieces.Piece.{Piece}
 use Rattle.ref_rewrite.specs.declared.pieces.Piece.TheVariants as piece
+use Rattle.world_model.specs.declared.limits.TheConstants.{MOST_COLUMNS, MOST_PLACES, MOST_ROWS, MOST_SHEETS}
 use Rattle.world_model.specs.Book.{PlaceBook}
 use Rattle.world_model.specs.Counts.{grid_places}
 use Rattle.world_model.specs.Sheet.{PlaceSheet}
@@ -95,8 +96,8 @@ pub record IsFilterOf (sheet : PlaceSheet) (filter : Filter) : Type 0 where
 -- how many rows, and how many columns, a sheet can have (Google Drive help, files you can store: a sheet's last
 -- column is ZZZ; the bound on rows is this project's)
 abbrev pub most_on : Axis → ℕ
-most_on Rows = 1000000
-most_on Columns = 18278
+most_on Rows = MOST_ROWS
+most_on Columns = MOST_COLUMNS
 
 -- a sheet can have as many lines on the axis
 abbrev pub IsLineCount : Axis → ℕ → Type 0
@@ -104,11 +105,11 @@ IsLineCount axis lines = (0 < lines) × (lines ≤ most_on axis)
 
 -- how many sheets a spreadsheet can have (Google Drive help, files you can store: 200)
 abbrev pub most_sheets : ℕ
-most_sheets = 200
+most_sheets = MOST_SHEETS
 
 -- how many places its sheets can have together (Google Drive help, files you can store: 10 million cells)
 abbrev pub most_places : ℕ
-most_places = 10000000
+most_places = MOST_PLACES
 
 -- the sheet has a title, a row and a column, each item stands in it, its references are within, and so are its merges
 -- and its filter

@@ -5,6 +5,7 @@
 mod changing;
 mod filters;
 mod laws;
+mod limits;
 mod merges;
 mod metadata;
 mod protections;
@@ -19,6 +20,7 @@ pub use laws::{
     replacements_follow, stands_for_apart, stands_for_some, updates_are_writes, updates_follow,
     writes_follow, writes_stay_sound,
 };
+pub use limits::{MOST_COLUMNS, MOST_PLACES, MOST_ROWS, MOST_SHEETS};
 pub use merges::merges_are_set;
 pub use metadata::{metadata_is_set, metadata_lines_follow};
 pub use protections::{denials_by_name, inserts_keep_protected, protections_are_set};

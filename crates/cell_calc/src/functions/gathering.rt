@@ -465,8 +465,8 @@ fn add_cell<'a, 'b>(
 ) -> Result<(), NoMemory>
     ensures { OnOk result (values_of values.new.items ≡ values_of values.old.items ++ cell_taken taking cell.now) }
 {
-    if taking.takes(cell.value) {
-        values.push(cell.value)?;
+    if taking.takes(cell.value.get()) {
+        values.push(cell.value.get())?;
     }
     Ok(())
 }

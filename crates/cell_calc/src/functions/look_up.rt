@@ -115,7 +115,7 @@ pub(super) fn value_in_place(cells: &[FilledCell], place: u64) -> Result<Value, 
 {
     for cell in cells {
         if cell.place == place {
-            return cell.value.duplicate();
+            return cell.value.get().duplicate();
         }
     }
     Ok(Value::Blank)
@@ -192,7 +192,7 @@ fn first_match(key: &Value, cells: &[FilledCell]) -> Option<u64>
     ensures { result ≡ first_match key.now cells.now }
 {
     for cell in cells {
-        if is_match(key, cell.value) {
+        if is_match(key, cell.value.get()) {
             return Some(cell.place);
         }
     }
@@ -264,7 +264,7 @@ fn count_of(key: &Value, cells: &[FilledCell]) -> Value
 {
     let count = cells
         .iter()
-        .filter(|cell| is_match(key, cell.value))
+        .filter(|cell| is_match(key, cell.value.get()))
         .count();
     whole(count as i128)
 }

@@ -112,7 +112,7 @@ fn places_of_matches(
 {
     let mut places = HashSet::new(alloc);
     for cell in cells {
-        if is_match(key, cell.value) {
+        if is_match(key, cell.value.get()) {
             places.insert(cell.place)?;
         }
     }
@@ -130,8 +130,8 @@ fn values_in<'a>(
 {
     let mut values = Vec::new(alloc);
     for cell in cells {
-        if places.contains(&cell.place) && Taking::NumbersAndErrors.takes(cell.value) {
-            values.push(cell.value)?;
+        if places.contains(&cell.place) && Taking::NumbersAndErrors.takes(cell.value.get()) {
+            values.push(cell.value.get())?;
         }
     }
     Ok(values)

@@ -49,7 +49,7 @@ fn read_from_word<'a>(
 {
     if let Some((written, rest)) = read_behind_title(behind) {
         let title = owned(alloc, word)?;
-        return Ok(Some((Token::Elsewhere(title, written), rest)));
+        return Ok(Some((Token::TitledReference(title, written), rest)));
     }
     if behind.starts_with('(') {
         let name = owned(alloc, word)?;
@@ -76,7 +76,7 @@ fn read_from_title(alloc: Global, inside: &str) -> Result<Option<(Token, &str)>,
         return Ok(None);
     };
     let title = Text::of(title);
-    Ok(Some((Token::Elsewhere(title, written), rest)))
+    Ok(Some((Token::TitledReference(title, written), rest)))
 }
 
 /// The token of a text that begins with a `"`, from behind it: a text.

@@ -3,9 +3,7 @@ ghost use Rattle.formula_reader.specs.Reading.{Reads, seen};
 
 use super::token::Token;
 use a1_notation::Class;
-
-/// The largest number that a double keeps exactly, with all below it: 2^53.
-const LARGEST: u64 = 9_007_199_254_740_992;
+use cell_value::LARGEST;
 
 /// The number at the front of a text: all the digits there, with a value of at most 2^53.
 pub(crate) fn read_number(text: &str) -> Option<(Token, &str)>

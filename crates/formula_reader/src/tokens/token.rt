@@ -47,7 +47,7 @@ pub enum Token {
     /// A reference to cells of the formula's own sheet.
     Reference(MarkedArea),
     /// A reference to cells of the sheet with this title.
-    Elsewhere(Text, MarkedArea),
+    TitledReference(Text, MarkedArea),
     /// The name of a function; its opening bracket is the next token.
     Function(Text),
     /// A word that is none of these: a named range is called so, if any is.

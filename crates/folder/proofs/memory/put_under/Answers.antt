@@ -22,6 +22,6 @@ returns-in-Some c =
 pub returns-in_default : goal.returns-in_default
 returns-in_default c =
     absurd (is_within c.args.files.now.items c.args.name.now c.requires
-    (no_place c.args.files.now.items c.args.name.now c.place_of.result
-    (c.place_of.ensures ∙ ap (λ files. place_in files c.args.name.now) c.as_slice.ensures.value)
+    (no_place c.args.files.now.items c.args.name.now c.file_place.result
+    (c.file_place.ensures ∙ ap (λ files. place_in files c.args.name.now) c.as_slice.ensures.value)
     c.in_default.not-Some))

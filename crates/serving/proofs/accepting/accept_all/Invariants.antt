@@ -1,5 +1,5 @@
 use Rattle.std.proofs.Common.{◌≡◌, ◌≤◌, ◌-◌}
-use Rattle.sheets_http.specs.Outside.{StaysSteady}
+use Rattle.cell_value.specs.FaultCount.{StaysSteady}
 use Rattle.connections.specs.Calls.{IsAnswer}
 use Rattle.serving.specs.declared.accepting.Served.TheVariants as served
 use Rattle.serving.specs.Serving.{Stands}

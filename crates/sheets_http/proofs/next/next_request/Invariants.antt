@@ -1,5 +1,5 @@
 use Rattle.std.proofs.Common.{◌≡◌, ◌-◌, ◌≤◌, length}
-use Rattle.sheets_http.specs.Outside.{StaysSteady}
+use Rattle.cell_value.specs.FaultCount.{StaysSteady}
 use Rattle.sheets_http.specs.Requests.{room_of, stream_of, HoldsMessage}
 use Rattle.sheets_http.proofs.next.next_request.Given as goal
 

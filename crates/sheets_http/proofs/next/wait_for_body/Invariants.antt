@@ -1,7 +1,7 @@
 use Rattle.std.proofs.Common.{◌≡◌, ◌-◌, ◌≤◌, length, take}
 use Rattle.std.specs.Prelude.{Ok}
 use Rattle.sheets_http.specs.declared.scanned.Scanned.TheVariants as scanned
-use Rattle.sheets_http.specs.Outside.{StaysSteady}
+use Rattle.cell_value.specs.FaultCount.{StaysSteady}
 use Rattle.sheets_http.specs.Requests.{room_of, stream_of, HoldsMessage}
 use Rattle.sheets_http.specs.Buffering.{IsScanned}
 use Rattle.sheets_http.proofs.next.wait_for_body.Given as goal

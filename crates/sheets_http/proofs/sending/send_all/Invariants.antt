@@ -1,6 +1,6 @@
 use Rattle.std.proofs.Common.{◌≡◌, ◌-◌, ◌≤◌, ◌++◌, length, take}
 use Rattle.std.specs.Option.{option_map}
-use Rattle.sheets_http.specs.Outside.{StaysSteady}
+use Rattle.cell_value.specs.FaultCount.{StaysSteady}
 use Rattle.sheets_http.proofs.sending.send_all.Given as goal
 
 -- so far the first bytes were written, and neither count fell

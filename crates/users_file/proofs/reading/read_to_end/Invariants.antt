@@ -1,6 +1,6 @@
 use Rattle.std.proofs.Common.{◌≡◌, ◌≤◌, ◌-◌, ◌++◌, length}
 use Rattle.std.specs.Option.{option_map}
-use Rattle.sheets_http.specs.Outside.{StaysSteady}
+use Rattle.cell_value.specs.FaultCount.{StaysSteady}
 use Rattle.users_file.proofs.reading.read_to_end.Given as goal
 
 -- so far the bytes are what the file had in front

@@ -1,6 +1,6 @@
 use Rattle.std.proofs.Common.{sym, subst, ◌∙◌}
 use Rattle.std.specs.Option.{option_copied}
-use Rattle.cell_calc.specs.Calculated.{IsStoredFormula}
+use Rattle.cell_calc.specs.Contents.{IsStoredFormula}
 use Rattle.values_api.specs.Sheets.{stored_in}
 use Rattle.values_api.proofs.CellValues.{alone_in, formula_found}
 use Rattle.values_api.proofs.values.value_in.Goals as goal

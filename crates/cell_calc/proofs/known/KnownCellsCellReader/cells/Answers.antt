@@ -3,7 +3,7 @@ use Rattle.std.specs.Prelude.{flat_map, unwrap_or}
 use Rattle.std.proofs.lemmas.List.FromFn.{length-range_with_len}
 use Rattle.grid_range.specs.Band.{first_line, end_line}
 use Rattle.cell_calc.specs.Book.{lines_of}
-use Rattle.cell_calc.specs.Known.{cell_known, value_read}
+use Rattle.cell_calc.specs.Known.{cell_read, value_read}
 use Rattle.cell_calc.proofs.AreasLent.{area_filled, rows_long}
 use Rattle.cell_calc.proofs.known.KnownCellsCellReader.cells.Goals as goal
 
@@ -26,7 +26,7 @@ returns g c =
       columns = columns_are ∙ sym (length-range_with_len _ _);
       all = rows_long read area.sheet columns rows;
       filled = c.in_ok-filled.ensures
-          ∙ ap (λ n. flat_map (cell_known known area n) c.as_slice.result.now) columns_are
-          ∙ ap (flat_map (cell_known known area (end_line area.cols size.1 - first_line area.cols))) c.as_slice.ensures
-          ∙ area_filled contents known c.stay_sound.ensures area c.in_ok-places.places c.in_ok-places.ensures;
+          ∙ ap (λ n. flat_map (cell_read known area n) c.as_slice.result.now) columns_are
+          ∙ ap (flat_map (cell_read known area (end_line area.cols size.1 - first_line area.cols))) c.as_slice.ensures.value
+          ∙ area_filled contents known c.stay_sound.ensures area c.in_ok-stored.stored.items c.in_ok-stored.ensures;
     }

@@ -4,7 +4,7 @@ use Rattle.desk.specs.declared.entry.Entry.{Entry}
 use Rattle.desk.specs.Journal.{journal_text}
 use Rattle.desk.specs.declared.entry.Noted.{Noted}
 use Rattle.desk.specs.declared.entry.Noted.TheVariants as noted
-use Rattle.desk.specs.Noting.{piece_of, is_first, place_of, IsTornBehind, IsKept, IsMarked}
+use Rattle.desk.specs.Noting.{piece_of, is_first, journal_end, IsTornBehind, IsKept, IsMarked}
 use Rattle.desk.specs.Steps.{Outcome, entry_of, is_full, history_full}
 use Rattle.desk.specs.Histories.{IsAcceptedBehind}
 use Rattle.desk.specs.Points.{Telling, IsSound, entries_of, last_counted}
@@ -37,7 +37,7 @@ returns-then-self-total-clause-happens g c =
     c.reply.ensures.counts
 
 -- the place of the piece
-place_at : (g : given.Over) (c : goal.After-as_slice g) → c.if-first.at ≡ place_of (entries_of c.self.inside.list.items)
+place_at : (g : given.Over) (c : goal.After-as_slice g) → c.if-first.at ≡ journal_end (entries_of c.self.inside.list.items)
 place_at g c =
     let s = c.self.inside in let inv = c.self.invariant in
     elim c.if-first.branch [
@@ -63,7 +63,7 @@ overflow_add-self g c =
 
 -- the place, at the mark
 marked_place : (g : given.Over) (c : goal.After-drop-world-in-Marked-1 g)
-    → c.if-first.at ≡ place_of (entries_of c.self.inside.list.items)
+    → c.if-first.at ≡ journal_end (entries_of c.self.inside.list.items)
 marked_place g c =
     let s = c.self.inside in let inv = c.self.invariant in
     elim c.if-first.branch [
@@ -82,7 +82,7 @@ kept_state : (g : given.Over) (c : goal.After-drop-piece-inside-in-Kept-1 g)
 kept_state g c =
     let s = c.self.inside in let inv = c.self.invariant in let es = entries_of s.list.items in
     let p = c.in_ok-entry.ensures in let e = c.in_ok-entry.field-0.entry in
-    let place : c.if-first.at ≡ place_of es = elim c.if-first.branch [
+    let place : c.if-first.at ≡ journal_end es = elim c.if-first.branch [
       | then-first w ↦ place_first s.entries c.if-first.at es inv.entries_is w.if-first.true w.at-is
       | else-first w ↦ place_later s.entries c.if-first.at s.bytes es inv.entries_is w.if-first.false w.at-is
           inv.bytes_is

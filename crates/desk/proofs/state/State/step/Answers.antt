@@ -1,6 +1,6 @@
-use Rattle.std.proofs.Common.{ℕ, List, length, sym, ap, ◌∙◌, arith, inr}
+use Rattle.std.proofs.Common.{ℕ, List, length, sym, ap, ◌∙◌, arith}
 use Rattle.desk.specs.declared.entry.Noted.{Noted}
-use Rattle.desk.specs.Points.{entries_of, last_counted}
+use Rattle.desk.specs.Points.{as_out_of_memory, entries_of, last_counted}
 use Rattle.desk.proofs.Replies.{answered_happens, answered_cause}
 use Rattle.desk.proofs.state.State.step.Goals as goal
 
@@ -20,7 +20,7 @@ returns-in-Err-clause-happens g c =
     let t = c.args.self.now in let made = c.in-Err.ensures.unmade in
     record {
       at_is = c.reply.ensures.at ∙ ap (λ (l : List Noted). length (entries_of l)) made.list_is;
-      one_of = inr (inr (record {
+      comes_to = as_out_of_memory (record {
         status_is = c.reply.ensures.reply.0;
         body_is = c.reply.ensures.reply.1;
         item = made.list_is;
@@ -28,7 +28,7 @@ returns-in-Err-clause-happens g c =
             ∙ ap (λ (p : ℕ × ℕ). (last_counted p.1 c.answer.new.self.list, last_counted p.1 c.answer.new.self.list))
             c.answer.ensures.pair
             ∙ ap (λ (l : List Noted). (last_counted t.pair.1 l, last_counted t.pair.1 l)) made.list_is;
-      }));
+      });
     }
 
 pub returns-in-Err-clause-faults : goal.returns-in-Err-clause-faults

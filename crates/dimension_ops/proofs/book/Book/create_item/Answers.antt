@@ -19,12 +19,12 @@ abbrev before : After-create → PlaceBook
 before c = kept_book c.self.inside (map arc_value c.self.inside.sheets.items)
 
 abbrev made : After-create → ℕ → List Item → List Item
-made c id = with_one_more id c.args.key c.args.value c.args.spot c.args.sight
+made c id = with_one_more id c.args.key c.args.value c.args.spot c.args.visibility
 
 within : (c : After-create) (id : ℕ) → All (IsItemWithin (before c).sheets) (made c id c.self.inside.metadata)
 within c id =
     more_within (before c).sheets c.self.inside.metadata c.self.invariant.0.metadata id c.args.key c.args.value
-    c.args.spot c.args.sight
+    c.args.spot c.args.visibility
     (subst (λ (book : PlaceBook). IsSpotWithin book.sheets c.args.spot) (sym c.self.view_is) c.requires.within)
 
 pub invariant_of-self : goal.invariant_of-self

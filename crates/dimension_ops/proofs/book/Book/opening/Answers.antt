@@ -5,6 +5,7 @@ use Rattle.std.proofs.Common.{false}
 use Rattle.cell_store.specs.Table.{empty_table}
 use Rattle.world_model.specs.Sheet.{PlaceSheet}
 use Rattle.world_model.specs.Sound.{IsSound}
+use Rattle.dimension_ops.specs.declared.sheets.TheConstants.{DEFAULT_COLUMNS, DEFAULT_ROWS}
 use Rattle.dimension_ops.specs.World.{opening_sheet}
 use Rattle.dimension_ops.proofs.Marking.{as_book}
 use Rattle.dimension_ops.proofs.Opening.{opening_sound}
@@ -15,7 +16,7 @@ titled title = record {
   id = 0;
   title = title;
   hidden = false;
-  table = empty_table 1000 26;
+  table = empty_table DEFAULT_ROWS DEFAULT_COLUMNS;
   merges = [];
   filter = None;
 }

@@ -136,8 +136,8 @@ not_there sheets id row col None none is has =
     (none_from (λ (sheet : PlaceSheet). sheet.id == id) sheets 0 (sym is)) has
 
 no_default : (c : Joined-content) → ⊥
-no_default c = not_there c.args.self.now.sheets c.args.sheet c.args.row c.args.column c.place_of.result c.in_default.not-Some
-    (c.place_of.ensures
+no_default c = not_there c.args.self.now.sheets c.args.sheet c.args.row c.args.column c.sheet_place.result c.in_default.not-Some
+    (c.sheet_place.ensures
     ∙ ap (λ list. position_from (λ (sheet : PlaceSheet). sheet.id == c.args.sheet) 0 (map arc_value list)) c.deref.ensures.value
     ∙ ap (λ (book : PlaceBook). position_from (λ (sheet : PlaceSheet). sheet.id == c.args.sheet) 0 book.sheets) c.self.view_is)
     c.requires.there

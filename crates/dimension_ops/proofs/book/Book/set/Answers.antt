@@ -88,6 +88,6 @@ returns-in_ok-set_shared-clause-set c = after c
 
 pub returns-in_default-clause-set : goal.returns-in_default-clause-set
 returns-in_default-clause-set c = absurd (has_place c.deref.result.now c.self.inside.sheets.items c.args.sheet
-    c.place_of.result c.in_default.not-Some c.deref.ensures.value c.place_of.ensures
+    c.sheet_place.result c.in_default.not-Some c.deref.ensures.value c.sheet_place.ensures
     (subst (λ (book : PlaceBook). IsSome (place_sheet_with c.args.sheet book.sheets)) (sym c.self.view_is)
     c.requires.there))

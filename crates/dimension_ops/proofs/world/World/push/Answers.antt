@@ -2,6 +2,7 @@ use Rattle.std.proofs.Common.{◌≡◌, ◌<◌, sym, ap, subst, ◌∙◌, map
 use Rattle.std.specs.Arc.{arc_value}
 use Rattle.std.proofs.lemmas.List.{length-map, map-append}
 use Rattle.world_model.specs.Book.{PlaceBook}
+use Rattle.dimension_ops.specs.declared.creating.TheConstants.{MOST_BOOKS}
 use Rattle.dimension_ops.specs.Creating.{book_id}
 use Rattle.dimension_ops.specs.World.{AreNumbered}
 use Rattle.dimension_ops.proofs.Making.{numbered_more}
@@ -15,7 +16,7 @@ invariant_of-self-in-Ok c =
     ap (map arc_value) c.in_ok-push-in-Ok.ensures.items
     ∙ map-append arc_value c.self.inside.books.items (c.in-Ok.shared ∷ [])
     ∙ ap (λ (book : PlaceBook). before ++ book ∷ []) c.in-Ok.ensures.shared in
-    let few = subst (λ (books : List PlaceBook). length books < 1000) (sym c.self.view_is) c.requires.few in
+    let few = subst (λ (books : List PlaceBook). length books < MOST_BOOKS) (sym c.self.view_is) c.requires.few in
     let long = ap length pushed ∙ length-append before (c.args.book ∷ []) in
     let same = length-map c.push.new.self.items arc_value in (
       subst AreNumbered (sym pushed)

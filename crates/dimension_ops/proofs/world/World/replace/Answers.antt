@@ -63,13 +63,13 @@ invariant_of-self c =
           c.self.invariant.1,
     )
 
-pub returns-after-place_of-clause-replaced : goal.returns-after-place_of-clause-replaced
-returns-after-place_of-clause-replaced c =
+pub returns-after-book_place-clause-replaced : goal.returns-after-book_place-clause-replaced
+returns-after-book_place-clause-replaced c =
     let own : c.as_str.result.now ≡ c.args.book.id =
     c.as_str.ensures
     ∙ c.id.ensures
     ∙ ap (λ (book : PlaceBook). book.id) (c.deref-in-Ok.ensures ∙ c.in-Ok.ensures.shared) in
-    elim c.match-place_of.branch [
+    elim c.match-book_place.branch [
       | in-Some w ↦
           let at = found_at (has_its_id c.args.book) (map arc_value c.self.inside.books.items) w.in-Some.place
           (place_is c.deref.result.now c.self.inside.books.items c.as_str.result.now c.args.book (Some w.in-Some.place)
@@ -79,17 +79,17 @@ returns-after-place_of-clause-replaced c =
           c.self.invariant.0 c.self.invariant.1 at c.in-Ok.ensures.shared
           ∙ ap (book_replaced c.args.book) c.self.view_is
       | in_default w ↦
-          absurd (not_there c.args.self.now c.args.book c.place_of.result w.in_default.not-Some
+          absurd (not_there c.args.self.now c.args.book c.book_place.result w.in_default.not-Some
           (ap (position_from (has_its_id c.args.book) 0) (sym c.self.view_is)
-          ∙ place_is c.deref.result.now c.self.inside.books.items c.as_str.result.now c.args.book c.place_of.result
-          c.deref.ensures.value own c.place_of.ensures)
+          ∙ place_is c.deref.result.now c.self.inside.books.items c.as_str.result.now c.args.book c.book_place.result
+          c.deref.ensures.value own c.book_place.ensures)
           c.requires.there)
     ]
 
-pub returns-after-place_of-clause-names : goal.returns-after-place_of-clause-names
-returns-after-place_of-clause-names c = record {
+pub returns-after-book_place-clause-names : goal.returns-after-book_place-clause-names
+returns-after-book_place-clause-names c = record {
   replaced = λ world names next stands is below less.
       subst (λ books. WorldStandsFor books (world_replaced names next world))
-      (sym (returns-after-place_of-clause-replaced c))
+      (sym (returns-after-book_place-clause-replaced c))
       (c.replacements_follow.ensures.follows c.args.self.now world c.args.book names next stands is below less);
 }

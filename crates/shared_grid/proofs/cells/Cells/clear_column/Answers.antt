@@ -2,6 +2,7 @@ use Rattle.std.proofs.Common.{◌≤◌, ℕ, length, sym, ap, subst, arith}
 use Rattle.shared_map.specs.Map.{AreKeysWithin}
 use Rattle.shared_grid.specs.Cells.{key_of, HasMarks}
 use Rattle.shared_grid.proofs.Cleared.{none_taken, one_taken, column_cleared, at_column}
+use Rattle.shared_grid.proofs.Keys.{as_keys}
 use Rattle.shared_grid.proofs.cells.Cells.clear_column.Goals as goal
 
 pub loop-mark-init : goal.loop-mark-init
@@ -25,6 +26,6 @@ returns-clause-cleared g c =
     column_cleared c.args.self.now c.loop-mark.self c.self.inside.marks
     (subst (λ items. HasMarks items c.self.inside.marks) c.self.view_is c.self.invariant) c.args.column c.key.result
     c.key-2.result c.as_slice-mark-items.result.now c.loop-mark.mark-index (omega arith) c.key.ensures c.key-2.ensures all
-    (subst (AreKeysWithin c.key.result c.key-2.result c.self.inside.marks) (sym c.as_slice-mark-items.ensures)
-    c.in_ok-marks.ensures)
+    (subst (AreKeysWithin c.key.result c.key-2.result c.self.inside.marks) (sym c.as_slice-mark-items.ensures.value)
+    (as_keys (AreKeysWithin c.key.result c.key-2.result c.self.inside.marks) c.in_ok-marks.marks.items c.in_ok-marks.ensures))
     c.loop-mark.invariant.taken

@@ -23,5 +23,5 @@ returns-clause-cleared g c =
     let keys = c.as_slice-key-items.result.now in
     let all : length c.as_slice-key-items.result.now ≤ c.loop-key.key-index = omega (arith, c.loop-key-test.false) in
     row_cleared c.args.self.now c.loop-key.self c.args.row keys c.loop-key.key-index (omega arith) all
-    (subst (AreKeysOnRow c.args.row c.args.self.now) (sym c.as_slice-key-items.ensures) c.in_ok-keys.ensures)
+    (subst (AreKeysOnRow c.args.row c.args.self.now) (sym c.as_slice-key-items.ensures.value) c.in_ok-keys.ensures)
     c.loop-key.invariant.taken
