@@ -16,7 +16,7 @@ use Rattle.a1_notation.specs.Column.{IsColumn}
 use Rattle.a1_notation.specs.Area.{IsCorner, IsOneCell, IsBetween, IsTwoCorners, IsArea, IsRow, area_between, lines_between}
 use Rattle.a1_notation.specs.Room.{HasNext, HasRoom}
 use Rattle.a1_notation.specs.Capped.{IsCappedCorner, capped_corner, capped_band, IsCappedBetween, IsCappedArea, ArePastZZZ}
-use Rattle.a1_notation.proofs.OneRun.{one_front, passes_weaker}
+use Rattle.a1_notation.specs.OneRun.{one_front, passes_weaker}
 use Rattle.a1_notation.proofs.ColumnLetters.{letters_value_bounds, column_is_small}
 use Rattle.a1_notation.proofs.RowNumbers.{row_is_small}
 use Rattle.a1_notation.proofs.Corners.{IsCorner_unique, corner_bytes}
@@ -95,7 +95,8 @@ corner_weaker most more text (Row row) le is = is
 lines_capped : (a b : ℕ) → lines_between (min a NAMED_COLUMNS) (min b NAMED_COLUMNS) ≡ capped_band (lines_between a b)
 lines_capped a b =
     let low : min (min a NAMED_COLUMNS) (min b NAMED_COLUMNS) ≡ min (min a b) NAMED_COLUMNS = omega arith in
-    let high : max (min a NAMED_COLUMNS) (min b NAMED_COLUMNS) + 1 ≡ min (max a b + 1) (NAMED_COLUMNS + 1) = omega arith in
+    let high : max (min a NAMED_COLUMNS) (min b NAMED_COLUMNS) + 1 ≡ min (max a b + 1) (NAMED_COLUMNS + 1) =
+    omega arith in
     rw (low, high) refl
 
 abbrev pub capped_area : Option (Band × Band) → Option (Band × Band)

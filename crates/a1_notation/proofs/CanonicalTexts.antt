@@ -18,7 +18,7 @@ use Rattle.a1_notation.specs.Range.{Names}
 use Rattle.a1_notation.specs.Canonical.{IsStretch, cell_text, area_text, canonical, is_one_line}
 use Rattle.a1_notation.proofs.ColumnLetters.{letters_name_column}
 use Rattle.a1_notation.proofs.RowNumbers.{number_names_row}
-use Rattle.a1_notation.proofs.OneRun.{passes_weaker}
+use Rattle.a1_notation.specs.OneRun.{passes_weaker}
 
 -- a cell's text is that cell
 pub cell_text_is : (row column : ℕ) → row < NUMBERED_ROWS → column < NAMED_COLUMNS

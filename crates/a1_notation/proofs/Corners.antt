@@ -15,7 +15,7 @@ use Rattle.a1_notation.specs.Capped.{IsCappedCorner}
 use Rattle.a1_notation.specs.Run.{IsRun}
 use Rattle.a1_notation.proofs.Runs.{run_is_front}
 use Rattle.a1_notation.proofs.RowNumbers.{digit_is_digit, all_digits}
-use Rattle.a1_notation.proofs.OneRun.{passes_weaker}
+use Rattle.a1_notation.specs.OneRun.{passes_weaker}
 use Rattle.a1_notation.proofs.ColumnLetters.{letters_value_bounds}
 
 -- a digit is no letter

@@ -81,7 +81,8 @@ capped_from_column text capped column counted is =
 -- the counting itself
 pub capped_more : (text : List ℕ) (i number upper : ℕ) → list_all is_ascii_alphabetic text ≡ true → i < length text
     → number ≡ min (letters_value (take i text)) (NAMED_COLUMNS + 1) → upper ≡ to_ascii_uppercase (get_or text i 0)
-    → min (26 * number + (upper - 65 + 1)) (NAMED_COLUMNS + 1) ≡ min (letters_value (take (i + 1) text)) (NAMED_COLUMNS + 1)
+    → min (26 * number + (upper - 65 + 1)) (NAMED_COLUMNS + 1)
+    ≡ min (letters_value (take (i + 1) text)) (NAMED_COLUMNS + 1)
 capped_more text i number upper all h so_far e =
     let more = letters_value-more text i h in
     let bounds = letter_value_bounds (get_or text i 0) (is_letter_at text i all h) in
@@ -105,7 +106,8 @@ pub record AnswersColumn (text : List ℕ) (answer : Option ℕ) : Type 0 where
   pub upper_case : IfSome answer (λ column. column_letters column ≡ map to_ascii_uppercase text)
 
 pub answers_column : (text : List ℕ) (capped : ℕ) (answer : Option ℕ) → list_all is_ascii_alphabetic text ≡ true
-    → 0 < length text → capped + 1 ≡ min (letters_value text) (NAMED_COLUMNS + 1) → answer ≡ then_some (ltb capped NAMED_COLUMNS) capped
+    → 0 < length text → capped + 1 ≡ min (letters_value text) (NAMED_COLUMNS + 1) → answer
+    ≡ then_some (ltb capped NAMED_COLUMNS) capped
     → AnswersColumn text answer
 answers_column text capped answer all some counted e = record {
   column =
@@ -115,7 +117,8 @@ answers_column text capped answer all some counted e = record {
     λ found. record {
       all = all;
       some = some;
-      few = (column_from_capped text capped all some counted (ltb-true capped NAMED_COLUMNS (test.0 found))).letters.few;
+      few = (column_from_capped text capped all some counted
+          (ltb-true capped NAMED_COLUMNS (test.0 found))).letters.few;
     },
     λ are. elim (letters_value_bounds text all some).1 [
       | inl few ↦ test.1 (lt-ltb capped NAMED_COLUMNS (omega (arith, few.1)))
@@ -127,5 +130,6 @@ answers_column text capped answer all some counted e = record {
   upper_case =
       IfSome_then_some (ltb capped NAMED_COLUMNS) capped answer
       (λ column. column_letters column ≡ map to_ascii_uppercase text) e
-      (λ h. upper_case_letters text capped (column_from_capped text capped all some counted (ltb-true capped NAMED_COLUMNS h)));
+      (λ h. upper_case_letters text capped
+      (column_from_capped text capped all some counted (ltb-true capped NAMED_COLUMNS h)));
 }

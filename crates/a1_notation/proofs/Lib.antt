@@ -2,7 +2,6 @@ pub mod ColumnLetters
 pub mod RowNumbers
 pub mod CanonicalTexts
 pub mod QuoteEnds
-pub mod OneRun
 pub mod Runs
 pub mod Quotes
 pub mod Letters

@@ -19,7 +19,7 @@ use Rattle.a1_notation.specs.Title.{is_loose, IsLoose}
 use Rattle.a1_notation.specs.Quoted.{quoted, IsUpToQuote}
 use Rattle.a1_notation.specs.Area.{IsCorner, IsArea}
 use Rattle.a1_notation.specs.Range.{IsWord, NamesPart, Names, IsNotA1, IsPastZZZ, IsReading, IsUnlessNoMemory}
-use Rattle.a1_notation.proofs.OneRun.{passes_weaker}
+use Rattle.a1_notation.specs.OneRun.{passes_weaker}
 use Rattle.a1_notation.proofs.Corners.{corner_bytes}
 use Rattle.a1_notation.proofs.Areas.{split_unique, absent, other_than, area_unique}
 use Rattle.a1_notation.proofs.QuoteEnds.{up_to_quote_is_one}

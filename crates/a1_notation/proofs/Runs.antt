@@ -13,7 +13,7 @@ use Rattle.a1_notation.specs.declared.class.Class.{Class}
 use Rattle.a1_notation.specs.declared.class.Class.TheVariants.{Letter, Digit, InWord, Blank}
 use Rattle.a1_notation.specs.Class.{class_test}
 use Rattle.a1_notation.specs.Run.{IsRun}
-use Rattle.a1_notation.proofs.OneRun.{run_is_one}
+use Rattle.a1_notation.specs.OneRun.{run_is_one}
 
 -- the run that a text begins with
 pub first_run : (class : ℕ → Bool) (text : List ℕ)

@@ -1,4 +1,5 @@
 pub mod Run
+pub mod OneRun
 pub mod Word
 pub mod Class
 pub mod Column

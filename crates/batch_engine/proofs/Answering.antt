@@ -1,6 +1,6 @@
 -- Each call that looks at a spreadsheet has an answer, and so has one that empties the cells of a range.
-use Rattle.std.proofs.Common.{◌≡◌, inl, inr, ℕ, zero, suc, ◌+◌, ◌-◌, ◌<◌, ◌≤◌, Bool, true, false, List, [], ◌∷◌, ◌++◌, length, map, get_or, refl, ap, sym, subst, ◌∙◌, arith}
-use Rattle.std.specs.Prelude.{IsTrue, Option, Some, None, unwrap_or, filter, flat_map, Result, Ok, Err, IfOk, IfSome, IsSomeAnd}
+use Rattle.std.proofs.Common.{◌≡◌, inl, inr, ℕ, zero, suc, ◌+◌, ◌-◌, ◌<◌, ◌≤◌, Bool, true, false, List, [], ◌∷◌, length, map, get_or, refl, ap, sym, subst, ◌∙◌, arith}
+use Rattle.std.specs.Prelude.{IsTrue, Option, Some, None, unwrap_or, flat_map, Result, Ok, Err, IfOk, IfSome, IsSomeAnd}
 use Rattle.std.specs.List.{All, AllZip, range_with_len}
 use Rattle.std.specs.Option.{IsSome, option_map_or}
 use Rattle.std.proofs.lemmas.Bool.{false≢true, cases_lt}
@@ -17,11 +17,10 @@ use Rattle.grid_range.specs.declared.area.Area.{Area}
 use Rattle.grid_range.specs.declared.axis.Axis.{Axis}
 use Rattle.dev_metadata.specs.Listed.{AreIdsInOrder, found, found_by_some}
 use Rattle.dev_metadata.specs.Order.{HaveOrder}
-use Rattle.dev_metadata.specs.declared.types.Item.{Item}
 use Rattle.cell_calc.specs.Book.{Place}
 use Rattle.cell_calc.specs.Calculated.{IsValueIn}
 use Rattle.world_model.specs.Book.{PlaceBook}
-use Rattle.world_model.specs.BookChange.{AreChanges, BookChange}
+use Rattle.world_model.specs.BookChange.{BookChange}
 use Rattle.world_model.specs.ChangingLaws.{ChangesInTurn, UpdatesAreChanges}
 use Rattle.world_model.specs.Sheet.{PlaceSheet}
 use Rattle.world_model.specs.Sound.{IsItemWithin, IsSound, place_sheet_with}
@@ -45,24 +44,24 @@ use Rattle.sheets_json.specs.declared.answer.MatchedRange.{MatchedRange}
 use Rattle.sheets_json.specs.declared.answer.ShownRange.{ShownRange}
 use Rattle.sheets_json.specs.declared.call.Call.{Call}
 use Rattle.sheets_json.specs.declared.call.Call.TheVariants as call
-use Rattle.sheets_json.specs.declared.place.Place.{Place as CallPlace}
 use Rattle.sheets_json.specs.declared.place.Place.TheVariants as place
 use Rattle.sheets_json.specs.declared.spreadsheet.DimensionProperties.{DimensionProperties}
 use Rattle.sheets_json.specs.declared.spreadsheet.GridData.{GridData}
-use Rattle.request_kinds.specs.FoundLaws.{some_and}
+use Rattle.values_api.specs.FoundLaws.{some_and}
 use Rattle.request_kinds.specs.Metadata.{broken_by_lookups, items_seen, lookup_of, lookups_of}
 use Rattle.request_kinds.specs.Rows.{area_or_broken, broken_by_area, cut_or_broken}
 use Rattle.request_kinds.specs.TellingLaws.{update_made}
 use Rattle.batch_engine.specs.Answered.{HasNoAnswer, LooksAnswered, looks_or_clears}
-use Rattle.batch_engine.specs.Calls.{AreMade, HasItsBook, IsAlone, IsAnswered, IsClearManyOf, IsClearOf, IsItemOf, IsLookOf, IsReadFilteredOf, IsReadManyOf, IsReadOf, IsSearchOf, OnBook, Refusal, alone, answered_at, answered_by, effect_of, effect_on, told_of}
+use Rattle.batch_engine.specs.Calls.{HasItsBook, IsAlone, IsAnswered, IsClearManyOf, IsClearOf, IsItemOf, IsLookOf, IsReadFilteredOf, IsReadManyOf, IsReadOf, IsSearchOf, OnBook, Refusal, alone, answered_at, answered_by}
 use Rattle.batch_engine.specs.Effects.{Effect}
 use Rattle.batch_engine.specs.Effects.Effect.{Nothing}
 use Rattle.batch_engine.specs.Filtered.{AreAreasLookedUp, AreAreasOf, AreFilterShown, AreShownBy, IsShownAs, Showing, alone_or_broken, area_found, areas_of_items, matched_range}
 use Rattle.batch_engine.specs.HiddenRows.{AreRowsTold, IsAskedValue, IsHidden, IsHiddenIf, can_hide, is_told_hidden, row_told}
 use Rattle.batch_engine.specs.Looks.{IsGridShown, spreadsheet_with, with_rows}
-use Rattle.batch_engine.specs.Members.{InOrder, InTurn, ToldOfAll, with_first}
+use Rattle.batch_engine.specs.MadeLaws.{CanBeMade, no_on_range, some_alone, some_made, some_made_alone, some_sound}
+use Rattle.batch_engine.specs.Members.{InOrder, ToldOfAll, with_first}
 use Rattle.batch_engine.specs.Searches.{asked_or_broken, item_told, search_answer}
-use Rattle.batch_engine.specs.Values.{IsClear, IsCleared, IsRead, IsShown, OnRange, done, refused, axis_or_rows, clear, is_columns, render_or_formatted, rule_of, shown_range}
+use Rattle.batch_engine.specs.Values.{IsClear, IsCleared, IsRead, IsShown, axis_or_rows, clear, is_columns, render_or_formatted, rule_of, shown_range}
 use Rattle.batch_engine.specs.declared.calls.Caller.{Caller}
 use Rattle.batch_engine.proofs.Filtering.{items_there, seen_hold}
 use Rattle.batch_engine.proofs.HiddenRows.{behind_last}
@@ -70,34 +69,12 @@ use Rattle.batch_engine.proofs.Once.{found_sound}
 
 -- ---- parts of calls
 
--- what is told can be made
-abbrev CanBeMade : {A : Type 0} → PlaceBook → Result (A × List BookChange) Rule → Type 0
-CanBeMade book told = IfOk told (λ done. (after : PlaceBook) × AreChanges done.1 book after)
+-- a sheet is there
+found_there : (sheet : Option PlaceSheet) → IsSome sheet → IsSomeAnd sheet (λ sheet. Unit {0})
+found_there None some = absurd (false≢true some)
+found_there (Some sheet) some = tt
 
--- what is on a range, and what holds of it
-module _ {A : Type 0} (Found : Result FoundArea Rule → Type 0) (sheets : List PlaceSheet)
-    (IsDone : FoundArea → PlaceSheet → Result A Rule → Type 0) (Holds : Result A Rule → Type 0)
-    (finds : ¬ ((one : Result FoundArea Rule) → ¬ (Found one)))
-    (there : (one : FoundArea) → Found (Ok one) → IsSome (place_sheet_with one.0.sheet sheets))
-    (refuses : (broken : Rule) → Holds (Err broken))
-    (each : (one : FoundArea) (sheet : PlaceSheet) → place_sheet_with one.0.sheet sheets ≡ Some sheet
-    → ¬ ((told : Result A Rule) → IsDone one sheet told → ¬ (Holds told)))
-    (none : (told : Result A Rule) → OnRange Found sheets IsDone told → ¬ (Holds told)) where
-  no_sheet : (one : FoundArea) → Found (Ok one) → (sheet : Option PlaceSheet)
-      → place_sheet_with one.0.sheet sheets ≡ sheet → ¬ (IsSome sheet)
-  no_sheet one is None at some = false≢true some
-  no_sheet one is (Some sheet) at some =
-      each one sheet at (λ told does holds. none told (done one sheet is at does) holds)
-
-  no_range : (one : Result FoundArea Rule) → ¬ (Found one)
-  no_range (Ok one) is = no_sheet one is (place_sheet_with one.0.sheet sheets) refl (there one is)
-  no_range (Err broken) is = none (Err broken) (refused broken is refl) (refuses broken)
-
-  no_on_range : ⊥
-  no_on_range = finds no_range
-
--- members in order
--- one member before others
+-- members in order: one before others
 some_then : {M A : Type 0} (Is : M → Result A Rule → Type 0) (at : ℕ) (member : M) (members : List M)
     → ¬ ((told : ToldOfAll A) → ¬ (InOrder Is (at + 1) members told))
     → ((told : ToldOfAll A) → ¬ (InOrder Is at (member ∷ members) told)) → (one : Result A Rule) → ¬ (Is member one)
@@ -111,47 +88,6 @@ some_in_order : {M A : Type 0} (Is : M → Result A Rule → Type 0)
 some_in_order Is each at [] none = none (Ok []) refl
 some_in_order Is each at (member ∷ members) none =
     each member (some_then Is at member members (some_in_order Is each (at + 1) members) none)
-
--- members one after another, each of which can be made
-module _ {M A : Type 0} (turns : ChangesInTurn) (Is : PlaceBook → M → Result (A × List BookChange) Rule → Type 0)
-    (each : (book : PlaceBook) → IsSound book → (member : M)
-    → ¬ ((one : Result (A × List BookChange) Rule) → Is book member one → ¬ (CanBeMade book one))) where
-  -- nothing that is told of members and made by them is possible
-  abbrev HasNoTurn : ℕ → List M → PlaceBook → Type 0
-  HasNoTurn at members book = (told : ToldOfAll A) (changes : List BookChange) → ¬ (InTurn Is at members book told changes)
-
-  some_before : (at : ℕ) (member : M) (members : List M) (book : PlaceBook) → IsSound book
-      → ((after : PlaceBook) → IsSound after → ¬ (HasNoTurn (at + 1) members after))
-      → HasNoTurn at (member ∷ members) book → (one : Result (A × List BookChange) Rule) → Is book member one
-      → ¬ (CanBeMade book one)
-  some_before at member members book sound later none (Ok (first, made)) is (after, changed) =
-      later after (turns.sound made book after sound changed) (λ rest others are.
-      none (with_first first rest) (made ++ others)
-      (Ok (first, made), is, (after, rest, others, changed, are, refl, refl)))
-  some_before at member members book sound later none (Err broken) is can =
-      none (Err (at, broken)) [] (Err broken, is, (refl, refl))
-
-  some_in_turn : (at : ℕ) (members : List M) (book : PlaceBook) → IsSound book → ¬ (HasNoTurn at members book)
-  some_in_turn at [] book sound none = none (Ok []) [] (refl, refl)
-  some_in_turn at (member ∷ members) book sound none =
-      each book sound member
-      (some_before at member members book sound (λ after still. some_in_turn (at + 1) members after still) none)
-
-  some_made : (members : List M) (at : ℕ → CallPlace) (answer_of : List A → Answer) (book : PlaceBook) → IsSound book
-      → ¬ (HasNoAnswer (AreMade Is members at answer_of book))
-  some_made members at answer_of book sound none = some_in_turn 0 members book sound (λ all changes each.
-      none (answered_at at answer_of all) (effect_of book all changes) (record {
-        all = all;
-        changes = changes;
-        each = each;
-        told_is = refl;
-        effect_is = refl;
-      }))
-
-some_alone : (Answered : Result Answer Rule → Effect → Type 0) → ¬ (HasNoAnswer Answered)
-    → ¬ (HasNoAnswer (IsAlone Answered))
-some_alone Answered some none = some (λ judged effect is.
-    none (alone judged) effect (record { judged = judged; answered = is; told_is = refl }))
 
 -- ---- rows that filters hide
 
@@ -299,8 +235,9 @@ module _ (reads : ReadsAnswered) (order : HaveOrder) (book : PlaceBook) (sound :
       → ¬ ((told : Result ShownRange Rule) → ¬ (IsShown dimension render book range told))
   some_shown dimension render range none =
       no_on_range (Resolves range book) book.sheets (IsRead book dimension render) (λ told. Unit {0})
-      (reads.resolves range book) (λ one names. reads.there range book one sound names) (λ broken. tt)
-      (λ one sheet at none. some_read dimension render one sheet (λ told is. none told is tt))
+      (λ one sheet. Unit {0}) (reads.resolves range book)
+      (λ one names. found_there (place_sheet_with one.0.sheet book.sheets) (reads.there range book one sound names))
+      (λ broken. tt) (λ one sheet at here none. some_read dimension render one sheet (λ told is. none told is tt))
       (λ told is holds. none told is)
 
   some_shown_as : (how : Showing) (area : Area) → IsHere area
@@ -440,9 +377,11 @@ module _ (reads : ReadsAnswered) (order : HaveOrder) (book : PlaceBook) (sound :
     some_cleared : (range : Reading (List ℕ))
         → ¬ ((told : Result (List ℕ × List BookChange) Rule) → IsCleared user book range told → ¬ (CanBeMade book told))
     some_cleared (Ok range) none =
-        no_on_range (Resolves range book) book.sheets (IsClear user book) (CanBeMade book) (reads.resolves range book)
-        (λ one names. reads.there range book one sound names) (λ broken. tt)
-        (λ one sheet at nothing. some_denial user book (AreaCells book.sheets one.0) (λ denied is_denied.
+        no_on_range (Resolves range book) book.sheets (IsClear user book) (CanBeMade book)
+        (λ one sheet. Unit {0}) (reads.resolves range book)
+        (λ one names. found_there (place_sheet_with one.0.sheet book.sheets) (reads.there range book one sound names))
+        (λ broken. tt)
+        (λ one sheet at here nothing. some_denial user book (AreaCells book.sheets one.0) (λ denied is_denied.
         nothing (unless_denied denied (Ok (clear one sheet))) (record {
           denied = denied;
           is_denied = is_denied;
@@ -453,9 +392,9 @@ module _ (reads : ReadsAnswered) (order : HaveOrder) (book : PlaceBook) (sound :
     some_cleared (Err shape) none = none (Err (rule_of shape)) refl tt
 
     some_clear : (range : List ℕ) → ¬ (HasNoAnswer (IsClearOf user range book))
-    some_clear range none = some_cleared (Ok range) (λ one is can.
-        none (answered_by (λ text. answer.Clear text book.id) (told_of one)) (effect_on book one)
-        (record { one = one; is = is; told_is = refl; effect_is = refl }))
+    some_clear range =
+        some_made_alone (IsCleared user book (Ok range)) (λ text. answer.Clear text book.id) book
+        (some_cleared (Ok range))
 
   -- the ids that a search finds
   searched : (project : List ℕ) (asked : ToldOfAll MetadataLookup)
@@ -512,8 +451,9 @@ module _ (reads : ReadsAnswered) (order : HaveOrder) (empty : AreasEmpty) (updat
         (λ book sound. some_read_many reads order book sound ranges dimension render) has
     some_answered (call.ClearMany id ranges) is has =
         on_book id (IsClearManyOf caller.user ranges)
-        (λ book sound. some_made turns (IsCleared caller.user)
-        (λ book sound. some_cleared reads order book sound empty updates caller.user) ranges place.Ranges
+        (λ book sound. some_made IsSound (IsCleared caller.user)
+        (λ book sound range. some_sound turns book sound (IsCleared caller.user book range)
+        (some_cleared reads order book sound empty updates caller.user range)) ranges place.Ranges
         (λ texts. answer.ClearMany texts book.id) book sound) has
     some_answered (call.ReadFiltered id filters dimension render) is has =
         on_book id (IsReadFilteredOf caller.project filters (record { dimension = dimension; render = render }))

@@ -112,7 +112,8 @@ becomes_changed id changes books next before after found changed replaced = reco
       let made = changed.names named (record { stands = meant.stands; called = meant.below }) in
       subst
       (λ one. WorldStandsFor next (option_map_or
-      (λ (book : NameBook). with_named (changed_by_all (record { book = book; next = world.next }) changes) world) one world))
+      (λ (book : NameBook). with_named (changed_by_all (record { book = book; next = world.next }) changes)
+      world) one world))
       (sym meant.is)
       (replaced.replaced world (changed_by_all named changes).book (changed_by_all named changes).next stands
       made.stands made.called (names_grow changes named));

@@ -15,7 +15,8 @@ use Rattle.std.proofs.lemmas.Map.Made.{is_member-Decides, length-from_keys}
 use Rattle.batch_engine.specs.Calls.{same_line}
 
 module _ {K : Type 0} {R : K → K → Ordering} (o : IsTotalOrder R) {E : K → K → Bool}
-    (ties : (x y : K) → E x y ≡ eq_by_cmp R x y) (laws : IsEquivalence E) (same : (x y : K) → Decides (E x y) (x ≡ y)) where
+    (ties : (x y : K) → E x y ≡ eq_by_cmp R x y) (laws : IsEquivalence E)
+    (same : (x y : K) → Decides (E x y) (x ≡ y)) where
   member_same : (xs : List K) (q : K) → is_member E xs q ≡ is_member (eq_by_cmp R) xs q
   member_same [] q = refl
   member_same (x ∷ xs) q =

@@ -51,7 +51,8 @@ module _ (reads : ReadsOnce) (how : Showing) (book : PlaceBook) (sound : IsSound
   shown_on_once area (Some sheet) one other (lines, are, is) (lines', are', is') =
       is
       ∙ ap (shown_range (axis_or_rows how.dimension) area sheet)
-      (reads.once book area (is_columns (axis_or_rows how.dimension)) (render_or_formatted how.render) sheet lines lines'
+      (reads.once book area (is_columns (axis_or_rows how.dimension)) (render_or_formatted how.render) sheet
+      lines lines'
       sound are are')
       ∙ sym is'
 
@@ -78,7 +79,8 @@ module _ (reads : ReadsOnce) (how : Showing) (book : PlaceBook) (sound : IsSound
 
   module _ (one_reading : HasOneReading) (project : List ℕ) where
     looked_up_once : (asked : MetadataLookup) (broken : Option Rule) (one other : Result (List Area) Rule)
-        → AreAreasLookedUp project asked book broken one → AreAreasLookedUp project asked book broken other → one ≡ other
+        → AreAreasLookedUp project asked book broken one → AreAreasLookedUp project asked book broken other
+        → one ≡ other
     looked_up_once asked None one other is is' =
         is.areas_are
         ∙ ap (λ ids. Ok (areas_of_items (items_seen project ids book.metadata)))
@@ -91,7 +93,8 @@ module _ (reads : ReadsOnce) (how : Showing) (book : PlaceBook) (sound : IsSound
     areas_once (filter.DeveloperMetadataLookup asked) one other is is' =
         looked_up_once asked (first_broken (broken_by_lookups book.sheets (asked ∷ []))) one other is is'
     areas_once (filter.A1Range text) one other (found, names, is) (found', names', is') =
-        is ∙ ap (λ found. alone_or_broken (area_found found)) (resolves_once one_reading text book found found' names names')
+        is ∙ ap (λ found. alone_or_broken (area_found found))
+        (resolves_once one_reading text book found found' names names')
         ∙ sym is'
     areas_once (filter.GridRange area) one other is is' = is ∙ sym is'
 

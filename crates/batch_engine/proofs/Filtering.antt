@@ -1,5 +1,5 @@
 -- What data filters show, from what each step says.
-use Rattle.std.proofs.Common.{◌≡◌, ◌+◌, ◌<◌, ◌≤◌, ◌++◌, ℕ, false, refl, sym, ap, subst, ◌∙◌, List, [], ◌∷◌, All, length, get_or, take, arith}
+use Rattle.std.proofs.Common.{◌≡◌, ◌+◌, ◌<◌, ◌≤◌, ◌++◌, ℕ, refl, sym, ap, subst, ◌∙◌, List, [], ◌∷◌, All, length, get_or, take, arith}
 use Rattle.std.specs.Prelude.{◌==◌, ◌&&◌, map, flat_map, Option, None, Some, IsSomeAnd, IfSome, Result, Ok, Err}
 use Rattle.std.specs.List.{AllZip, cons_option}
 use Rattle.std.specs.Option.{IsSome}
@@ -37,7 +37,7 @@ use Rattle.sheets_json.specs.declared.answer.ShownRange.{ShownRange}
 use Rattle.request_kinds.specs.Dimensions.{whole_sheet}
 use Rattle.request_kinds.specs.Metadata.{AreIdsFound, broken_by_lookups, items_seen}
 use Rattle.request_kinds.specs.Rows.{area_or_broken}
-use Rattle.request_kinds.specs.FoundLaws.{found_holds, sheet_sound, some_and}
+use Rattle.values_api.specs.FoundLaws.{holds_of_found, some_and, sound_sheet}
 use Rattle.batch_engine.specs.Filtered.{AreAllShown, AreAreasLookedUp, AreAreasOf, AreAreasShown, AreFilterShown, AreShownBy}
 use Rattle.batch_engine.specs.Filtered.{IsShownAs, Showing, alone_or_broken, area_of_spot, areas_of_items, matched_range}
 use Rattle.batch_engine.proofs.Judging.{SoFar, all_told, broken_told, one_more}
@@ -59,7 +59,7 @@ few_lines book sound id axis line there =
     let (sheet, is, below) =
     some_and (λ (sheet : PlaceSheet). line < lines_on axis sheet.table.rows sheet.table.cols)
     (place_sheet_with id book.sheets) there in
-    few_on book.sheets axis line sheet (sheet_sound book sound id sheet is) below
+    few_on book.sheets axis line sheet (sound_sheet book sound id sheet is) below
 
 whole_there : (id : ℕ) (found : Option PlaceSheet) → IsSome found
     → IsSomeAnd found (λ sheet. AreaWithin (whole_sheet id) sheet.table.rows sheet.table.cols)
@@ -101,7 +101,7 @@ module _ (project : List ℕ) (P : Item → Type 0) (items : List Item) (all : A
   one_holds id None is rest holds = holds
   one_holds id (Some item) is rest holds =
       All-cons P item rest
-      (found_holds (λ (one : Item). id == one.id && sees project one) P items item all is) holds
+      (holds_of_found P (λ (one : Item). id == one.id && sees project one) items item all is) holds
 
   pub seen_hold : (ids : List ℕ) → All P (items_seen project ids items)
   seen_hold [] = All-nil P
@@ -171,7 +171,8 @@ module _ (how : Showing) (book : PlaceBook) (one : DataFilter) where
       (all ++ as_matched filters shown ∷ [])
   area_shown areas at d all shown filters there are filters_are is = record {
     ranges = are.ranges ++ shown ∷ [];
-    each = subst (λ areas. AllZip (IsShownAs how book) areas (are.ranges ++ shown ∷ [])) (sym (take_more areas at d there))
+    each = subst (λ areas. AllZip (IsShownAs how book) areas (are.ranges ++ shown ∷ []))
+        (sym (take_more areas at d there))
         (zip_more (take at areas) are.ranges (get_or areas at d) shown are.each is);
     all_are = ap (λ before. before ++ as_matched filters shown ∷ []) are.all_are
         ∙ ap (λ filters. map (matched_range one) are.ranges ++ as_matched filters shown ∷ []) filters_are
@@ -186,7 +187,8 @@ module _ (project : List ℕ) (how : Showing) (book : PlaceBook) where
   filter_refused one (refusal.Rule broken) is = record { areas = Err broken; are = is; tells = refl }
   filter_refused one refusal.NoMemory is = tt
 
-  pub filter_shown : (one : DataFilter) (areas : List Area) (all : List MatchedRange) → AreAreasOf project book one (Ok areas)
+  pub filter_shown : (one : DataFilter) (areas : List Area) (all : List MatchedRange)
+      → AreAreasOf project book one (Ok areas)
       → AreAreasShown how book one areas all → AreFilterShown project how book one (Ok all)
   filter_shown one areas all are shown = record { areas = Ok areas; are = are; tells = (all, shown, refl) }
 

@@ -43,7 +43,8 @@ module _ (turns : ChangesInTurn) {M A : Type 0} (Is : PlaceBook → M → Result
           (subst (λ told. InTurn Is 0 members before told (so_far.changes ++ (made ++ others)))
           (sym (with_all_more done last rest))
           (so_far.on (with_first last rest) (made ++ others)
-          (subst (λ list. InTurn Is at list now (with_first last rest) (made ++ others)) (sym (drop_more members at d there))
+          (subst (λ list. InTurn Is at list now (with_first last rest) (made ++ others))
+          (sym (drop_more members at d there))
           (Ok (last, made), holds, (next, rest, others, are, is, refl, refl)))));
     }
 
@@ -56,7 +57,8 @@ module _ (turns : ChangesInTurn) {M A : Type 0} (Is : PlaceBook → M → Result
     all_done past = record {
       changes = so_far.changes;
       each = subst (λ told. InTurn Is 0 members before told so_far.changes) (with_all_ok done)
-          (up_to_here (Ok []) (subst (λ list. InTurn Is at list now (Ok []) []) (sym (drop_all at members past)) (refl, refl)));
+          (up_to_here (Ok [])
+          (subst (λ list. InTurn Is at list now (Ok []) []) (sym (drop_all at members past)) (refl, refl)));
       becomes = so_far.changed;
     }
 
@@ -73,17 +75,20 @@ module _ (turns : ChangesInTurn) {M A : Type 0} (Is : PlaceBook → M → Result
 
 -- ---- one thing is told of members, and one list of changes
 
-module _ (apart : ChangesApart) (turns : ChangesInTurn) {M A : Type 0} (Is : PlaceBook → M → Result (A × List BookChange) Rule → Type 0)
+module _ (apart : ChangesApart) (turns : ChangesInTurn) {M A : Type 0}
+    (Is : PlaceBook → M → Result (A × List BookChange) Rule → Type 0)
     (once : (book : PlaceBook) → IsSound book → (member : M) (one other : Result (A × List BookChange) Rule)
     → Is book member one → Is book member other → one ≡ other) where
   then_once : (IsRest : PlaceBook → ToldOfAll A → List BookChange → Type 0)
       (rest_once : (book : PlaceBook) → IsSound book → (told told' : ToldOfAll A) (changes changes' : List BookChange)
       → IsRest book told changes → IsRest book told' changes' → (told ≡ told') × (changes ≡ changes'))
-      → (at : ℕ) (one : Result (A × List BookChange) Rule) (before : PlaceBook) → IsSound before → (told told' : ToldOfAll A)
+      → (at : ℕ) (one : Result (A × List BookChange) Rule) (before : PlaceBook) → IsSound before
+      → (told told' : ToldOfAll A)
       (changes changes' : List BookChange) → ThenOn at one IsRest before told changes
       → ThenOn at one IsRest before told' changes' → (told ≡ told') × (changes ≡ changes')
   then_once IsRest rest_once at (Ok (first, made)) before sound told told' changes changes'
-      (between, rest, others, are, is, told_is, changes_are) (between', rest', others', are', is', told_is', changes_are') =
+      (between, rest, others, are, is, told_is, changes_are)
+      (between', rest', others', are', is', told_is', changes_are') =
       let same = apart.same made before between between' sound are are' in
       let (same_rest, same_others) = rest_once between' (turns.sound made before between' sound are')
       rest rest' others others' (subst (λ book. IsRest book rest others) same is) is' in (
@@ -97,8 +102,10 @@ module _ (apart : ChangesApart) (turns : ChangesInTurn) {M A : Type 0} (Is : Pla
       (changes changes' : List BookChange) → InTurn Is at members before told changes
       → InTurn Is at members before told' changes' → (told ≡ told') × (changes ≡ changes')
   in_turn_once at [] before sound told told' changes changes' is is' = (is.0 ∙ sym is'.0, is.1 ∙ sym is'.1)
-  in_turn_once at (member ∷ members) before sound told told' changes changes' (one, holds, then) (other, holds', then') =
-      then_once (InTurn Is (at + 1) members) (in_turn_once (at + 1) members) at other before sound told told' changes changes'
+  in_turn_once at (member ∷ members) before sound told told' changes changes' (one, holds, then)
+      (other, holds', then') =
+      then_once (InTurn Is (at + 1) members) (in_turn_once (at + 1) members) at other before sound told told'
+      changes changes'
       (subst (λ first. ThenOn at first (InTurn Is (at + 1) members) before told changes)
       (once before sound member one other holds holds') then) then'
 

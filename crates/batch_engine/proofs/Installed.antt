@@ -47,8 +47,10 @@ none_next : (books : List PlaceBook) (next : Option (List PlaceBook)) → next �
 none_next books next is = subst (IsNext books Nothing) (sym is) tt
 
 -- a call that makes nothing of the spreadsheets
-pub applied_unchanged : (caller : Caller) (called : Call) (books : List PlaceBook) (told : Result Answer Refusal) (outcome : Outcome)
-    (next : Option (List PlaceBook)) → IsAnswered caller called books told Nothing → outcome ≡ told_as told → next ≡ None
+pub applied_unchanged : (caller : Caller) (called : Call) (books : List PlaceBook) (told : Result Answer Refusal)
+    (outcome : Outcome)
+    (next : Option (List PlaceBook)) → IsAnswered caller called books told Nothing → outcome ≡ told_as told
+    → next ≡ None
     → IsApplied caller called books outcome next
 applied_unchanged caller called books told outcome next answered is none = record {
   judged = told;
@@ -66,7 +68,8 @@ module _ (caller : Caller) (called : Call) (id : List ℕ) (books : List PlaceBo
   on_book : (told : Result Answer Refusal) (effect : Effect) → Answered book told effect
       → IsAnswered caller called books told effect
   on_book told effect holds =
-      is_answered told effect (subst (λ one. IsSomeAnd one (λ (b : PlaceBook). Answered b told effect)) (sym found) holds)
+      is_answered told effect
+      (subst (λ one. IsSomeAnd one (λ (b : PlaceBook). Answered b told effect)) (sym found) holds)
 
   own_id : book.id ≡ id
   own_id = found_has_id id books book found
@@ -78,7 +81,8 @@ module _ (caller : Caller) (called : Call) (id : List ℕ) (books : List PlaceBo
       subst (λ key. IsSome (book_with key books)) (sym (changed.id ∙ own_id)) (subst IsSome (sym found) refl)
   change_there (Err broken) change = tt
 
-  pub applied_change : (judged : Result (Answer × PlaceBook) Refusal) (outcome : Outcome) (next : Option (List PlaceBook))
+  pub applied_change : (judged : Result (Answer × PlaceBook) Refusal) (outcome : Outcome)
+      (next : Option (List PlaceBook))
       → IsChange (Answered book) book judged → IsInstalled books judged outcome next
       → IsApplied caller called books outcome next
   applied_change (Ok (told, after)) outcome next change installed =
@@ -125,9 +129,11 @@ if_ok P Q (Err error) then holds = tt
 -- ---- a write and a clear
 
 module _ (id range : List ℕ) (mode : Mode) (values : Reading ValueRange) (books : List PlaceBook) (book : PlaceBook)
-    (caller : Caller) (called : Call) (called_is : called ≡ call.Write id range mode values) (found : book_with id books ≡ Some book)
+    (caller : Caller) (called : Call) (called_is : called ≡ call.Write id range mode values)
+    (found : book_with id books ≡ Some book)
     (told : Result (Answer × PlaceBook) RuleOr) (judged : Result (Answer × PlaceBook) Rule)
-    (change : IsUnlessNoMemory (IsChange (IsWriteOf caller.user range values book) book) told) (told_is : told ≡ as_told judged)
+    (change : IsUnlessNoMemory (IsChange (IsWriteOf caller.user range values book) book) told)
+    (told_is : told ≡ as_told judged)
   where
     abbrev Writes : PlaceBook → Result Answer Refusal → Effect → Type 0
     Writes one = IsAlone (IsWriteOf caller.user range values one)
@@ -145,15 +151,18 @@ module _ (id range : List ℕ) (mode : Mode) (values : Reading ValueRange) (book
     pub write_there : IfOk (alone judged) (λ done. IsSome (book_with done.1.id books))
     write_there = change_there caller called id books Writes write_answered book found (alone judged) write_change
 
-    pub write_applied : (outcome : Outcome) (next : Option (List PlaceBook)) → IsInstalled books (alone judged) outcome next
+    pub write_applied : (outcome : Outcome) (next : Option (List PlaceBook))
+        → IsInstalled books (alone judged) outcome next
         → IsApplied caller called books outcome next
     write_applied outcome next installed =
-        applied_change caller called id books Writes write_answered book found (alone judged) outcome next write_change installed
+        applied_change caller called id books Writes write_answered book found (alone judged) outcome next
+        write_change installed
 
 module _ (id range : List ℕ) (books : List PlaceBook) (book : PlaceBook) (caller : Caller) (called : Call)
     (called_is : called ≡ call.Clear id range) (found : book_with id books ≡ Some book)
     (told : Result (Answer × PlaceBook) RuleOr) (judged : Result (Answer × PlaceBook) Rule)
-    (change : IsUnlessNoMemory (IsChange (IsClearOf caller.user range book) book) told) (told_is : told ≡ as_told judged) where
+    (change : IsUnlessNoMemory (IsChange (IsClearOf caller.user range book) book) told)
+    (told_is : told ≡ as_told judged) where
   abbrev Clears : PlaceBook → Result Answer Refusal → Effect → Type 0
   Clears one = IsAlone (IsClearOf caller.user range one)
 
@@ -170,10 +179,12 @@ module _ (id range : List ℕ) (books : List PlaceBook) (book : PlaceBook) (call
   pub clear_there : IfOk (alone judged) (λ done. IsSome (book_with done.1.id books))
   clear_there = change_there caller called id books Clears clear_answered book found (alone judged) clear_change
 
-  pub clear_applied : (outcome : Outcome) (next : Option (List PlaceBook)) → IsInstalled books (alone judged) outcome next
+  pub clear_applied : (outcome : Outcome) (next : Option (List PlaceBook))
+      → IsInstalled books (alone judged) outcome next
       → IsApplied caller called books outcome next
   clear_applied outcome next installed =
-      applied_change caller called id books Clears clear_answered book found (alone judged) outcome next clear_change installed
+      applied_change caller called id books Clears clear_answered book found (alone judged) outcome next
+      clear_change installed
 
 -- ---- another change that has no members
 
@@ -191,12 +202,15 @@ module _ (id : List ℕ) (books : List PlaceBook) (book : PlaceBook) (caller : C
 
   pub lone_there : IfOk (alone judged) (λ done. IsSome (book_with done.1.id books))
   lone_there =
-      change_there caller called id books (λ one. IsAlone (Answered one)) is_answered book found (alone judged) lone_change
+      change_there caller called id books (λ one. IsAlone (Answered one)) is_answered book found
+      (alone judged) lone_change
 
-  pub lone_applied : (outcome : Outcome) (next : Option (List PlaceBook)) → IsInstalled books (alone judged) outcome next
+  pub lone_applied : (outcome : Outcome) (next : Option (List PlaceBook))
+      → IsInstalled books (alone judged) outcome next
       → IsApplied caller called books outcome next
   lone_applied outcome next installed =
-      applied_change caller called id books (λ one. IsAlone (Answered one)) is_answered book found (alone judged) outcome next
+      applied_change caller called id books (λ one. IsAlone (Answered one)) is_answered book found (alone judged)
+      outcome next
       lone_change installed
 
 -- ---- reads
@@ -209,7 +223,8 @@ read_judged range dimension render book told judged is told_is =
     judged_so (λ told. IsReadOf range dimension render book told Nothing) judged
     (subst (IsUnlessNoMemory (λ told. IsReadOf range dimension render book told Nothing)) told_is is)
 
-module _ (books : List PlaceBook) (book : PlaceBook) (caller : Caller) (called : Call) (outcome : Outcome) (next : Option (List PlaceBook))
+module _ (books : List PlaceBook) (book : PlaceBook) (caller : Caller) (called : Call) (outcome : Outcome)
+    (next : Option (List PlaceBook))
     (none : next ≡ None) where
   pub read_applied : (id range : List ℕ) (dimension : Option Axis) (render : Option Render)
       → called ≡ call.Read id range dimension render → book_with id books ≡ Some book → (told : Result Answer Rule)
@@ -217,7 +232,8 @@ module _ (books : List PlaceBook) (book : PlaceBook) (caller : Caller) (called :
       → IsApplied caller called books outcome next
   read_applied id range dimension render called_is found told holds is =
       applied_read caller called id books (λ one. IsAlone (IsReadOf range dimension render one))
-      (λ answered effect on. subst (λ one. IsAnswered caller one books answered effect) (sym called_is) on) book found (alone told)
+      (λ answered effect on. subst (λ one. IsAnswered caller one books answered effect) (sym called_is) on) book found
+      (alone told)
       outcome next (record { judged = told; answered = holds; told_is = refl }) is none
 
   pub look_applied : (id : List ℕ) (grids : Option Bool) → called ≡ call.Get id grids

@@ -137,7 +137,8 @@ is_there (Some lent) x e = refl
 
 pub is_found : (book : PlaceBook) → IdsFind → IsSound book → (at : ℕ) → at < length book.sheets
     → (found : Option (Bor PlaceSheet))
-    → option_copied found ≡ place_sheet_with (get_or (map (λ sheet. sheet.id) book.sheets) at 0) book.sheets → IsSome found
+    → option_copied found ≡ place_sheet_with (get_or (map (λ sheet. sheet.id) book.sheets) at 0) book.sheets
+    → IsSome found
 is_found book law sound at there found is =
     let d = some_sheet book.sheets at there in
     is_there found (get_or book.sheets at d) (is ∙ found_at book law sound at there d)

@@ -23,7 +23,7 @@ use Rattle.values_api.specs.Denials.{AreaCells, WriteCells}
 use Rattle.values_api.specs.Laws.{AppendsOnce, ReadsOnce, WritesOnce}
 use Rattle.values_api.specs.Ranges.{FoundArea, Resolves}
 use Rattle.values_api.specs.Values.{CellsHaveOneValue}
-use Rattle.values_api.specs.declared.writing.Written.{Written}
+use Rattle.values_api.specs.declared.writing.WrittenCells.{WrittenCells}
 use Rattle.json_requests.specs.declared.request.DataFilter.{DataFilter}
 use Rattle.json_requests.specs.declared.request.MetadataLookup.{MetadataLookup}
 use Rattle.json_requests.specs.declared.request.Step.{Step}
@@ -78,7 +78,8 @@ module _ (one_reading : HasOneReading) where
   target_once range None book one other is is' = resolves_once one_reading range book one other is is'
   target_once range (Some body) book one other is is' =
       is.found_is
-      ∙ ap (λ found. agreed found is.said) (resolves_once one_reading range book is.named is'.named is.resolves is'.resolves)
+      ∙ ap (λ found. agreed found is.said)
+      (resolves_once one_reading range book is.named is'.named is.resolves is'.resolves)
       ∙ ap (λ said. agreed is'.named said) (resolves_once one_reading body book is.said is'.said is.says is'.says)
       ∙ sym is'.found_is
 
@@ -119,7 +120,8 @@ module _ {A : Type 0} (Found : Result FoundArea Rule → Type 0) (sheets : List 
       ∙ sym tells'
 
 -- what is answered and made so has one answer and one effect
-said_once : {Broken : Type 0} (says : Result Answer Broken) (makes : Effect) → IsOnce (λ told effect. (told ≡ says) × (effect ≡ makes))
+said_once : {Broken : Type 0} (says : Result Answer Broken) (makes : Effect)
+    → IsOnce (λ told effect. (told ≡ says) × (effect ≡ makes))
 said_once says makes told told' effect effect' is is' = (is.0 ∙ sym is'.0, is.1 ∙ sym is'.1)
 
 -- ---- looks
@@ -142,7 +144,8 @@ read_once : ReadsOnce → (dimension : Option Axis) (render : Option Render) (bo
 read_once reads dimension render book sound found sheet told told' one other =
     one.told_is
     ∙ ap (λ lines. Ok (shown_range (axis_or_rows dimension) found.0 sheet lines))
-    (reads.once book found.0 (is_columns (axis_or_rows dimension)) (render_or_formatted render) sheet one.lines other.lines
+    (reads.once book found.0 (is_columns (axis_or_rows dimension)) (render_or_formatted render) sheet
+    one.lines other.lines
     sound one.shown other.shown)
     ∙ sym other.told_is
 
@@ -150,26 +153,28 @@ read_once reads dimension render book sound found sheet told told' one other =
 
 module _ (writes : WritesOnce) (user : List ℕ) (book : PlaceBook) (sound : IsSound book) where
   -- what a write's result is told as
-  abbrev Tells : Area → PlaceSheet → Updates → Result Written Rule → Result (Wrote × List BookChange) Rule → Type 0
+  abbrev Tells : Area → PlaceSheet → Updates → Result WrittenCells Rule → Result (Wrote × List BookChange) Rule → Type 0
   Tells area sheet updates wrote told =
       MatchResult wrote
       (λ counts. told ≡ Ok ((update_of book sheet counts, counts), cells_updated area.sheet updates))
       (λ broken. told ≡ Err broken)
 
-  tells_once : (area : Area) (sheet : PlaceSheet) (updates : Updates) (wrote : Result Written Rule)
+  tells_once : (area : Area) (sheet : PlaceSheet) (updates : Updates) (wrote : Result WrittenCells Rule)
       (told told' : Result (Wrote × List BookChange) Rule) → Tells area sheet updates wrote told
       → Tells area sheet updates wrote told' → told ≡ told'
   tells_once area sheet updates (Ok counts) told told' is is' = is ∙ sym is'
   tells_once area sheet updates (Err broken) told told' is is' = is ∙ sym is'
 
-  update_once : (block : Block) (found : FoundArea) (sheet : PlaceSheet) (told told' : Result (Wrote × List BookChange) Rule)
+  update_once : (block : Block) (found : FoundArea) (sheet : PlaceSheet)
+      (told told' : Result (Wrote × List BookChange) Rule)
       → IsUpdate user book block found sheet told → IsUpdate user book block found sheet told' → told ≡ told'
   update_once block found sheet told told' one other =
       let area = found.0 in
       let (same, same_done) = writes.once found.1 area block sheet book one.after other.after one.writes.done
       other.writes.done sound one.writes.is other.writes.is in
       let same_wrote = unless_told_once user book (WriteCells book.sheets found.1 area block) one.writes.denied
-      other.writes.denied one.writes.is_denied other.writes.is_denied one.writes.done other.writes.done same_done one.wrote
+      other.writes.denied one.writes.is_denied other.writes.is_denied one.writes.done other.writes.done
+      same_done one.wrote
       other.wrote one.writes.told_is other.writes.told_is in
       tells_once area sheet (contents_of other.writes.is.entries) other.wrote told told'
       (subst (λ wrote. Tells area sheet (contents_of other.writes.is.entries) wrote told) same_wrote
@@ -180,7 +185,7 @@ module _ (writes : WritesOnce) (user : List ℕ) (book : PlaceBook) (sound : IsS
 module _ (appends : AppendsOnce) (apart : ChangesApart) (user : List ℕ) (book : PlaceBook) (sound : IsSound book) where
   -- what an append that changes the spreadsheet so is told as
   abbrev Says : Area → Result (Appended × List BookChange) Rule → PlaceBook → List BookChange
-      → Result (Option Area × Written) Rule → Type 0
+      → Result (Option Area × WrittenCells) Rule → Type 0
   Says area told after changes appended =
       OnOk appended (AreChanges changes book after)
       × MatchResult appended
@@ -188,12 +193,12 @@ module _ (appends : AppendsOnce) (apart : ChangesApart) (user : List ℕ) (book 
       × (told ≡ Ok (appended_of after own made, changes)))
       (λ broken. told ≡ Err broken)
 
-  abbrev as_appended : PlaceBook → PlaceSheet → Option Area × Written → List BookChange
+  abbrev as_appended : PlaceBook → PlaceSheet → Option Area × WrittenCells → List BookChange
       → Result (Appended × List BookChange) Rule
   as_appended after own made changes = Ok (appended_of after own made, changes)
 
   says_once : (area : Area) (told told' : Result (Appended × List BookChange) Rule) (after after' : PlaceBook)
-      (changes : List BookChange) (appended : Result (Option Area × Written) Rule)
+      (changes : List BookChange) (appended : Result (Option Area × WrittenCells) Rule)
       → Says area told after changes appended → Says area told' after' changes appended → told ≡ told'
   says_once area told told' after after' changes (Ok made) (becomes, said) (becomes', said') =
       let (own, there, is) = said in
@@ -220,8 +225,10 @@ module _ (appends : AppendsOnce) (apart : ChangesApart) (user : List ℕ) (book 
 
 module _ {M A : Type 0} (Is : M → Result A Rule → Type 0)
     (once : (member : M) (one other : Result A Rule) → Is member one → Is member other → one ≡ other) where
-  then_once : (IsRest : ToldOfAll A → Type 0) (rest_once : (one other : ToldOfAll A) → IsRest one → IsRest other → one ≡ other)
-      → (at : ℕ) (first : Result A Rule) (told told' : ToldOfAll A) → Then at first IsRest told → Then at first IsRest told'
+  then_once : (IsRest : ToldOfAll A → Type 0)
+      (rest_once : (one other : ToldOfAll A) → IsRest one → IsRest other → one ≡ other)
+      → (at : ℕ) (first : Result A Rule) (told told' : ToldOfAll A) → Then at first IsRest told
+      → Then at first IsRest told'
       → told ≡ told'
   then_once IsRest rest_once at (Ok first) told told' (rest, is, told_is) (rest', is', told_is') =
       told_is ∙ ap (with_first first) (rest_once rest rest' is is') ∙ sym told_is'
@@ -232,7 +239,8 @@ module _ {M A : Type 0} (Is : M → Result A Rule → Type 0)
   in_order_once at [] told told' is is' = is ∙ sym is'
   in_order_once at (member ∷ members) told told' (one, holds, then) (other, holds', then') =
       then_once (InOrder Is (at + 1) members) (in_order_once (at + 1) members) at other told told'
-      (subst (λ first. Then at first (InOrder Is (at + 1) members) told) (once member one other holds holds') then) then'
+      (subst (λ first. Then at first (InOrder Is (at + 1) members) told)
+      (once member one other holds holds') then) then'
 
 -- ---- calls
 
@@ -257,7 +265,8 @@ module _ {A : Type 0} where
   )
 
   made_once : (Is : Result (A × List BookChange) Rule → Type 0) (answer_of : A → Answer) (book : PlaceBook)
-      → ((one other : Result (A × List BookChange) Rule) → Is one → Is other → one ≡ other) → IsOnce (IsMade Is answer_of book)
+      → ((one other : Result (A × List BookChange) Rule) → Is one → Is other → one ≡ other)
+      → IsOnce (IsMade Is answer_of book)
   made_once Is answer_of book once told told' effect effect' is is' =
       let same = once is.one is'.one is.is is'.is in (
         is.told_is ∙ ap (λ one. answered_by answer_of (told_of one)) same ∙ sym is'.told_is,
@@ -286,7 +295,8 @@ module _ (project : List ℕ) (filters : List (Reading MetadataLookup)) (book : 
       let same = in_order_once (λ given one. one ≡ asked_or_broken book.sheets given)
       (λ given one other is is'. is ∙ sym is') 0 filters is.asked is'.asked is.searched.each is'.searched.each in (
         is.told_is ∙ ap (found_told is.ids) same
-            ∙ told_once is'.asked is.ids is'.ids (subst (AreFound is.ids) same is.searched.in_order) is'.searched.in_order
+            ∙ told_once is'.asked is.ids is'.ids (subst (AreFound is.ids) same is.searched.in_order)
+            is'.searched.in_order
             ∙ sym is'.told_is,
         is.nothing ∙ sym is'.nothing,
       )
@@ -329,7 +339,8 @@ module _ (one_reading : HasOneReading) (news : NewSheetsOnce) (requests : Reques
       (target_once one_reading range values.range book) (update_once writes user book sound values.block)
   written_once user range book sound (Err shape) = λ one other is is'. is ∙ sym is'
 
-  appended_once : (user range : List ℕ) (insert : Bool) (book : PlaceBook) → IsSound book → (values : Reading ValueRange)
+  appended_once : (user range : List ℕ) (insert : Bool) (book : PlaceBook) → IsSound book
+      → (values : Reading ValueRange)
       (one other : Result (Appended × List BookChange) Rule) → IsAppended user range insert book values one
       → IsAppended user range insert book values other → one ≡ other
   appended_once user range insert book sound (Ok values) =
@@ -357,7 +368,8 @@ module _ (one_reading : HasOneReading) (news : NewSheetsOnce) (requests : Reques
   read_many_once ranges dimension render book sound told told' effect effect' is is' = (
     is.told_is
         ∙ ap (answered_at place.Ranges (λ all. answer.ReadMany book.id all))
-        (in_order_once (IsShown dimension render book) (shown_once dimension render book sound) 0 ranges is.shown is'.shown
+        (in_order_once (IsShown dimension render book) (shown_once dimension render book sound) 0 ranges
+        is.shown is'.shown
         is.each is'.each)
         ∙ sym is'.told_is,
     is.nothing ∙ sym is'.nothing,
@@ -379,7 +391,8 @@ module _ (one_reading : HasOneReading) (news : NewSheetsOnce) (requests : Reques
       → Is book member one → Is book member other → one ≡ other) (members : List M) (at : ℕ → Place)
       (answer_of : List A → Answer) (book : PlaceBook) → IsSound book → IsOnce (AreMade Is members at answer_of book)
   are_made_once Is once members at answer_of book sound told told' effect effect' is is' =
-      let (same, same_changes) = in_turn_once apart turns Is once 0 members book sound is.all is'.all is.changes is'.changes
+      let (same, same_changes) =
+      in_turn_once apart turns Is once 0 members book sound is.all is'.all is.changes is'.changes
       is.each is'.each in (
         is.told_is ∙ ap (answered_at at answer_of) same ∙ sym is'.told_is,
         is.effect_is ∙ ap (λ all. effect_of book all is.changes) same ∙ ap (effect_of book is'.all) same_changes
@@ -416,7 +429,8 @@ module _ (one_reading : HasOneReading) (news : NewSheetsOnce) (requests : Reques
         (written_answer book) book sound)
     answered_once caller (call.ClearMany id ranges) =
         on_book_once id (IsClearManyOf caller.user ranges)
-        (λ book sound. are_made_once (IsCleared caller.user) (λ book sound. cleared_once caller.user book) ranges place.Ranges
+        (λ book sound. are_made_once (IsCleared caller.user) (λ book sound. cleared_once caller.user book) ranges
+        place.Ranges
         (λ texts. answer.ClearMany texts book.id) book sound)
     answered_once caller (call.Create spreadsheet) =
         alone_once (IsCreateOf caller.user spreadsheet books) (create_once news caller.user spreadsheet books)

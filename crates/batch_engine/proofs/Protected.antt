@@ -19,7 +19,7 @@ use Rattle.values_api.specs.Denials.{AreaCells, IsDenial, IsWriteBy}
 use Rattle.values_api.specs.Ranges.{FoundArea, Resolves}
 use Rattle.values_api.specs.declared.appending.Added.{Added}
 use Rattle.values_api.specs.declared.table.Rectangle.{Rectangle}
-use Rattle.values_api.specs.declared.writing.Written.{Written}
+use Rattle.values_api.specs.declared.writing.WrittenCells.{WrittenCells}
 use Rattle.json_requests.specs.declared.request.Step.{Step}
 use Rattle.json_requests.specs.declared.request.Step.TheVariants as step
 use Rattle.json_shapes.specs.Reading.{Reading}
@@ -33,7 +33,7 @@ use Rattle.sheets_json.specs.declared.call.ValueRange.{ValueRange}
 use Rattle.sheets_json.specs.declared.place.Place.{Place}
 use Rattle.sheets_json.specs.declared.place.Place.TheVariants as place
 use Rattle.sheets_json.specs.declared.spreadsheet.Reply.{Reply}
-use Rattle.request_kinds.specs.FoundLaws.{found_passes}
+use Rattle.values_api.specs.FoundLaws.{found_passes}
 use Rattle.request_kinds.specs.Telling.{cells_updated}
 use Rattle.request_kinds.specs.TellingLaws.{as_told, done_of, match_told, none_denied, told_apart, told_changes}
 use Rattle.kept_cells.specs.Protected.{ProtectedCellsKeep}
@@ -47,7 +47,8 @@ use Rattle.batch_engine.specs.declared.calls.Caller.{Caller}
 
 -- ---- members, one after another
 
-module _ (law : ProtectedCellsKeep) (user : List ℕ) {M A : Type 0} (Is : PlaceBook → M → Result (A × List BookChange) Rule → Type 0)
+module _ (law : ProtectedCellsKeep) (user : List ℕ) {M A : Type 0}
+    (Is : PlaceBook → M → Result (A × List BookChange) Rule → Type 0)
     (each : (book : PlaceBook) (member : M) (one : A) (changes : List BookChange) → Is book member (Ok (one, changes))
     → LeavesProtectedInParts user book changes) where
   then_parts : (IsRest : PlaceBook → ToldOfAll A → List BookChange → Type 0)
@@ -101,42 +102,52 @@ module _ (law : ProtectedCellsKeep) (user : List ℕ) where
       → IsCleared user book range (Ok (one, changes)) → InParts book changes
   cleared_parts book (Ok range) one changes is =
       on_range_parts (Resolves range book) book (IsClear user book) (one, changes) (clear_parts book (one, changes)) is
-  cleared_parts book (Err shape) one changes is = absurd (told_apart {A = List ℕ × List BookChange} (one, changes) (rule_of shape) is)
+  cleared_parts book (Err shape) one changes is =
+      absurd (told_apart {A = List ℕ × List BookChange} (one, changes) (rule_of shape) is)
 
-  update_parts : (book : PlaceBook) (block : Block) (told : Wrote × List BookChange) (found : FoundArea) (sheet : PlaceSheet)
+  update_parts : (book : PlaceBook) (block : Block) (told : Wrote × List BookChange) (found : FoundArea)
+      (sheet : PlaceSheet)
       → place_sheet_with found.0.sheet book.sheets ≡ Some sheet → IsUpdate user book block found sheet (as_told told)
       → InParts book told.1
   update_parts book block told found sheet at is = go is.wrote is.writes is.tells
     where
-      go : (done : Result Written Rule) (writes : IsWriteBy user found.1 found.0 block sheet book is.after done)
+      go : (done : Result WrittenCells Rule) (writes : IsWriteBy user found.1 found.0 block sheet book is.after done)
           → MatchResult done
-          (λ counts. as_told told ≡ Ok ((update_of book sheet counts, counts), cells_updated found.0.sheet (contents_of writes.is.entries)))
+          (λ counts. as_told told
+          ≡ Ok ((update_of book sheet counts, counts), cells_updated found.0.sheet (contents_of writes.is.entries)))
           (λ broken. as_told told ≡ Err broken)
           → InParts book told.1
       go (Ok counts) writes tells =
-          subst (InParts book) (told_changes told (_, cells_updated found.0.sheet (contents_of writes.is.entries)) tells)
+          subst (InParts book)
+          (told_changes told (_, cells_updated found.0.sheet (contents_of writes.is.entries)) tells)
           (law.write user found.1 found.0 block sheet book is.after counts at writes)
       go (Err broken) writes tells = absurd (told_apart told broken tells)
 
-  written_parts : (range : List ℕ) (book : PlaceBook) (values : Reading ValueRange) (one : Wrote) (changes : List BookChange)
+  written_parts : (range : List ℕ) (book : PlaceBook) (values : Reading ValueRange) (one : Wrote)
+      (changes : List BookChange)
       → IsWritten user range book values (Ok (one, changes)) → InParts book changes
   written_parts range book (Ok values) one changes is =
-      on_range_parts _ book (IsUpdate user book values.block) (one, changes) (update_parts book values.block (one, changes)) is
-  written_parts range book (Err shape) one changes is = absurd (told_apart {A = Wrote × List BookChange} (one, changes) (rule_of shape) is)
+      on_range_parts _ book (IsUpdate user book values.block) (one, changes)
+      (update_parts book values.block (one, changes)) is
+  written_parts range book (Err shape) one changes is =
+      absurd (told_apart {A = Wrote × List BookChange} (one, changes) (rule_of shape) is)
 
   updated_parts : (book : PlaceBook) (values : Reading RangeBlock) (one : Wrote) (changes : List BookChange)
       → IsUpdated user book values (Ok (one, changes)) → InParts book changes
   updated_parts book (Ok values) one changes is =
-      on_range_parts _ book (IsUpdate user book values.block) (one, changes) (update_parts book values.block (one, changes)) is
-  updated_parts book (Err shape) one changes is = absurd (told_apart {A = Wrote × List BookChange} (one, changes) (rule_of shape) is)
+      on_range_parts _ book (IsUpdate user book values.block) (one, changes)
+      (update_parts book values.block (one, changes)) is
+  updated_parts book (Err shape) one changes is =
+      absurd (told_apart {A = Wrote × List BookChange} (one, changes) (rule_of shape) is)
 
   -- ---- appends
 
-  abbrev as_answer : Option Area × Written → Result (Option Area × Written) Rule
+  abbrev as_answer : Option Area × WrittenCells → Result (Option Area × WrittenCells) Rule
   as_answer made = Ok made
 
-  unless_passed_parts : (sheet : ℕ) (added : Added) (start : ℕ × ℕ) (block : Block) (table : Option Rectangle) (changes : List BookChange)
-      (before after : PlaceBook) (made : Option Area × Written) (limit : Option Limit)
+  unless_passed_parts : (sheet : ℕ) (added : Added) (start : ℕ × ℕ) (block : Block) (table : Option Rectangle)
+      (changes : List BookChange)
+      (before after : PlaceBook) (made : Option Area × WrittenCells) (limit : Option Limit)
       → IsAppendUnless limit (IsValuesAppended user sheet added start block table changes before after (as_answer made))
       changes (as_answer made) → InParts before changes
   unless_passed_parts sheet added start block table changes before after made None is =
@@ -152,13 +163,16 @@ module _ (law : ProtectedCellsKeep) (user : List ℕ) where
       let (own, there, tells) = says in
       let added = lines_added insert (start_of is.appends.table area) block sheet in
       subst (InParts book) (told_changes told (appended_of is.after own made, is.appends.changes) tells)
-      (unless_passed_parts area.sheet added (start_of is.appends.table area) block is.appends.table is.appends.changes book
+      (unless_passed_parts area.sheet added (start_of is.appends.table area) block is.appends.table
+      is.appends.changes book
       is.after made (limit_passed added sheet book.sheets)
       (subst (λ answer. IsAppendUnless (limit_passed added sheet book.sheets)
-      (IsValuesAppended user area.sheet added (start_of is.appends.table area) block is.appends.table is.appends.changes book
+      (IsValuesAppended user area.sheet added (start_of is.appends.table area) block is.appends.table
+      is.appends.changes book
       is.after answer) is.appends.changes answer) (sym same) is.appends.appended))
 
-  appended_values_parts : (range : List ℕ) (insert : Bool) (book : PlaceBook) (values : Reading ValueRange) (one : Appended)
+  appended_values_parts : (range : List ℕ) (insert : Bool) (book : PlaceBook) (values : Reading ValueRange)
+      (one : Appended)
       (changes : List BookChange) → IsAppended user range insert book values (Ok (one, changes)) → InParts book changes
   appended_values_parts range insert book (Ok values) one changes is =
       on_range_parts _ book (λ found. IsAppendOn user book insert values.block found.0) (one, changes)
@@ -171,7 +185,8 @@ module _ (law : ProtectedCellsKeep) (user : List ℕ) where
   requested_parts : (project : List ℕ) (book : PlaceBook) (asked : Step) (reply : Reply) (changes : List BookChange)
       → IsRequested user project book asked (Ok (reply, changes)) → InParts book changes
   requested_parts project book (step.Read asked) reply changes is = law.request user project book asked reply changes is
-  requested_parts project book (step.Shape shape) reply changes is = absurd (told_apart {A = Reply × List BookChange} (reply, changes) (rule_of shape) is)
+  requested_parts project book (step.Shape shape) reply changes is =
+      absurd (told_apart {A = Reply × List BookChange} (reply, changes) (rule_of shape) is)
 
   -- ---- calls
 
@@ -188,14 +203,16 @@ module _ (law : ProtectedCellsKeep) (user : List ℕ) where
 
   module _ (id : List ℕ) (changes : List BookChange) where
     made_so : {A : Type 0} (book : PlaceBook) (one : Result (A × List BookChange) Rule)
-        → ((made : A) (changes : List BookChange) → as_told {A = A × List BookChange} (made, changes) ≡ one → InParts book changes)
+        → ((made : A) (changes : List BookChange) → as_told {A = A × List BookChange} (made, changes) ≡ one
+        → InParts book changes)
         → Changes id changes ≡ effect_on book one → MakesParts id changes book
     made_so book (Ok (made, own)) each is =
         let same = same_effect id book.id changes own is in
         (same.0, subst (InParts book) same.1 (each made own refl))
     made_so book (Err broken) each is = absurd (no_effect id changes is)
 
-    made_parts : {A : Type 0} (Is : Result (A × List BookChange) Rule → Type 0) (answer_of : A → Answer) (book : PlaceBook)
+    made_parts : {A : Type 0} (Is : Result (A × List BookChange) Rule → Type 0) (answer_of : A → Answer)
+        (book : PlaceBook)
         (told : Result Answer Refusal)
         → ((made : A) (changes : List BookChange) → Is (Ok (made, changes)) → InParts book changes)
         → IsAlone (IsMade Is answer_of book) told (Changes id changes) → MakesParts id changes book
@@ -216,7 +233,8 @@ module _ (law : ProtectedCellsKeep) (user : List ℕ) where
         → InParts book changes)
         → AreMade Is members at answer_of book told (Changes id changes) → MakesParts id changes book
     are_made_parts Is members at answer_of book told each is =
-        all_so book is.all is.changes (turn_parts law user Is each 0 members book is.all is.changes is.each) is.effect_is
+        all_so book is.all is.changes (turn_parts law user Is each 0 members book is.all is.changes is.each)
+        is.effect_is
 
     on_book : (books : List PlaceBook) (called : List ℕ) (Answered : PlaceBook → Type 0)
         → ((book : PlaceBook) → Answered book → MakesParts id changes book) → OnBook called books Answered
@@ -234,7 +252,8 @@ module _ (law : ProtectedCellsKeep) (user : List ℕ) where
             subst (λ one. IsSomeAnd one (λ book. InParts book changes))
             (sym (ap (λ n. book_with n books) (sym same ∙ own) ∙ found)) parts
 
-    unanswered : (books : List PlaceBook) → Changes id changes ≡ Nothing → OnBook id books (λ book. InParts book changes)
+    unanswered : (books : List PlaceBook) → Changes id changes ≡ Nothing
+        → OnBook id books (λ book. InParts book changes)
     unanswered books is = absurd (no_effect id changes is)
 
     not_made : (bare : NameBook) (made : List BookChange) → Changes id changes ≡ Makes bare made → ⊥

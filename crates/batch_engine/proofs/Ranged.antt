@@ -24,12 +24,12 @@ use Rattle.values_api.specs.Laws.{UpdatesOnce}
 use Rattle.values_api.specs.Ranges.{FoundArea, Resolves, area_text}
 use Rattle.values_api.specs.Shown.{IsAreaShown}
 use Rattle.values_api.specs.Updates.{cleared, AreUpdated}
-use Rattle.values_api.specs.declared.writing.Written.{Written}
+use Rattle.values_api.specs.declared.writing.WrittenCells.{WrittenCells}
 use Rattle.sheets_json.specs.declared.answer.Answer.{Answer}
 use Rattle.sheets_json.specs.declared.answer.ShownRange.{ShownRange}
 use Rattle.sheets_json.specs.declared.answer.Update.{Update as UpdateAnswer}
 use Rattle.request_kinds.specs.Telling.{IsDoneTo, cells_updated}
-use Rattle.request_kinds.specs.FoundLaws.{some_and}
+use Rattle.values_api.specs.FoundLaws.{some_and}
 use Rattle.request_kinds.specs.TellingLaws.{denied_same, done_of, none_denied, update_made}
 use Rattle.batch_engine.specs.Effects.Effect.{Nothing}
 use Rattle.batch_engine.specs.Filtered.{IsShownAs, Showing}
@@ -43,10 +43,10 @@ as_shown shown = Ok shown
 abbrev as_cleared : List ℕ → Area → Result (List ℕ × List BookChange) Rule
 as_cleared text area = Ok (text, cells_updated area.sheet (cleared area))
 
-abbrev as_written : UpdateAnswer → Written → ℕ → Updates → Result (Wrote × List BookChange) Rule
+abbrev as_written : UpdateAnswer → WrittenCells → ℕ → Updates → Result (Wrote × List BookChange) Rule
 as_written update counts sheet updates = Ok ((update, counts), cells_updated sheet updates)
 
-abbrev told_so : List ℕ → List ℕ → ℕ → ℕ → Written → UpdateAnswer
+abbrev told_so : List ℕ → List ℕ → ℕ → ℕ → WrittenCells → UpdateAnswer
 told_so id title rows cols counts = record {
   spreadsheet_id = id;
   updated_cells = counts.cells;
@@ -80,7 +80,8 @@ module _ {A : Type 0} (Found : Result FoundArea Rule → Type 0) (sheets : List 
 
 -- what is done on the sheet of a range that is there
 module _ {A : Type 0} (Found : Result FoundArea Rule → Type 0) (sheets : List PlaceSheet)
-    (IsDone : FoundArea → PlaceSheet → Result (A × List BookChange) Rule → Type 0) (before after : PlaceBook) (found : FoundArea)
+    (IsDone : FoundArea → PlaceSheet → Result (A × List BookChange) Rule → Type 0) (before after : PlaceBook)
+    (found : FoundArea)
     (is_found : Found (Ok found)) where
   on_sheet : (sheet : PlaceSheet) → place_sheet_with found.0.sheet sheets ≡ Some sheet → (told : Result A RuleOr)
       → IsUnlessNoMemory (IsDoneTo (IsDone found sheet) before after) told
@@ -96,13 +97,15 @@ module _ {A : Type 0} (Found : Result FoundArea Rule → Type 0) (sheets : List 
       (λ sheet. IsUnlessNoMemory (IsDoneTo (IsDone found sheet) before after) told)
       → IsUnlessNoMemory (IsDoneTo (OnRange Found sheets IsDone) before after) told
   done_there told there =
-      let (sheet, is, holds) = some_and (λ (sheet : PlaceSheet). IsUnlessNoMemory (IsDoneTo (IsDone found sheet) before after)
+      let (sheet, is, holds) =
+      some_and (λ (sheet : PlaceSheet). IsUnlessNoMemory (IsDoneTo (IsDone found sheet) before after)
       told) (place_sheet_with found.0.sheet sheets) there in
       on_sheet sheet is told holds
 
 -- ---- a call on one range
 
-module _ {A : Type 0} (Is : Result (A × List BookChange) Rule → Type 0) (answer_of : A → Answer) (before after : PlaceBook) where
+module _ {A : Type 0} (Is : Result (A × List BookChange) Rule → Type 0) (answer_of : A → Answer)
+    (before after : PlaceBook) where
   pub made_alone : (one : A) → IsDoneTo Is before after (Ok one)
       → IsChange (IsMade Is answer_of before) before (Ok (answer_of one, after))
   made_alone one (changes, is, made) =
@@ -201,8 +204,9 @@ module _ (user range : List ℕ) (book after : PlaceBook) (found : FoundArea) (t
 -- ---- writes
 
 -- what is told of a write doesn't tell the spreadsheet after it from the one before
-told_same : (number : ℕ) (updates : Updates) (book after : PlaceBook) (sheet now : PlaceSheet) (wrote : Written)
-    → after.id ≡ book.id → SheetUpdated number updates sheet now → update_of after now wrote ≡ update_of book sheet wrote
+told_same : (number : ℕ) (updates : Updates) (book after : PlaceBook) (sheet now : PlaceSheet) (wrote : WrittenCells)
+    → after.id ≡ book.id → SheetUpdated number updates sheet now → update_of after now wrote
+    ≡ update_of book sheet wrote
 told_same number updates book after sheet now wrote same_id same =
     ap (λ id. told_so id now.title now.table.rows now.table.cols wrote) same_id
     ∙ ap (λ title. told_so book.id title now.table.rows now.table.cols wrote) same.title
@@ -210,27 +214,31 @@ told_same number updates book after sheet now wrote same_id same =
     ∙ ap (λ cols. told_so book.id sheet.title sheet.table.rows cols wrote) same.cols
 
 module _ (user : List ℕ) (book after : PlaceBook) (block : Block) (area : Area) (one_cell : Bool) where
-  abbrev Writes : Result Written Rule → PlaceSheet → Type 0
+  abbrev Writes : Result WrittenCells Rule → PlaceSheet → Type 0
   Writes wrote sheet = IsWriteBy user one_cell area block sheet book after wrote
 
-  pub put_done : UpdatesAreChanges → UpdatesOnce → (wrote : Written) (update : UpdateAnswer)
+  pub put_done : UpdatesAreChanges → UpdatesOnce → (wrote : WrittenCells) (update : UpdateAnswer)
       → IsSomeAnd (place_sheet_with area.sheet book.sheets)
       (λ sheet. IsUnlessNoMemory (IsWriteBy user one_cell area block sheet book after) (Ok wrote))
       → IsSomeAnd (place_sheet_with wrote.area.sheet after.sheets) (λ sheet. update ≡ update_of after sheet wrote)
       → IsSomeAnd (place_sheet_with area.sheet book.sheets)
-      (λ sheet. IsUnlessNoMemory (IsDoneTo (IsUpdate user book block (area, one_cell) sheet) book after) (Ok (update, wrote)))
+      (λ sheet. IsUnlessNoMemory (IsDoneTo (IsUpdate user book block (area, one_cell) sheet) book after)
+      (Ok (update, wrote)))
   put_done are updates_once wrote update writes_it told =
       let (sheet, is, writes) = some_and (Writes (Ok wrote)) (place_sheet_with area.sheet book.sheets) writes_it in
       let updates = contents_of writes.is.entries in
       let so : IsWrite one_cell area block sheet book after (Ok wrote) =
       subst (IsWrite one_cell area block sheet book after) (done_of writes.denied writes.done wrote writes.told_is)
       writes.is in
-      let (now, is_now, same) = some_and (SheetUpdated area.sheet updates sheet) (place_sheet_with area.sheet after.sheets)
+      let (now, is_now, same) =
+      some_and (SheetUpdated area.sheet updates sheet) (place_sheet_with area.sheet after.sheets)
       (updates_once.kept area.sheet updates book after area.sheet sheet writes.is.updated is) in
       let same_area = ap (λ (area : Area). place_sheet_with area.sheet after.sheets) so.answered.1.area_is in
       let told_now : update ≡ update_of after now wrote =
-      subst (λ one. IsSomeAnd one (λ (sheet : PlaceSheet). update ≡ update_of after sheet wrote)) (same_area ∙ is_now) told in
-      let told_is = told_now ∙ told_same area.sheet updates book after sheet now wrote writes.is.updated.places.id same in
+      subst (λ one. IsSomeAnd one (λ (sheet : PlaceSheet). update ≡ update_of after sheet wrote))
+      (same_area ∙ is_now) told in
+      let told_is = told_now
+      ∙ told_same area.sheet updates book after sheet now wrote writes.is.updated.places.id same in
       subst (λ one. IsSomeAnd one (λ (sheet : PlaceSheet). IsUnlessNoMemory
       (IsDoneTo (IsUpdate user book block (area, one_cell) sheet) book after) (Ok (update, wrote)))) (sym is) (
         cells_updated area.sheet updates,

@@ -29,7 +29,7 @@ use Rattle.sheets_json.specs.declared.answer.Answer.TheVariants as answer
 use Rattle.sheets_json.specs.declared.answer.MatchedMetadata.{MatchedMetadata}
 use Rattle.sheets_json.specs.declared.place.Place.TheVariants as place
 use Rattle.request_kinds.specs.Metadata.{AreIdsFound, items_seen, lookup_of, lookups_of}
-use Rattle.request_kinds.specs.FoundLaws.{found_holds, found_passes}
+use Rattle.values_api.specs.FoundLaws.{found_passes, holds_of_found}
 use Rattle.request_kinds.specs.ItemLaws.{IsSeenIn, seen_again}
 use Rattle.batch_engine.specs.Calls.{IsSearchOf, Refusal}
 use Rattle.batch_engine.specs.Effects.Effect.{Nothing}
@@ -92,14 +92,20 @@ module _ (project : List ℕ) (book : PlaceBook) where
   abbrev Known : ℕ → List (Reading MetadataLookup) → ToldOfAll Searched → Type 0
   Known at filters told = InOrder Asked at filters (all_asked told) × Done told
 
-  then_known : (at : ℕ) (given : Reading MetadataLookup) (filters : List (Reading MetadataLookup)) (one : Result Searched Rule)
+  then_known : (at : ℕ) (given : Reading MetadataLookup) (filters : List (Reading MetadataLookup))
+      (one : Result Searched Rule)
       (told : ToldOfAll Searched)
-      → ((rest : ToldOfAll Searched) → InOrder (IsSearched project book) (at + 1) filters rest → Known (at + 1) filters rest)
+      → ((rest : ToldOfAll Searched) → InOrder (IsSearched project book) (at + 1) filters rest
+      → Known (at + 1) filters rest)
       → IsSearched project book given one
       → Then at one (InOrder (IsSearched project book) (at + 1) filters) told → Known at (given ∷ filters) told
   then_known at given filters (Ok first) told known is (rest, others, told_is) =
       let (asked, done) = known rest others in (
-        (Ok first.asked, is_asked given (Ok first) is, (all_asked rest, asked, ap all_asked told_is ∙ first_asked first rest)),
+        (
+          Ok first.asked,
+          is_asked given (Ok first) is,
+          (all_asked rest, asked, ap all_asked told_is ∙ first_asked first rest),
+        ),
         subst Done (sym told_is) (first_done first rest is.1 done),
       )
   then_known at given filters (Err broken) told known is told_is = (
@@ -127,11 +133,14 @@ module _ (project : List ℕ) (items : List Item) (own : HaveOwnIds items) (item
 
   module _ (lookup : Lookup) where
     -- no other item has the id
-    others_apart : meets lookup item ≡ false → All (λ (one : Item). (one.id == item.id) ≡ false) (found lookup project items)
+    others_apart : meets lookup item ≡ false
+        → All (λ (one : Item). (one.id == item.id) ≡ false) (found lookup project items)
     others_apart misses at d there =
         let one = get_or (found lookup project items) at d in
-        let passes = and_parts (sees project one) (meets lookup one) (filter_passes (finds lookup project) items at d there) in
-        let again = All-filter (finds lookup project) (IsSeenIn project items) items (seen_again project items own) at d there
+        let passes =
+        and_parts (sees project one) (meets lookup one) (filter_passes (finds lookup project) items at d there) in
+        let again =
+        All-filter (finds lookup project) (IsSeenIn project items) items (seen_again project items own) at d there
         passes.0 in
         false_from_ne_true (one.id == item.id)
         (λ same.
@@ -141,12 +150,13 @@ module _ (project : List ℕ) (items : List Item) (own : HaveOwnIds items) (item
 
     is_among : meets lookup item ≡ true → list_any Has (ids_of (found lookup project items)) ≡ true
     is_among met =
-        let there = found_holds (λ (one : Item). item.id == one.id && sees project one) (Contains items) items item
+        let there = holds_of_found (Contains items) (λ (one : Item). item.id == one.id && sees project one) items item
         (All-contains_itself items) seen in
         let among = Contains-filter (finds lookup project) items item there
         (and_from (sees project item) (meets lookup item) is_seen met) in
         let (at, within, is) = Contains-map (λ (one : Item). one.id) (found lookup project items) item among in
-        list_any-from_Any Has (ids_of (found lookup project items)) (at, item.id, within, is, eq-eqb item.id item.id refl)
+        list_any-from_Any Has (ids_of (found lookup project items))
+        (at, item.id, within, is, eq-eqb item.id item.id refl)
 
     found_where_met : (met : Bool) → meets lookup item ≡ met → list_any Has (ids_of (found lookup project items)) ≡ met
     found_where_met true met = is_among met
@@ -159,7 +169,8 @@ module _ (project : List ℕ) (items : List Item) (own : HaveOwnIds items) (item
 
   one_met : (one : Searched) (others : List Searched) (asked : List MetadataLookup) (met : Bool)
       → map as_filter others ≡ map DeveloperMetadataLookup asked
-      → map as_filter (cond met (one ∷ others) others) ≡ map DeveloperMetadataLookup (cond met (one.asked ∷ asked) asked)
+      → map as_filter (cond met (one ∷ others) others)
+      ≡ map DeveloperMetadataLookup (cond met (one.asked ∷ asked) asked)
   one_met one others asked true same = ap (λ rest. as_filter one ∷ rest) same
   one_met one others asked false same = same
 
@@ -196,17 +207,20 @@ module _ (project : List ℕ) (items : List Item) (own : HaveOwnIds items) (sear
       let passes = and_parts (id == item.id) (sees project item)
       (found_passes (λ (one : Item). id == one.id && sees project one) items item is) in
       let seen = sym (ap (λ id. seen_with_id id project items) (eqb-true id item.id passes.0)) ∙ is in
-      ap (λ filters. with_ones item filters ∷ map with_found rest) (found_are_met project items own item seen searched done)
+      ap (λ filters. with_ones item filters ∷ map with_found rest)
+      (found_are_met project items own item seen searched done)
       ∙ ap (λ others. with_met item ∷ others) same
 
-  pub all_matched : (ids : List ℕ) → map with_found (items_seen project ids items) ≡ map with_met (items_seen project ids items)
+  pub all_matched : (ids : List ℕ) → map with_found (items_seen project ids items)
+      ≡ map with_met (items_seen project ids items)
   all_matched [] = refl
   all_matched (id ∷ rest) =
       one_matched id (seen_with_id id project items) refl (items_seen project rest items) (all_matched rest)
 
 -- ---- what the loops list
 
-pub more_asked : (searched : List Searched) (at : ℕ) (one : Searched) → at < length searched → one ≡ get_or searched at one
+pub more_asked : (searched : List Searched) (at : ℕ) (one : Searched) → at < length searched → one
+    ≡ get_or searched at one
     → lookups_of (asked_of (take at searched)) ++ lookup_of one.asked ∷ []
     ≡ lookups_of (asked_of (take (at + 1) searched))
 more_asked searched at one there is =

@@ -16,7 +16,7 @@ use Rattle.dimension_ops.specs.World.{book_with}
 use Rattle.dimension_ops.specs.declared.rule.Rule.{Rule}
 use Rattle.dimension_ops.specs.declared.rule.RuleOr.{RuleOr}
 use Rattle.dimension_ops.specs.declared.rule.RuleOr.TheVariants as refusal
-use Rattle.values_api.specs.declared.writing.Written.{Written}
+use Rattle.values_api.specs.declared.writing.WrittenCells.{WrittenCells}
 use Rattle.sheets_json.specs.declared.answer.Answer.{Answer}
 use Rattle.sheets_json.specs.declared.answer.Answer.TheVariants as answer
 use Rattle.sheets_json.specs.declared.answer.MatchedRange.{MatchedRange}
@@ -103,7 +103,8 @@ IsReadOf range dimension render book = IsSeen (IsShown dimension render book ran
 abbrev pub IsWriteOf : List ℕ → List ℕ → Reading ValueRange → PlaceBook → Result Answer Rule → Effect → Type 0
 IsWriteOf user range values book = IsMade (IsWritten user range book values) (λ wrote. answer.Write wrote.0) book
 
-abbrev pub IsAppendOf : List ℕ → List ℕ → Option InsertData → Reading ValueRange → PlaceBook → Result Answer Rule → Effect
+abbrev pub IsAppendOf : List ℕ → List ℕ → Option InsertData → Reading ValueRange → PlaceBook
+    → Result Answer Rule → Effect
     → Type 0
 IsAppendOf user range option values book =
     IsMade (IsAppended user range (inserts option) book values) (λ made. answer.Append book.id made.0 made.1) book
@@ -144,12 +145,12 @@ abbrev pub IsClearManyOf : List ℕ → List (Reading (List ℕ)) → PlaceBook 
 IsClearManyOf user ranges book =
     AreMade (IsCleared user) ranges place.Ranges (λ texts. answer.ClearMany texts book.id) book
 
-abbrev pub lines_on : Axis → Written → List ℕ
+abbrev pub lines_on : Axis → WrittenCells → List ℕ
 lines_on Rows written = written.rows
 lines_on Columns written = written.cols
 
 -- the lines with a cell that was written or emptied, each with its sheet
-abbrev pub lines_written : (Written → List ℕ) → List Wrote → List (ℕ × ℕ)
+abbrev pub lines_written : (WrittenCells → List ℕ) → List Wrote → List (ℕ × ℕ)
 lines_written lines = flat_map (λ wrote. map (λ line. (wrote.1.area.sheet, line)) (lines wrote.1))
 
 -- lines are told apart by their sheets and their numbers
@@ -219,7 +220,8 @@ pub record IsLookOf (user : List ℕ) (grids : Option Bool) (book : PlaceBook) (
 abbrev pub IsAnswered : Caller → Call → List PlaceBook → Result Answer Refusal → Effect → Type 0
 IsAnswered caller (call.Create spreadsheet) books told effect =
     IsAlone (IsCreateOf caller.user spreadsheet books) told effect
-IsAnswered caller (call.Get id grids) books told effect = OnBook id books (λ book. IsLookOf caller.user grids book told effect)
+IsAnswered caller (call.Get id grids) books told effect =
+    OnBook id books (λ book. IsLookOf caller.user grids book told effect)
 IsAnswered caller (call.Batch id requests) books told effect =
     OnBook id books (λ book. IsBatchOf caller.user caller.project requests book told effect)
 IsAnswered caller (call.Read id range dimension render) books told effect =
@@ -295,7 +297,8 @@ AreNext (Ok (answered, after)) told next = (told ≡ outcome.Answered answered) 
 AreNext (Err (at, broken)) told next = (told ≡ outcome.Refused at broken) × (next ≡ None)
 
 -- a changed spreadsheet takes the place of the one that has its id; where a rule is broken nothing does
-abbrev pub IsInstalled : List PlaceBook → Result (Answer × PlaceBook) Refusal → Outcome → Option (List PlaceBook) → Type 0
+abbrev pub IsInstalled : List PlaceBook → Result (Answer × PlaceBook) Refusal → Outcome
+    → Option (List PlaceBook) → Type 0
 IsInstalled before (Ok (answered, book)) told next =
     (told ≡ outcome.Answered answered) × IsSomeAnd next (ReplacesByName book before)
 IsInstalled before (Err (at, broken)) told next = (told ≡ outcome.Refused at broken) × (next ≡ None)

@@ -12,3 +12,4 @@ pub mod Protected
 pub mod Untouched
 pub mod Laws
 pub mod Answered
+pub mod MadeLaws

@@ -12,7 +12,8 @@ use Rattle.kept_cells.specs.Staying.{LeavesOthers}
 use Rattle.batch_engine.specs.Values.{IsUpdate, Wrote, clear}
 
 pub record RangesKeepOthers : Type 0 where
-  pub write : (user : List ℕ) (book : PlaceBook) (block : Block) (found : FoundArea) (sheet : PlaceSheet) (wrote : Wrote)
+  pub write : (user : List ℕ) (book : PlaceBook) (block : Block) (found : FoundArea) (sheet : PlaceSheet)
+      (wrote : Wrote)
       (changes : List BookChange) → place_sheet_with found.0.sheet book.sheets ≡ Some sheet
       → IsUpdate user book block found sheet (Ok (wrote, changes))
       → LeavesOthers [] (WriteCells book.sheets found.1 found.0 block) book changes

@@ -22,7 +22,7 @@ use Rattle.values_api.specs.Denials.{AreaCells, IsUnlessDenied, IsWriteBy}
 use Rattle.values_api.specs.Ranges.{FoundArea, Resolves, area_text}
 use Rattle.values_api.specs.Shown.{IsAreaShown}
 use Rattle.values_api.specs.Updates.{cleared}
-use Rattle.values_api.specs.declared.writing.Written.{Written}
+use Rattle.values_api.specs.declared.writing.WrittenCells.{WrittenCells}
 use Rattle.json_shapes.specs.Reading.{Reading}
 use Rattle.sheets_json.specs.declared.answer.ShownRange.{ShownRange}
 use Rattle.sheets_json.specs.declared.answer.Update.{Update as UpdateAnswer}
@@ -102,7 +102,7 @@ IsCleared user book (Err shape) told = told ≡ Err (rule_of shape)
 
 -- ---- writes
 
-abbrev pub update_of : PlaceBook → PlaceSheet → Written → UpdateAnswer
+abbrev pub update_of : PlaceBook → PlaceSheet → WrittenCells → UpdateAnswer
 update_of book sheet counts = record {
   spreadsheet_id = book.id;
   updated_cells = counts.cells;
@@ -113,13 +113,13 @@ update_of book sheet counts = record {
 
 -- what a write did, as it is told, and as it is counted with others
 abbrev pub Wrote : Type 0
-Wrote = UpdateAnswer × Written
+Wrote = UpdateAnswer × WrittenCells
 
 -- the user's values are written, or a rule is broken
 pub record IsUpdate (user : List ℕ) (book : PlaceBook) (block : Block) (found : FoundArea) (sheet : PlaceSheet)
     (told : Result (Wrote × List BookChange) Rule) : Type 0 where
   pub after : PlaceBook
-  pub wrote : Result Written Rule
+  pub wrote : Result WrittenCells Rule
   pub writes : IsWriteBy user found.1 found.0 block sheet book after wrote
   pub tells : MatchResult wrote
       (λ counts. told ≡ Ok (
@@ -151,14 +151,14 @@ inserts _ = false
 abbrev pub Appended : Type 0
 Appended = Option (List ℕ) × UpdateAnswer
 
-abbrev pub appended_of : PlaceBook → PlaceSheet → Option Area × Written → Appended
+abbrev pub appended_of : PlaceBook → PlaceSheet → Option Area × WrittenCells → Appended
 appended_of book sheet (table, counts) = (option_map (area_text sheet) table, update_of book sheet counts)
 
 -- the user's values are appended to the table of the area, or a rule is broken; it is told by the sheet as it is then
 pub record IsAppendOn (user : List ℕ) (book : PlaceBook) (insert : Bool) (block : Block) (area : Area)
     (sheet : PlaceSheet) (told : Result (Appended × List BookChange) Rule) : Type 0 where
   pub after : PlaceBook
-  pub appended : Result (Option Area × Written) Rule
+  pub appended : Result (Option Area × WrittenCells) Rule
   pub appends : IsAppend user insert area block sheet book after appended
   pub tells : MatchResult appended
       (λ made. (own : PlaceSheet) × (place_sheet_with area.sheet after.sheets ≡ Some own)

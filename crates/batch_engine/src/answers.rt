@@ -18,7 +18,7 @@ use grid_range::{Area, Axis};
 use sheets_json::{Answer, RangeBlock, ShapeFault, ShownRange, Update, ValueRange};
 use std::alloc::Global;
 use values_api::{
-    Written, calculate_shown, clear_values, range_text, read_values, resolve, updates_once,
+    WrittenCells, calculate_shown, clear_values, range_text, read_values, resolve, updates_once,
     write_values,
 };
 use world_model::updates_are_changes;
@@ -105,7 +105,8 @@ pub(crate) fn emptied(
     user: &str,
     range: &str,
 ) -> Result<Text, RuleOr>
-    ensures { IsUnlessNoMemory (IsDoneTo (IsCleared user.now book.old (Rattle.std.specs.Prelude.Ok range.now)) book.old book.new) result }
+    ensures { IsUnlessNoMemory
+        (IsDoneTo (IsCleared user.now book.old (Rattle.std.specs.Prelude.Ok range.now)) book.old book.new) result }
 {
     updates_are_changes();
     let (area, _) = resolve(alloc, book, range)?;
@@ -136,7 +137,7 @@ fn written(
     user: &str,
     range: &str,
     values: &Result<ValueRange, ShapeFault>,
-) -> Result<(Update, Written), RuleOr>
+) -> Result<(Update, WrittenCells), RuleOr>
     ensures { IsUnlessNoMemory (IsDoneTo (IsWritten user.now range.now book.old values.now) book.old book.new) result }
 {
     match values {
@@ -154,7 +155,7 @@ pub(crate) fn updated(
     book: &mut Book,
     user: &str,
     values: &Result<RangeBlock, ShapeFault>,
-) -> Result<(Update, Written), RuleOr>
+) -> Result<(Update, WrittenCells), RuleOr>
     ensures { IsUnlessNoMemory (IsDoneTo (IsUpdated user.now book.old values.now) book.old book.new) result }
 {
     match values {
@@ -174,7 +175,7 @@ fn put(
     area: &Area,
     one_cell: bool,
     block: &Block,
-) -> Result<(Update, Written), RuleOr>
+) -> Result<(Update, WrittenCells), RuleOr>
     requires { IsThere book.old.sheets area.now }
     ensures { IsSomeAnd (place_sheet_with area.now.sheet book.old.sheets) (λ sheet. IsUnlessNoMemory
         (IsDoneTo (IsUpdate user.now book.old block.now (area.now, one_cell) sheet) book.old book.new) result) }
@@ -186,7 +187,11 @@ fn put(
 }
 
 /// What a write did, as it is told.
-pub(crate) fn update_of(alloc: Global, book: &Book, written: &Written) -> Result<Update, NoMemory>
+pub(crate) fn update_of(
+    alloc: Global,
+    book: &Book,
+    written: &WrittenCells,
+) -> Result<Update, NoMemory>
     requires { IsThere book.now.sheets written.now.area }
     ensures { IfOk result (λ update. IsSomeAnd (place_sheet_with written.now.area.sheet book.now.sheets)
         (λ sheet. update ≡ update_of book.now sheet written.now)) }

@@ -50,7 +50,8 @@ fn appended(
     insert: bool,
     values: &Result<ValueRange, ShapeFault>,
 ) -> Result<Appended, RuleOr>
-    ensures { IsUnlessNoMemory (IsDoneTo (IsAppended user.now range.now insert book.old values.now) book.old book.new) result }
+    ensures { IsUnlessNoMemory
+        (IsDoneTo (IsAppended user.now range.now insert book.old values.now) book.old book.new) result }
 {
     match values {
         Ok(values) => {

@@ -58,7 +58,8 @@ fn all_filtered(
     dimension: Option<Axis>,
     render: Option<Render>,
 ) -> Result<Result<Items<MatchedRange>, (usize, Rule)>, NoMemory>
-    ensures { IfOk result (AreAllShown project.now (record { dimension = dimension; render = render }) book.now filters.now) }
+    ensures { IfOk result
+        (AreAllShown project.now (record { dimension = dimension; render = render }) book.now filters.now) }
 {
     let mut all = Vec::new(alloc);
     let mut table = Table::new(alloc);
@@ -92,7 +93,8 @@ fn filtered(
     render: Option<Render>,
 ) -> Result<Items<MatchedRange>, RuleOr>
     requires { IsTableOf (stored_in book.now) table.old }
-    ensures shown { IsUnlessNoMemory (AreShownBy project.now (record { dimension = dimension; render = render }) book.now filter.now) result }
+    ensures shown { IsUnlessNoMemory
+        (AreShownBy project.now (record { dimension = dimension; render = render }) book.now filter.now) result }
     ensures table { OnOk result (IsTableOf (stored_in book.now) table.new) }
 {
     match filter {
@@ -117,7 +119,8 @@ fn all_shown(
 ) -> Result<Items<MatchedRange>, NoMemory>
     requires there { All (IsThere book.now.sheets) areas.now }
     requires table { IsTableOf (stored_in book.now) table.old }
-    ensures shown { IfOk result (AreAreasShown (record { dimension = dimension; render = render }) book.now filter.now areas.now) }
+    ensures shown { IfOk result
+        (AreAreasShown (record { dimension = dimension; render = render }) book.now filter.now areas.now) }
     ensures table { OnOk result (IsTableOf (stored_in book.now) table.new) }
 {
     let mut all = Vec::new(alloc);

@@ -15,7 +15,7 @@ use dimension_ops::{Book, Rule, RuleOr};
 use grid_range::Axis;
 use sheets_json::{Answer, Place, RangeBlock, ShapeFault, ShownRange, Update};
 use std::alloc::Global;
-use values_api::Written;
+use values_api::WrittenCells;
 use world_model::changes_in_turn;
 
 /// Where in a call a rule is broken, and which.
@@ -143,7 +143,7 @@ fn all_written(
     book: &mut Book,
     user: &str,
     blocks: &[Result<RangeBlock, ShapeFault>],
-) -> Result<Result<Items<(Update, Written)>, (usize, Rule)>, NoMemory>
+) -> Result<Result<Items<(Update, WrittenCells)>, (usize, Rule)>, NoMemory>
     ensures { IfOk result (AreDone (IsUpdated user.now) blocks.now book.old book.new) }
 {
     changes_in_turn();

@@ -118,7 +118,8 @@ fn all_ids(
     project: &str,
     searched: &[Searched],
 ) -> Result<Items<u32>, NoMemory>
-    ensures { IfOk result (AreIdsInOrder (found_by_some (lookups_of (asked_of searched.now)) project.now book.now.metadata)) }
+    ensures { IfOk result
+        (AreIdsInOrder (found_by_some (lookups_of (asked_of searched.now)) project.now book.now.metadata)) }
 {
     let lookups = lookups_asked(alloc, searched)?;
     match book.metadata().search(&lookups, project) {

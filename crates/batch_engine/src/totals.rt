@@ -8,13 +8,13 @@ use dimension_ops::Book;
 use grid_range::Axis;
 use sheets_json::{Answer, Update};
 use std::alloc::Global;
-use values_api::Written;
+use values_api::WrittenCells;
 
 /// What several writes are answered. Lines are told apart by their sheets and their numbers.
 pub(crate) fn written_answer(
     alloc: Global,
     book: &Book,
-    writes: Items<(Update, Written)>,
+    writes: Items<(Update, WrittenCells)>,
 ) -> Result<Answer, NoMemory>
     ensures { IfOk result (λ answer. answer ≡ written_answer book.now writes) }
 {
@@ -37,7 +37,7 @@ pub(crate) fn written_answer(
 /// # Errors
 ///
 /// [`NoMemory`] where they are more than 64 bits count, which no memory holds.
-fn cells_written(writes: &[(Update, Written)]) -> Result<u64, NoMemory>
+fn cells_written(writes: &[(Update, WrittenCells)]) -> Result<u64, NoMemory>
     ensures { IfOk result (λ count. count ≡ sum_by (λ wrote. wrote.1.cells) writes.now) }
 {
     let mut count = 0_u64;
@@ -48,7 +48,10 @@ fn cells_written(writes: &[(Update, Written)]) -> Result<u64, NoMemory>
 }
 
 /// What each write did, as it is told.
-fn responses(alloc: Global, writes: Items<(Update, Written)>) -> Result<Items<Update>, NoMemory>
+fn responses(
+    alloc: Global,
+    writes: Items<(Update, WrittenCells)>,
+) -> Result<Items<Update>, NoMemory>
     ensures { IfOk result (λ responses. responses ≡ map (λ wrote. wrote.0) writes) }
 {
     let mut responses = Vec::new(alloc);
@@ -61,7 +64,7 @@ fn responses(alloc: Global, writes: Items<(Update, Written)>) -> Result<Items<Up
 /// The lines with a cell that was written or emptied, each with its sheet's id.
 fn lines_written(
     alloc: Global,
-    writes: &[(Update, Written)],
+    writes: &[(Update, WrittenCells)],
     axis: Axis,
 ) -> Result<Vec<(u32, u32)>, NoMemory>
     ensures { IfOk result (λ lines. lines.items ≡ lines_written (lines_on axis) writes.now) }
@@ -74,8 +77,14 @@ fn lines_written(
 }
 
 /// Adds the lines of a write.
-fn add_lines(lines: &mut Vec<(u32, u32)>, written: &Written, axis: Axis) -> Result<(), NoMemory>
-    ensures { IfOk result (λ _. lines.new.items ≡ lines.old.items ++ map (λ line. (written.now.area.sheet, line)) (lines_on axis written.now)) }
+fn add_lines(
+    lines: &mut Vec<(u32, u32)>,
+    written: &WrittenCells,
+    axis: Axis,
+) -> Result<(), NoMemory>
+    ensures { IfOk result
+        (λ _. lines.new.items ≡ lines.old.items
+        ++ map (λ line. (written.now.area.sheet, line)) (lines_on axis written.now)) }
 {
     for line in lines_on(written, axis) {
         lines.push((written.area.sheet, *line))?;
@@ -84,7 +93,7 @@ fn add_lines(lines: &mut Vec<(u32, u32)>, written: &Written, axis: Axis) -> Resu
 }
 
 /// The rows of a write, or its columns.
-fn lines_on(written: &Written, axis: Axis) -> &[u32]
+fn lines_on(written: &WrittenCells, axis: Axis) -> &[u32]
     ensures { result.now ≡ lines_on axis written.now }
 {
     match axis {

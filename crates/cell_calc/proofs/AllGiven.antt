@@ -40,6 +40,7 @@ pub one_more_given : (book : Book) (read : Place → Value) (trees : List Tree) 
 one_more_given book read trees count tree arguments a within is stand one =
     let gives = λ (t : Tree). given_by book read (expression_of t) in
     let more : take (count + 1) trees ≡ take count trees ++ tree ∷ [] =
-    ap (λ n. take n trees) (plus_one count) ∙ take-suc trees count tree within ∙ ap (λ t. take count trees ++ t ∷ []) (sym is) in
+    ap (λ n. take n trees) (plus_one count) ∙ take-suc trees count tree within
+    ∙ ap (λ t. take count trees ++ t ∷ []) (sym is) in
     subst (StandFor (arguments ++ a ∷ [])) (sym (ap (map gives) more ∙ map-append gives (take count trees) (tree ∷ [])))
     (one_more_stands arguments (map gives (take count trees)) a (gives tree) stand one)

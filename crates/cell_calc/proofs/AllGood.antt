@@ -27,7 +27,8 @@ module _ {A : Type 0} (reading : Value → Result A Kind) where
   read_all values = all_good (map reading (values_of values))
 
   read_next : (values : List (Bor Value)) (i : ℕ) (value : Bor Value) → i < length values
-      → read_all (drop i values) ≡ all_good (reading (get_or values i value).now ∷ map reading (values_of (drop (suc i) values)))
+      → read_all (drop i values)
+      ≡ all_good (reading (get_or values i value).now ∷ map reading (values_of (drop (suc i) values)))
   read_next values i value within = ap read_all (drop-cons values i value within)
 
   -- one more that is good
@@ -42,7 +43,8 @@ module _ {A : Type 0} (reading : Value → Result A Kind) where
       ∙ behind-good good one (read_all (drop (suc i) values))
 
   -- the first that is none
-  pub read_stops : (values : List (Bor Value)) (i : ℕ) (value : Bor Value) (good : List A) (fault : Kind) → i < length values
+  pub read_stops : (values : List (Bor Value)) (i : ℕ) (value : Bor Value) (good : List A) (fault : Kind) → i
+      < length values
       → read_all values ≡ behind good (read_all (drop i values))
       → reading (get_or values i value).now ≡ Err fault
       → read_all values ≡ Err fault

@@ -40,7 +40,8 @@ nothing_before first width =
 
 -- nothing is read where nothing is stored
 stored_alone : (content : Option Content) (place : ℕ) (known : Value)
-    → cond (is_some content) (filled_at place (value_stored content known)) [] ≡ filled_at place (value_stored content known)
+    → cond (is_some content) (filled_at place (value_stored content known)) []
+    ≡ filled_at place (value_stored content known)
 stored_alone None place known = refl
 stored_alone (Some content) place known = refl
 
@@ -56,7 +57,8 @@ module _ (read : Place → Value) (sheet : ℕ) (columns : List ℕ) where
   appended (x ∷ xs) ys = omega (arith, appended xs ys)
 
   pub rows_long : (rows : List ℕ)
-      → length (map read (flat_map (λ row. map (λ column. record { sheet = sheet; row = row; column = column }) columns) rows))
+      → length
+      (map read (flat_map (λ row. map (λ column. record { sheet = sheet; row = row; column = column }) columns) rows))
       ≡ length rows * length columns
   rows_long [] = omega arith
   rows_long (row ∷ rows) =
@@ -81,11 +83,11 @@ module _ (contents : Contents) (known : Place → Option Value) (sound : AreSoun
   abbrev columns : List ℕ
   columns = lines_of area.cols size.1
 
-  abbrev place_of : ℕ × ℕ → Place
-  place_of cell = record { sheet = area.sheet; row = cell.0; column = cell.1 }
+  abbrev on_sheet : ℕ × ℕ → Place
+  on_sheet cell = record { sheet = area.sheet; row = cell.0; column = cell.1 }
 
   abbrev is_stored : ℕ × ℕ → Bool
-  is_stored cell = is_some (contents.content (place_of cell))
+  is_stored cell = is_some (contents.content (on_sheet cell))
 
   places_are : (places : List (ℕ × ℕ)) → AreStoredPlaces contents area places
       → places ≡ filter is_stored (by_row rows columns)
@@ -95,7 +97,7 @@ module _ (contents : Contents) (known : Place → Option Value) (sound : AreSoun
       (cells_sorted (first_line area.rows) row_count (first_line area.cols) column_count))
       (λ cell has.
       let is = (are.exactly cell.0 cell.1).0 has in
-      let within = within_size (contents.size area.sheet) cell.0 cell.1 (sound.inside (place_of cell) is.1) in
+      let within = within_size (contents.size area.sheet) cell.0 cell.1 (sound.inside (on_sheet cell) is.1) in
       Contains-filter is_stored (by_row rows columns) cell
       (cells_have rows columns cell.0 cell.1 (in_lines area.rows size.0 cell.0 is.0.0 within.0)
       (in_lines area.cols size.1 cell.1 is.0.1 within.1)) is.1)
@@ -110,7 +112,7 @@ module _ (contents : Contents) (known : Place → Option Value) (sound : AreSoun
 
   -- what is read in a row and a column of the sheet, if it isn't blank, with its place among the area's cells
   abbrev entry : ℕ × ℕ → List (ℕ × Value)
-  entry cell = filled_at (place_among area column_count cell.0 cell.1) (read (place_of cell))
+  entry cell = filled_at (place_among area column_count cell.0 cell.1) (read (on_sheet cell))
 
   -- what is read in cells that are stored
   read_each : (cells : List StoredCell) → AreOnSheet contents area.sheet cells
@@ -118,10 +120,11 @@ module _ (contents : Contents) (known : Place → Option Value) (sound : AreSoun
   read_each [] stored = refl
   read_each (cell ∷ cells) stored =
       ap (λ content. filled_at (place_among area column_count cell.row cell.column)
-      (value_stored content (value_known known (place_of (cell_place cell))))
+      (value_stored content (value_known known (on_sheet (cell_place cell))))
       ++ flat_map (cell_read known area column_count) cells)
       (sym (stored cell (Contains-head cell cells)))
-      ∙ ap (λ l. entry (cell_place cell) ++ l) (read_each cells (λ other has. stored other (Contains-cons cell other cells has)))
+      ∙ ap (λ l. entry (cell_place cell) ++ l)
+      (read_each cells (λ other has. stored other (Contains-cons cell other cells has)))
 
   -- the cells that are lent
   pub area_filled : (cells : List StoredCell) → AreStoredCells contents area cells
@@ -131,7 +134,8 @@ module _ (contents : Contents) (known : Place → Option Value) (sound : AreSoun
       read_each cells are.content
       ∙ ap (flat_map entry) (places_are (map cell_place cells) are.places)
       ∙ kept entry entry is_stored
-      (λ cell. stored_alone (contents.content (place_of cell)) (place_among area column_count cell.0 cell.1) (value_known known (place_of cell)))
+      (λ cell. stored_alone (contents.content (on_sheet cell)) (place_among area column_count cell.0 cell.1)
+      (value_known known (on_sheet cell)))
       (by_row rows columns)
       ∙ made_by_row entry rows columns
       ∙ sym (all_rows read area.sheet (first_line area.rows) (first_line area.cols) column_count

@@ -14,7 +14,8 @@ pub each_area : (named : List ℕ → Option Area) (n : _) (trees : Row_of-Tree 
     → all_areas_of named (arguments_of trees)
     ≡ flat_map (λ tree. areas_of named (expression_of tree)) (items-the_row-Tree n trees)
 each_area named _ end_of-Tree = refl
-each_area named _ (more_of-Tree tree trees) = ap (λ l. areas_of named (expression_of tree) ++ l) (each_area named _ trees)
+each_area named _ (more_of-Tree tree trees) =
+    ap (λ l. areas_of named (expression_of tree) ++ l) (each_area named _ trees)
 
 plus_one : (n : ℕ) → n + 1 ≡ suc n
 plus_one n = omega arith
@@ -28,14 +29,17 @@ regrouped [] ys zs = refl
 regrouped (x ∷ xs) ys zs = ap (λ l. x ∷ l) (regrouped xs ys zs)
 
 -- one more tree's behind those of the trees so far
-pub one_more_areas : (f : Tree → List Area) (trees : List Tree) (count : ℕ) (tree : Tree) (first before after : List Area)
+pub one_more_areas : (f : Tree → List Area) (trees : List Tree) (count : ℕ) (tree : Tree)
+    (first before after : List Area)
     → count < length trees → tree ≡ get_or trees count tree
     → before ≡ first ++ flat_map f (take count trees) → after ≡ before ++ f tree
     → after ≡ first ++ flat_map f (take (count + 1) trees)
 one_more_areas f trees count tree first before after within is was now =
     let so_far = flat_map f (take count trees) in
     let more : take (count + 1) trees ≡ take count trees ++ tree ∷ [] =
-    ap (λ n. take n trees) (plus_one count) ∙ take-suc trees count tree within ∙ ap (λ t. take count trees ++ t ∷ []) (sym is) in
+    ap (λ n. take n trees) (plus_one count) ∙ take-suc trees count tree within
+    ∙ ap (λ t. take count trees ++ t ∷ []) (sym is) in
     let made : flat_map f (take (count + 1) trees) ≡ so_far ++ f tree =
-    ap (flat_map f) more ∙ flat_map-append f (take count trees) (tree ∷ []) ∙ ap (λ l. so_far ++ l) (nothing_behind (f tree)) in
+    ap (flat_map f) more ∙ flat_map-append f (take count trees) (tree ∷ [])
+    ∙ ap (λ l. so_far ++ l) (nothing_behind (f tree)) in
     now ∙ ap (λ l. l ++ f tree) was ∙ regrouped first so_far (f tree) ∙ ap (λ l. first ++ l) (sym made)

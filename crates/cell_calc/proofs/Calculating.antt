@@ -18,7 +18,7 @@ use Rattle.cell_calc.specs.Book.{Book, Place, HoldsPlace}
 use Rattle.cell_calc.specs.Contents.{Contents, AreOf, AreSound, AreStoredCells, IsStoredFormula, cell_place}
 use Rattle.cell_calc.specs.CellValue.{HasValue}
 use Rattle.cell_calc.specs.declared.table.Table.{Table}
-use Rattle.cell_calc.specs.Marks.{place_of, marks_of, value_told}
+use Rattle.cell_calc.specs.Marks.{keyed_place, marks_of, value_told}
 use Rattle.cell_calc.specs.Walk.{HeldBy, Holds, Goes}
 use Rattle.cell_calc.specs.Calculated.{IsValueIn, AreValues, AreAllValues, IsTableOf, Calculates, SettlesAll, Calculated, whole_sheet}
 use Rattle.cell_calc.proofs.Endless.{counts_are_bounds}
@@ -47,7 +47,8 @@ sized P None has = absurd has
 sized P (Some size) has = refl
 
 module _ (contents : Contents) where
-  pub nothing_known : (marks : Place → Option Mark) → ((place : Place) → marks place ≡ None) → Calculated contents [] marks
+  pub nothing_known : (marks : Place → Option Mark) → ((place : Place) → marks place ≡ None)
+      → Calculated contents [] marks
   nothing_known marks none = record {
     right = λ book are. record {
       depth = 0;
@@ -64,13 +65,13 @@ module _ (contents : Contents) where
   pub one_more_cell : (sheet : ℕ) (cells : List StoredCell) (count : ℕ) (cell d : StoredCell) → count < length cells
       → cell ≡ get_or cells count d → (before middle after : Place → Option Mark)
       → SettlesAll contents sheet (take count cells) before middle → Goes contents middle [] after []
-      → (IsStoredFormula (Some cell.content.now) → IsSome (after (place_of (sheet, cell.row, cell.column))))
+      → (IsStoredFormula (Some cell.content.now) → IsSome (after (keyed_place (sheet, cell.row, cell.column))))
       → SettlesAll contents sheet (take (count + 1) cells) before after
   one_more_cell sheet cells count cell d within is before middle after settles goes met = record {
     goes = goes_on contents before [] middle [] after [] settles.goes goes;
     all = λ other has formed. elim (one_more_cases cells count cell d other within is has) [
-      | inl earlier ↦ goes.stay (place_of (sheet, other.row, other.column)) (settles.all other earlier formed)
-      | inr same ↦ subst (λ c. IsSome (after (place_of (sheet, c.row, c.column)))) same
+      | inl earlier ↦ goes.stay (keyed_place (sheet, other.row, other.column)) (settles.all other earlier formed)
+      | inr same ↦ subst (λ c. IsSome (after (keyed_place (sheet, c.row, c.column)))) same
           (met (subst (λ c. IsStoredFormula (Some c.content.now)) (sym same) formed))
     ];
   }
@@ -87,18 +88,21 @@ module _ (contents : Contents) where
   all_of_area area cells stored before after settles = record {
     goes = settles.goes;
     all = λ place holds formed.
-        let at : place_of (area.sheet, place.row, place.column) ≡ place =
-        ap (λ s. place_of (s, place.row, place.column)) holds.0 in
+        let at : keyed_place (area.sheet, place.row, place.column) ≡ place =
+        ap (λ s. keyed_place (s, place.row, place.column)) holds.0 in
         let here = subst (λ p. IsStoredFormula (contents.content p)) (sym at) formed in
-        let has = (stored.places.exactly place.row place.column).1 (holds.1, formula_is_some (contents.content (place_of (area.sheet, place.row, place.column))) here) in
+        let has = (stored.places.exactly place.row place.column).1
+        (holds.1, formula_is_some (contents.content (keyed_place (area.sheet, place.row, place.column))) here) in
         let (cell, among, same) = Contains-map_from cell_place cells (place.row, place.column) has in
-        let there : place_of (area.sheet, cell.row, cell.column) ≡ place_of (area.sheet, place.row, place.column) =
-        ap (λ c. place_of (area.sheet, c.0, c.1)) same in
+        let there : keyed_place (area.sheet, cell.row, cell.column)
+        ≡ keyed_place (area.sheet, place.row, place.column) =
+        ap (λ c. keyed_place (area.sheet, c.0, c.1)) same in
         let formula = subst IsStoredFormula (sym (ap contents.content there) ∙ stored.content cell among) here in
         subst (λ p. IsSome (after p)) (there ∙ at) (settles.all cell among formula);
   }
 
-  pub one_more_area : (areas : List Area) (count : ℕ) (area d : Area) → count < length areas → area ≡ get_or areas count d
+  pub one_more_area : (areas : List Area) (count : ℕ) (area d : Area) → count < length areas → area
+      ≡ get_or areas count d
       → (before after : Place → Option Mark) → Calculated contents (take count areas) before
       → Calculates contents area before after → Calculated contents (take (count + 1) areas) after
   one_more_area areas count area d within is before after was calculates = record {
@@ -113,9 +117,11 @@ module _ (contents : Contents) where
     other_value : (book : Book) → AreOf contents book → (place : Place) (value : Value)
         → value_told (marks place) ≡ Some value → HasValue book place value
     other_value book are place value is =
-        counts_are_bounds book place value (told_is_value contents book are marks (calculated.right book are) place value is)
+        counts_are_bounds book place value
+        (told_is_value contents book are marks (calculated.right book are) place value is)
 
-    some_told : (book : Book) → AreOf contents book → (place : Place) (mark : Option Mark) → marks place ≡ mark → IsSome mark
+    some_told : (book : Book) → AreOf contents book → (place : Place) (mark : Option Mark) → marks place ≡ mark
+        → IsSome mark
         → HasValue book place (unwrap_or (value_told mark) Blank)
     some_told book are place None is some = let no : ⊥ = cc in absurd no
     some_told book are place (Some Open) is some = absurd ((calculated.right book are).opened place is)
@@ -143,7 +149,8 @@ module _ (contents : Contents) where
   }
 
   module _ (area : Area) (areas : List Area) (before after : Place → Option Mark)
-      (was : (book : Book) → AreOf contents book → Holds book before []) (calculates : Calculates contents area before after)
+      (was : (book : Book) → AreOf contents book → Holds book before [])
+      (calculates : Calculates contents area before after)
       (values : AreValues contents areas (λ place. value_told (before place))) where
     calculated : Calculated contents (area ∷ []) after
     calculated = one_area area before after was calculates
@@ -151,7 +158,8 @@ module _ (contents : Contents) where
     nothing_before : (place : Place) → after place ≡ None → before place ≡ None
     nothing_before place is = none_before (before place) (calculates.goes.stay place) refl
       where
-        none_before : (mark : Option Mark) → (IsSome mark → IsSome (after place)) → before place ≡ mark → before place ≡ None
+        none_before : (mark : Option Mark) → (IsSome mark → IsSome (after place)) → before place ≡ mark
+            → before place ≡ None
         none_before None stays at = at
         none_before (Some mark) stays at = let some = stays refl in let never : ⊥ = cc in absurd never
 
@@ -181,11 +189,14 @@ module _ (contents : Contents) where
     -- a table of the spreadsheet comes to another that has the area's values
     pub table_after : OnOk r (IsTableOf contents after)
     table_after =
-        on_ok_weaker r (λ found. record { right = λ book are. found.goes.right book are (was.right book are) }) calculates
+        on_ok_weaker r
+        (λ found. record { right = λ book are. found.goes.right book are (was.right book are) }) calculates
 
     pub values_after : OnOk r (AreValues contents (area ∷ []) (λ place. value_told (marks_of after place)))
     values_after =
-        on_ok_weaker r (λ found. are_values (area ∷ []) (marks_of after) (one_area area (marks_of before) (marks_of after) was.right found))
+        on_ok_weaker r
+        (λ found. are_values (area ∷ []) (marks_of after)
+        (one_area area (marks_of before) (marks_of after) was.right found))
         calculates
 
   pub are_all_values : AreSound contents → (known : Place → Option Value)

@@ -38,18 +38,21 @@ is_known_found (Some Endless) is = false≢true is
 is_known_found (Some (Known value)) is = tt
 
 -- a place is one of the path, or keeps its mark
-pub closed_cases : (before : Place → Option Mark) (path : List Frame) (after : Place → Option Mark) → Closes before path after
+pub closed_cases : (before : Place → Option Mark) (path : List Frame) (after : Place → Option Mark)
+    → Closes before path after
     → (place : Place) → (OnPath path place × (after place ≡ Some Endless)) ⊎ (after place ≡ before place)
 closed_cases before [] after closes place = inr (closes place)
-closed_cases before (frame ∷ later) after (next, marked, closes) place = elim (closed_cases next later after closes place) [
-  | inl (on, is) ↦ inl (inr on, is)
-  | inr same ↦ elim (cases before (place_at frame) Endless next marked place) [
-    | inl (at, is) ↦ inl (inl at, same ∙ is)
-    | inr stays ↦ inr (same ∙ stays)
-  ]
-]
+closed_cases before (frame ∷ later) after (next, marked, closes) place =
+    elim (closed_cases next later after closes place) [
+      | inl (on, is) ↦ inl (inr on, is)
+      | inr same ↦ elim (cases before (place_at frame) Endless next marked place) [
+        | inl (at, is) ↦ inl (inl at, same ∙ is)
+        | inr stays ↦ inr (same ∙ stays)
+      ]
+    ]
 
-stays_endless : (before : Place → Option Mark) (path : List Frame) (after : Place → Option Mark) → Closes before path after
+stays_endless : (before : Place → Option Mark) (path : List Frame) (after : Place → Option Mark)
+    → Closes before path after
     → (place : Place) → before place ≡ Some Endless → after place ≡ Some Endless
 stays_endless before path after closes place was = elim (closed_cases before path after closes place) [
   | inl (on, is) ↦ is
@@ -74,7 +77,8 @@ module _ (book : Book) where
   onward (frame ∷ below) place reads linked Q has all other (inl at) =
       subst (λ p. (next : Place) × Reads book.named (book.cells p) next × Q next) at (place, reads, has)
   onward (frame ∷ below) place reads linked Q has all other (inr on) =
-      onward below (place_at frame) linked.0 linked.1 Q (all (place_at frame) (inl refl)) (λ p here. all p (inr here)) other on
+      onward below (place_at frame) linked.0 linked.1 Q (all (place_at frame) (inl refl))
+      (λ p here. all p (inr here)) other on
 
   path_walks : (path : List Frame) (place : Place) → IsReadBy book path place → IsLinked book path
       → ((other : Place) → OnPath path other → IsFormula (book.cells other))
@@ -82,7 +86,8 @@ module _ (book : Book) where
       → (steps : ℕ) (other : Place) → OnPath path other → Walks book steps other
   path_walks path place reads linked formulas goes zero other on = formulas other on
   path_walks path place reads linked formulas goes (suc steps) other on =
-      onward path place reads linked (Walks book steps) (goes steps (path_walks path place reads linked formulas goes steps))
+      onward path place reads linked (Walks book steps)
+      (goes steps (path_walks path place reads linked formulas goes steps))
       (path_walks path place reads linked formulas goes steps) other on
 
   formulas_on : (marks : Place → Option Mark) (path : List Frame)

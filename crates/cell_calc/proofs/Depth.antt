@@ -14,7 +14,8 @@ module _ (book : Book) where
   read_at zero place = Error kind.Ref
   read_at (suc depth) place = value_in book depth place
 
-  pub as_cell : (depth : ℕ) (place : Place) → value_in book depth place ≡ value_of_cell book (read_at depth) (book.cells place)
+  pub as_cell : (depth : ℕ) (place : Place) → value_in book depth place
+      ≡ value_of_cell book (read_at depth) (book.cells place)
   as_cell zero place = refl
   as_cell (suc depth) place = refl
 
@@ -45,7 +46,8 @@ module _ (book : Book) where
     ends = λ other ends. sym is ∙ same_at depth other place none ends;
   }
 
-  pub endless_is_value : (place : Place) → ((steps : ℕ) → Walks book steps place) → IsValueOf book place (Error kind.Ref)
+  pub endless_is_value : (place : Place) → ((steps : ℕ) → Walks book steps place)
+      → IsValueOf book place (Error kind.Ref)
   endless_is_value place walks = record {
     endless = λ _. refl;
     ends = λ depth none. absurd (none (walks depth));

@@ -24,9 +24,12 @@ same_place : (one other : Place) → is_place one other ≡ true → one ≡ oth
 same_place one other is =
     let parts = and_parts (one.sheet == other.sheet) (one.row == other.row && one.column == other.column) is in
     let lines = and_parts (one.row == other.row) (one.column == other.column) parts.1 in
-    ap (λ sheet. record { sheet = sheet; row = one.row; column = one.column }) (equal_numbers one.sheet other.sheet parts.0)
-    ∙ ap (λ row. record { sheet = other.sheet; row = row; column = one.column }) (equal_numbers one.row other.row lines.0)
-    ∙ ap (λ column. record { sheet = other.sheet; row = other.row; column = column }) (equal_numbers one.column other.column lines.1)
+    ap (λ sheet. record { sheet = sheet; row = one.row; column = one.column })
+    (equal_numbers one.sheet other.sheet parts.0)
+    ∙ ap (λ row. record { sheet = other.sheet; row = row; column = one.column })
+    (equal_numbers one.row other.row lines.0)
+    ∙ ap (λ column. record { sheet = other.sheet; row = other.row; column = column })
+    (equal_numbers one.column other.column lines.1)
 
 is_itself : (place : Place) → is_place place place ≡ true
 is_itself place =
@@ -46,7 +49,8 @@ reads_before : (named : List ℕ → Option Area) (empty : Bool) (cell : Cell) (
 reads_before named true cell place reads = absurd reads
 reads_before named false cell place reads = reads
 
-reads_as_formula : (named : List ℕ → Option Area) (cell : Cell) (place : Place) → Reads named cell place → IsFormula cell
+reads_as_formula : (named : List ℕ → Option Area) (cell : Cell) (place : Place) → Reads named cell place
+    → IsFormula cell
 reads_as_formula named (stored value) place reads = absurd reads
 reads_as_formula named (formula tree) place reads = tt
 
@@ -69,7 +73,8 @@ module _ (book : Book) where
   shorter (suc steps) place (next, reads, rest) = (next, reads, shorter steps next rest)
 
   -- a walk that leads to the start of another
-  along : (steps length : ℕ) (one other : Place) → Leads book steps one other → Walks book length other → Walks book length one
+  along : (steps length : ℕ) (one other : Place) → Leads book steps one other → Walks book length other
+      → Walks book length one
   along zero length one other same walk = subst (Walks book length) (sym same) walk
   along (suc steps) length one other (next, reads, leads) walk =
       shorter length one (next, reads, along steps length next other leads walk)
@@ -115,7 +120,8 @@ has_some places place (at, within, is) = omega (arith, within)
 
 fewer : (places : List Place) (place : Place) → Contains places place → length (others place places) < length places
 fewer places place has =
-    let some = has_some (filter (is_place place) places) place (Contains-filter (is_place place) places place has (is_itself place)) in
+    let some = has_some (filter (is_place place) places) place
+    (Contains-filter (is_place place) places place has (is_itself place)) in
     let all = length-filter_both (is_place place) (λ other. not (is_place place other)) (λ other. refl) places in
     omega (arith, some, all)
 
@@ -123,7 +129,8 @@ abbrev AreAll : Book → List Place → Type 0
 AreAll book places = (place : Place) → IsFormula (book.cells place) → Contains places place
 
 -- without a cell the others are all
-all_others : (book : Book) (places : List Place) (gone : Place) → AreAll book places → AreAll (without gone book) (others gone places)
+all_others : (book : Book) (places : List Place) (gone : Place) → AreAll book places
+    → AreAll (without gone book) (others gone places)
 all_others book places gone all place is =
     elim (cases_Bool (is_place gone place)) [
       | inl same ↦ absurd (subst (λ b. IsFormula (emptied b (book.cells place))) same is)

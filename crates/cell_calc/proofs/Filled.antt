@@ -48,12 +48,14 @@ module _ {K : Type 0} (c : K → K → Ordering) (never : (x : K) → c x x ≡ 
       let from' = subst (λ z. (k : K) → Contains (z ∷ ys) k → Contains (x ∷ xs) k) (sym is) from in
       let second' = subst (λ z. IsStrictlySortedBy c (z ∷ ys)) (sym is) second in
       ap (λ z. z ∷ xs) is
-      ∙ ap (λ l. y ∷ l) (sorted_alike xs ys first.1 second.1 (in_tail x xs ys first to') (in_tail x ys xs second' from'))
+      ∙ ap (λ l. y ∷ l)
+      (sorted_alike xs ys first.1 second.1 (in_tail x xs ys first to') (in_tail x ys xs second' from'))
 
 filled_cons : (place : ℕ) (value : Value) (later : List Value)
     → filled_from place (value ∷ later) ≡ filled_at place value ++ filled_from (suc place) later
 filled_cons place value later =
-    elim (is_blank value) as (λ b. cond b (filled_from (suc place) later) ((place, value) ∷ filled_from (suc place) later)
+    elim (is_blank value) as (λ b. cond b (filled_from (suc place) later)
+    ((place, value) ∷ filled_from (suc place) later)
     ≡ cond b [] ((place, value) ∷ []) ++ filled_from (suc place) later) [ true ↦ refl | false ↦ refl ]
 
 filled_append : (place : ℕ) (front back : List Value)
@@ -62,8 +64,10 @@ filled_append place [] back = ap (λ n. filled_from n back) (omega arith)
 filled_append place (value ∷ later) back =
     filled_cons place value (later ++ back)
     ∙ ap (λ l. filled_at place value ++ l) (filled_append (suc place) later back)
-    ∙ elim (is_blank value) as (λ b. cond b [] ((place, value) ∷ []) ++ (filled_from (suc place) later ++ filled_from (suc place + length later) back)
-    ≡ cond b (filled_from (suc place) later) ((place, value) ∷ filled_from (suc place) later) ++ filled_from (place + suc (length later)) back) [
+    ∙ elim (is_blank value) as (λ b. cond b [] ((place, value) ∷ [])
+    ++ (filled_from (suc place) later ++ filled_from (suc place + length later) back)
+    ≡ cond b (filled_from (suc place) later) ((place, value) ∷ filled_from (suc place) later)
+    ++ filled_from (place + suc (length later)) back) [
       | true ↦ ap (λ n. filled_from (suc place) later ++ filled_from n back) (omega arith)
       | false ↦ ap (λ n. (place, value) ∷ (filled_from (suc place) later ++ filled_from n back)) (omega arith)
     ]
@@ -85,7 +89,8 @@ module _ (read : Place → Value) (sheet first_row first_column width : ℕ) whe
   one_row row column zero place behind is = refl
   one_row row column (suc count) place behind is =
       filled_cons place (at row column) (map (λ c. at row c) (range_with_len (column + 1) count))
-      ∙ ap (λ n. filled_at n (at row column) ++ filled_from (suc place) (map (λ c. at row c) (range_with_len (column + 1) count))) is
+      ∙ ap (λ n. filled_at n (at row column)
+      ++ filled_from (suc place) (map (λ c. at row c) (range_with_len (column + 1) count))) is
       ∙ ap (λ l. entry_at row column ++ l)
       (one_row row (column + 1) count (suc place) (omega (arith, behind)) (omega (arith, behind, is)))
 
@@ -120,11 +125,15 @@ module _ (read : Place → Value) (sheet first_row first_column width : ℕ) whe
   all_rows row zero place behind is = refl
   all_rows row (suc count) place behind is =
       ap (filled_from place) (map-append read (row_of row) (flat_map row_of (range_with_len (row + 1) count)))
-      ∙ ap (λ l. filled_from place (l ++ map read (flat_map row_of (range_with_len (row + 1) count)))) (row_read row first_column width)
-      ∙ filled_append place (map (λ c. at row c) (range_with_len first_column width)) (map read (flat_map row_of (range_with_len (row + 1) count)))
-      ∙ ap (λ l. l ++ filled_from (place + length (map (λ c. at row c) (range_with_len first_column width))) (map read (flat_map row_of (range_with_len (row + 1) count))))
+      ∙ ap (λ l. filled_from place (l ++ map read (flat_map row_of (range_with_len (row + 1) count))))
+      (row_read row first_column width)
+      ∙ filled_append place (map (λ c. at row c) (range_with_len first_column width))
+      (map read (flat_map row_of (range_with_len (row + 1) count)))
+      ∙ ap (λ l. l ++ filled_from (place + length (map (λ c. at row c) (range_with_len first_column width)))
+      (map read (flat_map row_of (range_with_len (row + 1) count))))
       (one_row row first_column width place (omega arith) (omega (arith, is)))
-      ∙ ap (λ n. flat_map (λ c. entry_at row c) (range_with_len first_column width) ++ filled_from (place + n) (map read (flat_map row_of (range_with_len (row + 1) count))))
+      ∙ ap (λ n. flat_map (λ c. entry_at row c) (range_with_len first_column width)
+      ++ filled_from (place + n) (map read (flat_map row_of (range_with_len (row + 1) count))))
       (row_length row first_column width)
       ∙ ap (λ l. flat_map (λ c. entry_at row c) (range_with_len first_column width) ++ l)
       (all_rows (row + 1) count (place + width) (omega (arith, behind)) (next_row row place behind is))

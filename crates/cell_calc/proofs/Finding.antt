@@ -33,23 +33,27 @@ Pairs = List (ℕ × Value)
 -- where the first value is blank, and where it isn't
 from_blank : (from : ℕ) (value : Value) (later : List Value) → is_blank value ≡ true
     → filled_from from (value ∷ later) ≡ filled_from (suc from) later
-from_blank from value later is = ap (λ b. cond b (filled_from (suc from) later) ((from, value) ∷ filled_from (suc from) later)) is
+from_blank from value later is =
+    ap (λ b. cond b (filled_from (suc from) later) ((from, value) ∷ filled_from (suc from) later)) is
 
 from_filled : (from : ℕ) (value : Value) (later : List Value) → is_blank value ≡ false
     → filled_from from (value ∷ later) ≡ (from, value) ∷ filled_from (suc from) later
-from_filled from value later is = ap (λ b. cond b (filled_from (suc from) later) ((from, value) ∷ filled_from (suc from) later)) is
+from_filled from value later is =
+    ap (λ b. cond b (filled_from (suc from) later) ((from, value) ∷ filled_from (suc from) later)) is
 
 -- the value in a place
 abbrev paired : ℕ → Pairs → Value
 paired place [] = Blank
 paired place (pair ∷ later) = cond (pair.0 == place) pair.1 (paired place later)
 
-in_place_paired : (place : ℕ) (cells : List FilledCell) → value_in_place place cells ≡ paired place (map place_and_value cells)
+in_place_paired : (place : ℕ) (cells : List FilledCell) → value_in_place place cells
+    ≡ paired place (map place_and_value cells)
 in_place_paired place [] = refl
 in_place_paired place (cell ∷ cells) =
     ap (λ rest. cond (cell.place == place) (value_held cell.value) rest) (in_place_paired place cells)
 
-paired_other : (place from : ℕ) (value : Value) (rest : Pairs) → place < from → paired place ((from, value) ∷ rest) ≡ paired place rest
+paired_other : (place from : ℕ) (value : Value) (rest : Pairs) → place < from → paired place ((from, value) ∷ rest)
+    ≡ paired place rest
 paired_other place from value rest below =
     let other : (from == place) ≡ false = grind (arith, nat_tests, below) in
     ap (λ b. cond b value (paired place rest)) other
@@ -102,7 +106,8 @@ abbrev matched : Value → Pairs → Option ℕ
 matched key [] = None
 matched key (pair ∷ later) = cond (is_match key pair.1) (Some pair.0) (matched key later)
 
-first_matched : (key : Value) (cells : List FilledCell) → first_match key cells ≡ matched key (map place_and_value cells)
+first_matched : (key : Value) (cells : List FilledCell) → first_match key cells
+    ≡ matched key (map place_and_value cells)
 first_matched key [] = refl
 first_matched key (cell ∷ cells) =
     ap (λ rest. cond (is_match key (value_held cell.value)) (Some cell.place) rest) (first_matched key cells)
@@ -119,7 +124,8 @@ matched_from key from at (value ∷ later) is =
           ∙ rest ∙ sym (ap (λ b. cond b (Some at) (position_from (is_match key) (at + 1) later)) fails)
       | inr filled ↦
           ap (λ pairs. option_map suc (matched key pairs)) (from_filled from value later filled)
-          ∙ elim (is_match key value) as (λ b. option_map suc (cond b (Some from) (matched key (filled_from (suc from) later)))
+          ∙ elim (is_match key value) as (λ b. option_map suc
+          (cond b (Some from) (matched key (filled_from (suc from) later)))
           ≡ cond b (Some at) (position_from (is_match key) (at + 1) later)) [
             | true ↦ ap (λ n. Some n) (sym is)
             | false ↦ rest
@@ -142,7 +148,8 @@ matches_from key from (value ∷ later) =
       | inl blank ↦
           let fails : is_match key value ≡ false = ap (is_match key) (blank_is value blank) ∙ blank_matches_none key in
           ap (λ pairs. length (filter (λ pair. is_match key pair.1) pairs)) (from_blank from value later blank)
-          ∙ rest ∙ sym (ap (λ b. length (cond b (value ∷ filter (is_match key) later) (filter (is_match key) later))) fails)
+          ∙ rest ∙ sym
+          (ap (λ b. length (cond b (value ∷ filter (is_match key) later) (filter (is_match key) later))) fails)
       | inr filled ↦
           ap (λ pairs. length (filter (λ pair. is_match key pair.1) pairs)) (from_filled from value later filled)
           ∙ elim (is_match key value) as (λ b.
@@ -155,7 +162,8 @@ matches_from key from (value ∷ later) =
     ]
 
 matches_paired : (key : Value) (cells : List FilledCell)
-    → length (filter (is_matching key) cells) ≡ length (filter (λ pair. is_match key pair.1) (map place_and_value cells))
+    → length (filter (is_matching key) cells)
+    ≡ length (filter (λ pair. is_match key pair.1) (map place_and_value cells))
 matches_paired key [] = refl
 matches_paired key (cell ∷ cells) =
     elim (is_match key (value_held cell.value)) as (λ b.
@@ -279,7 +287,8 @@ module _ (key : Value) (test : ℕ → Bool) where
             ∙ sym (chosen_blank v o beside (is_match key v) (blank_is_no_number o blank))
         | inr filled ↦
             ap (flat_map (pair_if test)) (from_filled from o os filled)
-            ∙ ap (λ b. cond (b && is_number_or_error o) (o ∷ []) [] ++ flat_map (pair_if test) (filled_from (suc from) os)) here
+            ∙ ap (λ b. cond (b && is_number_or_error o) (o ∷ []) []
+            ++ flat_map (pair_if test) (filled_from (suc from) os)) here
             ∙ ap (λ l. cond (is_match key v && is_number_or_error o) (o ∷ []) [] ++ l) rest
             ∙ chosen_number v o beside (is_match key v)
       ]

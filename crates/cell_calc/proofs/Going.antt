@@ -23,7 +23,7 @@ use Rattle.cell_calc.specs.Contents.{Contents, AreOf, AreStoredCells, AreStoredP
 use Rattle.cell_calc.specs.CellValue.{areas_of, Reads}
 use Rattle.cell_calc.specs.FormulaValue.{value_of_cell}
 use Rattle.cell_calc.specs.Known.{book_read, value_read}
-use Rattle.cell_calc.specs.Marks.{place_of, IsMarked, IsKnown, value_told, found_by}
+use Rattle.cell_calc.specs.Marks.{keyed_place, IsMarked, IsKnown, value_told, found_by}
 use Rattle.cell_calc.specs.Walk.{HeldBy, place_at, Waits, Holds, Stay, Goes, Passes, Meets, Closes, IsCut, IsTreeAt, is_settled_by, AreSettled, IsAreaSettled, AreAreasSettled}
 use Rattle.cell_calc.proofs.OneAnswer.{one_answer}
 use Rattle.cell_calc.proofs.Marking.{some_is, here, mark_stays, value_known_of}
@@ -109,12 +109,12 @@ module _ (contents : Contents) where
   pub finished_by : (before : Place → Option Mark) (frame : Frame) (below : List Frame) (key : ℕ × ℕ × ℕ) (tree : Tree)
       → frame.place ≡ key → frame.tree ≡ tree → frame.rest.items ≡ [] → (value : Value)
       → value ≡ value_by before (formula (Some (expression_of tree)))
-      → (after : Place → Option Mark) → IsMarked before (place_of key) (Known value) after
+      → (after : Place → Option Mark) → IsMarked before (keyed_place key) (Known value) after
       → Goes contents before (frame ∷ below) after below
   finished_by before frame below key tree at same none value is after marked =
       finished before frame below none value
       (subst (λ t. value ≡ value_by before (formula (Some (expression_of t)))) (sym same) is) after
-      (subst (λ k. IsMarked before (place_of k) (Known value) after) (sym at) marked)
+      (subst (λ k. IsMarked before (keyed_place k) (Known value) after) (sym at) marked)
 
   -- a formula whose areas hold known formulas alone is known at once
   pub known_at_once : (place : Place) (before : Place → Option Mark) (path : List Frame) (tree : Option Expression)
@@ -158,7 +158,8 @@ module _ (contents : Contents) where
   same_areas book are tree = ap (λ named. areas_of named tree) (sym (fun_ext are.named))
 
   -- a formula that waits for none comes to be known
-  pub evaluated : (place : Place) (before : Place → Option Mark) (path : List Frame) (tree : Expression) (areas : List Area)
+  pub evaluated : (place : Place) (before : Place → Option Mark) (path : List Frame) (tree : Expression)
+      (areas : List Area)
       (value : Value) → AreAreasSettled contents before areas → areas ≡ areas_of contents.named tree
       → value ≡ value_by before (formula (Some tree)) → IsTreeAt contents place (Some tree)
       → (after : Place → Option Mark) → IsMarked before place (Known value) after
@@ -166,7 +167,8 @@ module _ (contents : Contents) where
   evaluated place before path tree areas value settled all is at after marked =
       known_at_once place before path (Some tree) value
       (λ book are next reads formed.
-      settled reads.0 (subst (λ l. Contains l reads.0) (sym (all ∙ same_areas book are tree)) reads.1) next reads.2 formed)
+      settled reads.0 (subst (λ l. Contains l reads.0) (sym (all ∙ same_areas book are tree)) reads.1) next
+      reads.2 formed)
       is at after marked
 
   pub entered : (before : Place → Option Mark) (path : List Frame) (frame : Frame)
@@ -215,17 +217,18 @@ module _ (contents : Contents) where
       → ((place : Place) → HeldBy whole.rest.items place → IsFormula (book.cells place)
       → IsKnown (marks place) ⊎ HeldBy frame.rest.items place)
       → ((key : ℕ × ℕ × ℕ) → Contains frame.noted.items key
-      → Reads book.named (book.cells (place_at whole)) (place_of key))
+      → Reads book.named (book.cells (place_at whole)) (keyed_place key))
       → Waits book marks frame
   waits_with book marks whole frame wait at tree fewer left notes = record {
     is = same ∙ wait.is ∙ ap (λ t. formula (Some (expression_of t))) (sym tree);
-    within = λ place held. subst (λ cell. Reads book.named cell place) (sym same) (wait.within place (fewer place held));
+    within =
+        λ place held. subst (λ cell. Reads book.named cell place) (sym same) (wait.within place (fewer place held));
     covers = λ place reads formed.
         elim (wait.covers place (subst (λ cell. Reads book.named cell place) same reads) formed) [
           | inl known ↦ inl known
           | inr held ↦ left place held formed
         ];
-    noted = λ key has. subst (λ cell. Reads book.named cell (place_of key)) (sym same) (notes key has);
+    noted = λ key has. subst (λ cell. Reads book.named cell (keyed_place key)) (sym same) (notes key has);
   }
     where
       same : book.cells (place_at frame) ≡ book.cells (place_at whole)
@@ -233,8 +236,12 @@ module _ (contents : Contents) where
 
   module _ (whole frame : Frame) (area : Area) (cut : IsCut whole frame area) where
     held_more : (place : Place) → HeldBy frame.rest.items place → HeldBy whole.rest.items place
-    held_more place (one, has, holds) =
-        (one, subst (λ l. Contains l one) (sym cut.rest) (Contains-append_left frame.rest.items (area ∷ []) one has), holds)
+    held_more place (one, has, holds) = (
+      one,
+      subst (λ l. Contains l one) (sym cut.rest)
+          (Contains-append_left frame.rest.items (area ∷ []) one has),
+      holds,
+    )
 
     held_last : (place : Place) → HoldsPlace area place → HeldBy whole.rest.items place
     held_last place holds = (
@@ -260,10 +267,12 @@ module _ (contents : Contents) where
         → Goes contents marks (whole ∷ below) marks (frame ∷ below)
     dropped marks below noted settled = record {
       right = λ book are h.
-          wait_on contents book are marks whole frame below h (ap place_of (sym cut.place))
-          (waits_with book marks whole frame h.waits.0 (ap place_of (sym cut.place)) (sym cut.tree) held_more
+          wait_on contents book are marks whole frame below h (ap keyed_place (sym cut.place))
+          (waits_with book marks whole frame h.waits.0 (ap keyed_place (sym cut.place)) (sym cut.tree) held_more
           (λ place held formed. elim (held_cases place held) [
-            | inl holds ↦ inl (settled place holds (formula_stored (contents.content place) (book.cells place) (are.cells place) formed))
+            | inl holds ↦
+                inl (settled place holds
+                (formula_stored (contents.content place) (book.cells place) (are.cells place) formed))
             | inr left ↦ inr left
           ])
           (λ key has. h.waits.0.noted key (subst (λ l. Contains l key) (sym noted) has)));
@@ -272,7 +281,7 @@ module _ (contents : Contents) where
 
     -- the formula goes on waiting, with cells of the area that it noted
     pub put_back : (next : Frame) → IsCut next frame area
-        → ((key : ℕ × ℕ × ℕ) → Contains next.noted.items key → HoldsPlace area (place_of key))
+        → ((key : ℕ × ℕ × ℕ) → Contains next.noted.items key → HoldsPlace area (keyed_place key))
         → (marks : Place → Option Mark) (below : List Frame) → Goes contents marks (whole ∷ below) marks (next ∷ below)
     put_back next other holds marks below = record {
       right = λ book are h.
@@ -280,12 +289,12 @@ module _ (contents : Contents) where
           (waits_with book marks whole next h.waits.0 at (other.tree ∙ sym cut.tree)
           (λ place held. subst (λ l. HeldBy l place) rest held)
           (λ place held formed. inr (subst (λ l. HeldBy l place) (sym rest) held))
-          (λ key has. h.waits.0.within (place_of key) (held_last (place_of key) (holds key has))));
+          (λ key has. h.waits.0.within (keyed_place key) (held_last (keyed_place key) (holds key has))));
       stay = λ place some. some;
     }
       where
         at : place_at next ≡ place_at whole
-        at = ap place_of (other.place ∙ sym cut.place)
+        at = ap keyed_place (other.place ∙ sym cut.place)
 
         rest : next.rest.items ≡ whole.rest.items
         rest = other.rest ∙ sym cut.rest
@@ -294,14 +303,15 @@ module _ (contents : Contents) where
   pub went_on : (whole frame : Frame) (key : ℕ × ℕ × ℕ) → frame.place ≡ whole.place → frame.tree ≡ whole.tree
       → frame.rest.items ≡ whole.rest.items → whole.noted.items ≡ frame.noted.items ++ key ∷ []
       → (before : Place → Option Mark) (below : List Frame) (after : Place → Option Mark) (next : List Frame)
-      → Passes contents (place_of key) before (frame ∷ below) after next → Goes contents before (whole ∷ below) after next
+      → Passes contents (keyed_place key) before (frame ∷ below) after next
+      → Goes contents before (whole ∷ below) after next
   went_on whole frame key place tree rest noted before below after next passes = record {
     right = right;
     stay = passes.stay;
   }
     where
       at : place_at frame ≡ place_at whole
-      at = ap place_of place
+      at = ap keyed_place place
 
       right : (book : Book) → AreOf contents book → Holds book before (whole ∷ below) → Holds book after next
       right book are h =
@@ -314,7 +324,7 @@ module _ (contents : Contents) where
           (subst (λ l. Contains l key) (sym noted)
           (Contains-append_right frame.noted.items (key ∷ []) key (Contains-head key []))) in
           passes.right book are
-          (subst (λ p. Reads book.named (book.cells p) (place_of key)) (sym at) reads)
+          (subst (λ p. Reads book.named (book.cells p) (keyed_place key)) (sym at) reads)
           (wait_on contents book are before whole frame below h at wait)
 
   -- the formula goes on with fewer cells noted
@@ -326,8 +336,8 @@ module _ (contents : Contents) where
   as_well whole frame place tree rest fewer before below after next goes = record {
     right = λ book are h.
         goes.right book are
-        (wait_on contents book are before whole frame below h (ap place_of place)
-        (waits_with book before whole frame h.waits.0 (ap place_of place) tree
+        (wait_on contents book are before whole frame below h (ap keyed_place place)
+        (waits_with book before whole frame h.waits.0 (ap keyed_place place) tree
         (λ p held. subst (λ l. HeldBy l p) rest held)
         (λ p held formed. inr (subst (λ l. HeldBy l p) (sym rest) held))
         (λ key has. h.waits.0.noted key (fewer key has))));
@@ -335,26 +345,28 @@ module _ (contents : Contents) where
   }
 
   -- where each formula in the cells of an area is known
-  module _ (marks : Place → Option Mark) (area : Area) (cells : List StoredCell) (stored : AreStoredCells contents area cells)
+  module _ (marks : Place → Option Mark) (area : Area) (cells : List StoredCell)
+      (stored : AreStoredCells contents area cells)
       (settled : AreSettled marks area.sheet cells) where
     pub all_known : IsAreaSettled contents marks area
     all_known place holds formed =
-        let at : place_of (area.sheet, place.row, place.column) ≡ place =
-        ap (λ s. place_of (s, place.row, place.column)) holds.0 in
+        let at : keyed_place (area.sheet, place.row, place.column) ≡ place =
+        ap (λ s. keyed_place (s, place.row, place.column)) holds.0 in
         let here = subst (λ p. IsStoredFormula (contents.content p)) (sym at) formed in
         let has = (stored.places.exactly place.row place.column).1
-        (holds.1, formula_is_some (contents.content (place_of (area.sheet, place.row, place.column))) here) in
+        (holds.1, formula_is_some (contents.content (keyed_place (area.sheet, place.row, place.column))) here) in
         let (cell, among, same) = Contains-map_from cell_place cells (place.row, place.column) has in
-        let there : place_of (area.sheet, cell.row, cell.column) ≡ place_of (area.sheet, place.row, place.column) =
-        ap (λ c. place_of (area.sheet, c.0, c.1)) same in
+        let there : keyed_place (area.sheet, cell.row, cell.column)
+        ≡ keyed_place (area.sheet, place.row, place.column) =
+        ap (λ c. keyed_place (area.sheet, c.0, c.1)) same in
         let content = stored.content cell among in
-        let known = settled_known (marks (place_of (area.sheet, cell.row, cell.column))) cell.content.now
+        let known = settled_known (marks (keyed_place (area.sheet, cell.row, cell.column))) cell.content.now
         (subst IsStoredFormula (sym (ap contents.content there) ∙ content) here) (settled cell among) in
         subst (λ p. IsKnown (marks p)) (there ∙ at) known
 
   -- what is stored in an area lies in it
   pub held_place : (area : Area) (places : List (ℕ × ℕ)) → AreStoredPlaces contents area places
-      → (key : ℕ × ℕ × ℕ) → key.0 ≡ area.sheet → Contains places (key.1, key.2) → HoldsPlace area (place_of key)
+      → (key : ℕ × ℕ × ℕ) → key.0 ≡ area.sheet → Contains places (key.1, key.2) → HoldsPlace area (keyed_place key)
   held_place area places filled key sheet has = (sym sheet, ((filled.exactly key.1 key.2).0 has).0)
 
   -- a formula that is met is passed
@@ -369,18 +381,19 @@ module _ (contents : Contents) where
 
   -- a formula that was put on the path waits there
   pub entered_by : (before : Place → Option Mark) (path : List Frame) (key : ℕ × ℕ × ℕ) (tree : Tree)
-      → IsTreeAt contents (place_of key) (Some (expression_of tree)) → before (place_of key) ≡ None
+      → IsTreeAt contents (keyed_place key) (Some (expression_of tree)) → before (keyed_place key) ≡ None
       → {areas : List Area} → areas ≡ areas_of contents.named (expression_of tree)
       → (after : Place → Option Mark) (next : List Frame)
-      → (frame : Frame) × (frame.place ≡ key) × (frame.tree ≡ tree) × (frame.rest.items ≡ areas) × (frame.noted.items ≡ [])
-      × IsMarked before (place_of key) Open after × (next ≡ frame ∷ path)
-      → Meets contents (place_of key) before path after next
+      → (frame : Frame) × (frame.place ≡ key) × (frame.tree ≡ tree) × (frame.rest.items ≡ areas)
+      × (frame.noted.items ≡ [])
+      × IsMarked before (keyed_place key) Open after × (next ≡ frame ∷ path)
+      → Meets contents (keyed_place key) before path after next
   entered_by before path key tree at none all after next (frame, place, same, rest, noted, marked, put) =
-      subst (λ k. Meets contents (place_of k) before path after next) place
+      subst (λ k. Meets contents (keyed_place k) before path after next) place
       (subst (Meets contents (place_at frame) before path after) (sym put)
       (entered before path frame
-      (subst (λ k. IsTreeAt contents (place_of k) (Some (expression_of frame.tree))) (sym place)
-      (subst (λ t. IsTreeAt contents (place_of key) (Some (expression_of t))) (sym same) at))
-      (subst (λ k. before (place_of k) ≡ None) (sym place) none)
+      (subst (λ k. IsTreeAt contents (keyed_place k) (Some (expression_of frame.tree))) (sym place)
+      (subst (λ t. IsTreeAt contents (keyed_place key) (Some (expression_of t))) (sym same) at))
+      (subst (λ k. before (keyed_place k) ≡ None) (sym place) none)
       (rest ∙ all ∙ ap (λ t. areas_of contents.named (expression_of t)) (sym same)) noted after
-      (subst (λ k. IsMarked before (place_of k) Open after) (sym place) marked)))
+      (subst (λ k. IsMarked before (keyed_place k) Open after) (sym place) marked)))

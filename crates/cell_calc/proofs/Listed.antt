@@ -19,14 +19,16 @@ some_given make (a ∷ more) [] stand some = absurd stand
 some_given make (a ∷ more) (g ∷ gs) stand some = refl
 
 -- as many are given as arguments are lent
-pub as_many : (arguments : List Argument) (given : List Given) → StandFor arguments given → length given ≡ length arguments
+pub as_many : (arguments : List Argument) (given : List Given) → StandFor arguments given → length given
+    ≡ length arguments
 as_many [] [] stand = refl
 as_many [] (g ∷ gs) stand = absurd stand
 as_many (a ∷ more) [] stand = absurd stand
 as_many (a ∷ more) (g ∷ gs) stand = ap suc (as_many more gs stand.1)
 
 -- each stands for what is given in its place
-pub stands_at : (arguments : List Argument) (given : List Given) → StandFor arguments given → (k : ℕ) (a : Argument) (g : Given)
+pub stands_at : (arguments : List Argument) (given : List Given) → StandFor arguments given
+    → (k : ℕ) (a : Argument) (g : Given)
     → k < length arguments → StandsFor (get_or arguments k a) (get_or given k g)
 stands_at [] given stand k a g within = absurd (omega (arith, within))
 stands_at (x ∷ more) [] stand k a g within = absurd stand
@@ -46,7 +48,8 @@ module _ {X : Type 0} where
   of_two_elements (x ∷ y ∷ []) d is = refl
   of_two_elements (x ∷ y ∷ z ∷ more) d is = absurd (omega (arith, is))
 
-  pub of_three_elements : (xs : List X) (d : X) → length xs ≡ 3 → xs ≡ get_or xs 0 d ∷ get_or xs 1 d ∷ get_or xs 2 d ∷ []
+  pub of_three_elements : (xs : List X) (d : X) → length xs ≡ 3 → xs ≡ get_or xs 0 d ∷ get_or xs 1 d
+      ∷ get_or xs 2 d ∷ []
   of_three_elements [] d is = absurd (omega (arith, is))
   of_three_elements (x ∷ []) d is = absurd (omega (arith, is))
   of_three_elements (x ∷ y ∷ []) d is = absurd (omega (arith, is))
@@ -84,7 +87,8 @@ one_if values rows columns all is =
     let column : columns ≡ 1 = grind (arith, nat_tests, parts.1) in
     all ∙ ap (λ n. n * columns) row ∙ ap (λ n. 1 * n) column
 
-pub one_cell : (values : List Value) (rows columns : ℕ) → length values ≡ rows * columns → (rows == 1 && columns == 1) ≡ true
+pub one_cell : (values : List Value) (rows columns : ℕ) → length values ≡ rows * columns
+    → (rows == 1 && columns == 1) ≡ true
     → get_or values 0 Blank ≡ value_of_cells values
 one_cell values rows columns all is = value_of_one values (one_if values rows columns all is)
 

@@ -16,7 +16,7 @@ use Rattle.cell_calc.specs.GatheringFunctions.{is_number_or_error, all_good}
 use Rattle.cell_calc.specs.Lent.{StandsFor, AreCells, place_and_value, filled_from}
 use Rattle.cell_calc.specs.Taken.{error_lent}
 use Rattle.cell_calc.specs.Found.{value_in_place, first_match, matches_in, value_if}
-use Rattle.cell_calc.specs.LookUpFunctions.{is_match, is_line_of, value_at, indexed_value, first_place, place_of, searched, matched_place, criterion, matches_counted, beside_matches, sum_beside, matches_summed}
+use Rattle.cell_calc.specs.LookUpFunctions.{is_match, is_line_of, value_at, indexed_value, first_place, position_of, searched, matched_place, criterion, matches_counted, beside_matches, sum_beside, matches_summed}
 use Rattle.cell_calc.proofs.Taking.{error_is}
 use Rattle.cell_calc.proofs.Finding.{found_in_place, found_first, found_beside}
 
@@ -40,11 +40,13 @@ pub area_between : (x : Argument) (given : Given) (one other found : Option Kind
 area_between x given one other found stands is =
     ap (λ o. option_or one o) (area_and_one x given other (option_or (error_lent x) other) stands refl) ∙ is
 
-pub areas_around : (x y : Argument) (given other : Given) (one found : Option Kind) → StandsFor x given → StandsFor y other
+pub areas_around : (x y : Argument) (given other : Given) (one found : Option Kind) → StandsFor x given
+    → StandsFor y other
     → option_or (error_lent x) (option_or one (error_lent y)) ≡ found
     → leftmost (error_given given ∷ one ∷ error_given other ∷ []) ≡ found
 areas_around x y given other one found stands stand is =
-    ap (λ o. option_or (error_given given) (option_or one o)) (or_none (error_given other) ∙ sym (error_is y other stand))
+    ap (λ o. option_or (error_given given) (option_or one o))
+    (or_none (error_given other) ∙ sym (error_is y other stand))
     ∙ area_first x given (option_or one (error_lent y)) found stands is
 
 -- an argument in error
@@ -57,10 +59,10 @@ indexed_fails given row column fault is =
 
 pub matched_by : (key : Value) (given : Given) (search : Value) (found : Option Kind)
     → leftmost (error_in key ∷ error_given given ∷ error_in search ∷ []) ≡ found
-    → value_by (place_of key) (error_or found (searched (number_of search) (cells_given given)))
+    → value_by (position_of key) (error_or found (searched (number_of search) (cells_given given)))
     ≡ matched_place key given search
 matched_by key given search found is =
-    sym (ap (λ o. value_by (place_of key) (error_or o (searched (number_of search) (cells_given given)))) is)
+    sym (ap (λ o. value_by (position_of key) (error_or o (searched (number_of search) (cells_given given)))) is)
 
 pub counted_fails : (given : Given) (key : Value) (fault : Kind)
     → leftmost (error_given given ∷ error_in key ∷ []) ≡ Some fault → Error fault ≡ matches_counted given key
@@ -97,10 +99,11 @@ none_found key cells values are is =
 -- whether an area is a block
 pub block_is : (key : Value) (cells : AreaCells) (all : Cells) (block : Bool) → AreCells cells all
     → block ≡ (nat_lt 1 cells.rows && nat_lt 1 cells.columns)
-    → cond block (Error kind.Na) (first_place key all.values) ≡ place_of key all
+    → cond block (Error kind.Na) (first_place key all.values) ≡ position_of key all
 block_is key cells all block are is =
     ap (λ b. cond b (Error kind.Na) (first_place key all.values))
-    (is ∙ ap (λ n. nat_lt 1 n && nat_lt 1 cells.columns) are.rows ∙ ap (λ n. nat_lt 1 all.rows && nat_lt 1 n) are.columns)
+    (is ∙ ap (λ n. nat_lt 1 n && nat_lt 1 cells.columns) are.rows
+    ∙ ap (λ n. nat_lt 1 all.rows && nat_lt 1 n) are.columns)
 
 -- the value in a row and a column
 pub value_found : (cells : AreaCells) (all : Cells) (row column : ℤ) → AreCells cells all
@@ -109,7 +112,8 @@ pub value_found : (cells : AreaCells) (all : Cells) (row column : ℤ) → AreCe
     ≡ value_at all (row, column)
 value_found cells all row column are is_row is_column =
     let value = slice_index_or all.values ((unsigned_abs row - 1) * all.columns + (unsigned_abs column - 1)) Blank in
-    found_in_place ((unsigned_abs row - 1) * cells.columns + (unsigned_abs column - 1)) cells.filled.items all.values are.filled
+    found_in_place ((unsigned_abs row - 1) * cells.columns + (unsigned_abs column - 1)) cells.filled.items
+    all.values are.filled
     ∙ ap (λ n. slice_index_or all.values ((unsigned_abs row - 1) * n + (unsigned_abs column - 1)) Blank) are.columns
     ∙ sym (ap (λ b. cond (b && is_line_of all.columns column) value (Error kind.Num))
     (ap (λ n. is_line_of n row) (sym are.rows) ∙ is_row)
@@ -133,7 +137,8 @@ sum_of values = value_by (λ numbers. whole (fold ◌+ℤ◌ (pos 0) numbers)) (
 abbrev beside : Value → Cells → Cells → List Value
 beside key x y = filter is_number_or_error (beside_matches key x.values y.values)
 
-pub sum_is : (key : Value) (test : ℕ → Bool) (cells others : AreaCells) (x y : Cells) → AreCells cells x → AreCells others y
+pub sum_is : (key : Value) (test : ℕ → Bool) (cells others : AreaCells) (x y : Cells) → AreCells cells x
+    → AreCells others y
     → cells.rows ≡ others.rows → cells.columns ≡ others.columns
     → ((place : ℕ) → test place ≡ matches_in key cells.filled.items place)
     → sum_of (flat_map (value_if test) others.filled.items) ≡ sum_beside key x y
@@ -144,7 +149,8 @@ sum_is key test cells others x y are are_others rows columns tests =
     are.all ∙ ap (λ n. n * x.columns) same_rows ∙ ap (λ n. y.rows * n) same_columns ∙ sym are_others.all in
     let one : (x.rows == y.rows) ≡ true = grind (arith, nat_tests, same_rows) in
     let other : (x.columns == y.columns) ≡ true = grind (arith, nat_tests, same_columns) in
-    let sum = found_beside key test cells.filled.items others.filled.items x.values y.values are.filled are_others.filled same tests in
+    let sum = found_beside key test cells.filled.items others.filled.items x.values y.values are.filled
+    are_others.filled same tests in
     ap sum_of sum
     ∙ sym (ap (λ b. cond (b && (x.columns == y.columns)) (sum_of (beside key x y)) (Error kind.Value)) one
     ∙ ap (λ b. cond b (sum_of (beside key x y)) (Error kind.Value)) other)

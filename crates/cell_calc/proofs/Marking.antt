@@ -20,9 +20,12 @@ pub same_place : (one other : Place) → is_place one other ≡ true → one ≡
 same_place one other is =
     let parts = and_parts (one.sheet == other.sheet && one.row == other.row) (one.column == other.column) is in
     let lines = and_parts (one.sheet == other.sheet) (one.row == other.row) parts.0 in
-    ap (λ sheet. record { sheet = sheet; row = one.row; column = one.column }) (equal_numbers one.sheet other.sheet lines.0)
-    ∙ ap (λ row. record { sheet = other.sheet; row = row; column = one.column }) (equal_numbers one.row other.row lines.1)
-    ∙ ap (λ column. record { sheet = other.sheet; row = other.row; column = column }) (equal_numbers one.column other.column parts.1)
+    ap (λ sheet. record { sheet = sheet; row = one.row; column = one.column })
+    (equal_numbers one.sheet other.sheet lines.0)
+    ∙ ap (λ row. record { sheet = other.sheet; row = row; column = one.column })
+    (equal_numbers one.row other.row lines.1)
+    ∙ ap (λ column. record { sheet = other.sheet; row = other.row; column = column })
+    (equal_numbers one.column other.column parts.1)
 
 pub is_itself : (place : Place) → is_place place place ≡ true
 is_itself place =

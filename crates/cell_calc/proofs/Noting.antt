@@ -43,8 +43,11 @@ module _ (marks : Place → Option Mark) (sheet : ℕ) (cells : List StoredCell)
           | inl longer ↦ λ k has. elim (Contains-push_cases noted key k (subst (λ l. Contains l k) longer has)) [
             | inl earlier ↦ so_far.among k earlier
             | inr last ↦
-                subst (λ q. (q.0 ≡ sheet) × Contains (map cell_place cells) (q.1, q.2)) last
-                (refl, Contains-map cell_place cells cell (subst (Contains cells) (sym is) (Contains-get_or cells count d within)))
+                subst (λ q. (q.0 ≡ sheet) × Contains (map cell_place cells) (q.1, q.2)) last (
+                  refl,
+                  Contains-map cell_place cells cell
+                      (subst (Contains cells) (sym is) (Contains-get_or cells count d within)),
+                )
           ]
           | inr (some, same) ↦ λ k has. so_far.among k (subst (λ l. Contains l k) same has)
         ]

@@ -117,7 +117,9 @@ pub value_of_one : (book : Book) (read : Place → Value) (sheet row column : �
     ≡ read (record { sheet = sheet; row = row; column = column })
 value_of_one book read sheet row column =
     ap (λ rows. value_of_cells (map read
-    (flat_map (λ r. map (λ c. record { sheet = sheet; row = r; column = c }) (columns_of book (one_cell sheet row column))) rows)))
+    (flat_map
+    (λ r. map (λ c. record { sheet = sheet; row = r; column = c })
+    (columns_of book (one_cell sheet row column))) rows)))
     (one_line row (book.size sheet).0)
     ∙ ap (λ columns. value_of_cells (map read
     (flat_map (λ r. map (λ c. record { sheet = sheet; row = r; column = c }) columns) (row ∷ []))))

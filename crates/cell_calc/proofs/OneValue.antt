@@ -25,7 +25,7 @@ use Rattle.cell_calc.specs.Book.{Book, Place, Cell, stored, formula, IsFormula}
 use Rattle.cell_calc.specs.Contents.{Contents, AreOf, AreSound, HasPlace, IsCell}
 use Rattle.cell_calc.specs.Calculated.{IsValueIn, ValuesOnce}
 use Rattle.cell_calc.specs.CellValue.{AreFormulas, Walks}
-use Rattle.cell_calc.specs.Marks.{is_place, place_of}
+use Rattle.cell_calc.specs.Marks.{is_place, keyed_place}
 use Rattle.cell_calc.proofs.Marking.{same_place, is_itself}
 use Rattle.cell_calc.proofs.Rectangle.{by_row, cells_have, range_has}
 
@@ -65,7 +65,8 @@ module _ (contents : Contents) (one : HasOneTree) where
   with_cell place cell cells other = cond (is_place place other) cell (cells other)
 
   one_more : (place : Place) (places : List Place) (cell : Cell) (cells : Place → Cell)
-      → IsCell (contents.content place) cell → AreCells places cells → AreCells (place ∷ places) (with_cell place cell cells)
+      → IsCell (contents.content place) cell → AreCells places cells
+      → AreCells (place ∷ places) (with_cell place cell cells)
   one_more place places cell cells is are other has =
       by_test (is_place place other) refl
     where
@@ -76,7 +77,8 @@ module _ (contents : Contents) (one : HasOneTree) where
         | inr there ↦ there
       ]
 
-      by_test : (test : Bool) → is_place place other ≡ test → IsCell (contents.content other) (cond test cell (cells other))
+      by_test : (test : Bool) → is_place place other ≡ test
+          → IsCell (contents.content other) (cond test cell (cells other))
       by_test true same = subst (λ p. IsCell (contents.content p) cell) (same_place place other same) is
       by_test false apart = are other (later apart)
 
@@ -91,7 +93,7 @@ module _ (contents : Contents) (one : HasOneTree) where
   abbrev places_on : ℕ → List Place
   places_on sheet =
       let size = unwrap_or (contents.size sheet) (0, 0) in
-      map (λ cell. place_of (sheet, cell.0, cell.1)) (by_row (range_with_len 0 size.0) (range_with_len 0 size.1))
+      map (λ cell. keyed_place (sheet, cell.0, cell.1)) (by_row (range_with_len 0 size.0) (range_with_len 0 size.1))
 
   abbrev all_places : List ℕ → List Place
   all_places sheets = flat_map places_on sheets
@@ -105,7 +107,7 @@ module _ (contents : Contents) (one : HasOneTree) where
   on_sheet place has =
       let within = within_size (contents.size place.sheet) place.row place.column has in
       let size = unwrap_or (contents.size place.sheet) (0, 0) in
-      Contains-map (λ (cell : ℕ × ℕ). place_of (place.sheet, cell.0, cell.1))
+      Contains-map (λ (cell : ℕ × ℕ). keyed_place (place.sheet, cell.0, cell.1))
       (by_row (range_with_len 0 size.0) (range_with_len 0 size.1)) (place.row, place.column)
       (cells_have (range_with_len 0 size.0) (range_with_len 0 size.1) place.row place.column
       (range_has 0 size.0 place.row (omega arith) (omega (arith, within.1)))
@@ -247,7 +249,8 @@ module _ (contents : Contents) (one : HasOneTree) where
         let (listed, formulas) = formulas_of book are in
         let has = is book are listed formulas in
         let has' = is' book are listed formulas in
-        let ends : Walks book (length listed) place → ⊥ = λ walks. apart (has.endless walks ∙ sym (has'.endless walks)) in
+        let ends : Walks book (length listed) place → ⊥ =
+        λ walks. apart (has.endless walks ∙ sym (has'.endless walks)) in
         apart (has.ends ends ∙ sym (has'.ends ends)))
 
 -- values that can't be apart are one
@@ -332,15 +335,20 @@ one_value : (v w : Value) → NotNone (v ≡ w) → v ≡ w
 one_value v w none =
     sym (back v)
     ∙ ap (λ n. decoded n (number_code v) (text_code v) (truth_code v) (error_code v))
-    (same_by (variant v == variant w) (variant v) (variant w) (Decides-eqb (variant v) (variant w)) (part_same variant v w none))
+    (same_by (variant v == variant w) (variant v) (variant w) (Decides-eqb (variant v) (variant w))
+    (part_same variant v w none))
     ∙ ap (λ n. decoded (variant w) n (text_code v) (truth_code v) (error_code v))
-    (same_by (int_eq (number_code v) (number_code w)) (number_code v) (number_code w) (Decides-int_eq (number_code v) (number_code w)) (part_same number_code v w none))
+    (same_by (int_eq (number_code v) (number_code w)) (number_code v) (number_code w)
+    (Decides-int_eq (number_code v) (number_code w)) (part_same number_code v w none))
     ∙ ap (λ t. decoded (variant w) (number_code w) t (truth_code v) (error_code v))
-    (same_by (bytes_eq (text_code v) (text_code w)) (text_code v) (text_code w) (bytes_eq-Decides (text_code v) (text_code w)) (part_same text_code v w none))
+    (same_by (bytes_eq (text_code v) (text_code w)) (text_code v) (text_code w)
+    (bytes_eq-Decides (text_code v) (text_code w)) (part_same text_code v w none))
     ∙ ap (λ b. decoded (variant w) (number_code w) (text_code w) b (error_code v))
-    (same_by (beq (truth_code v) (truth_code w)) (truth_code v) (truth_code w) (booleans_Decides (truth_code v) (truth_code w)) (part_same truth_code v w none))
+    (same_by (beq (truth_code v) (truth_code w)) (truth_code v) (truth_code w)
+    (booleans_Decides (truth_code v) (truth_code w)) (part_same truth_code v w none))
     ∙ ap (λ k. decoded (variant w) (number_code w) (text_code w) (truth_code w) k)
-    (same_by (error_code v == error_code w) (error_code v) (error_code w) (Decides-eqb (error_code v) (error_code w)) (part_same error_code v w none))
+    (same_by (error_code v == error_code w) (error_code v) (error_code w) (Decides-eqb (error_code v) (error_code w))
+    (part_same error_code v w none))
     ∙ back w
 
 pub values_once : HasOneTree → ValuesOnce

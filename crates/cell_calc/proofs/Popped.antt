@@ -4,7 +4,8 @@ use Rattle.std.specs.Option.{option_to_list}
 use Rattle.std.specs.Result.{OnOk}
 use Rattle.std.proofs.lemmas.Bool.Decides.{nat_tests}
 
-pub popped : {A : Type 0} → (old new : List A) (r : Option A) (x : A) → old ≡ option_to_list r ++ new → r ≡ Some x → old ≡ x ∷ new
+pub popped : {A : Type 0} → (old new : List A) (r : Option A) (x : A) → old ≡ option_to_list r ++ new → r ≡ Some x
+    → old ≡ x ∷ new
 popped old new r x items is = items ∙ ap (λ o. option_to_list o ++ new) is
 
 pub cut_off : {A : Type 0} → (old new : List A) (r : Option A) (x : A) → old ≡ new ++ option_to_list r → r ≡ Some x

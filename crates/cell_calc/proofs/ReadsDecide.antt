@@ -78,7 +78,13 @@ module _ (one other : Book) (read same : Place → Value)
       let values = rows_agree read same cells.sheet (lines_of cells.rows size.0) (lines_of cells.cols size.1)
       (λ row column in_rows in_columns. agree (record { sheet = cells.sheet; row = row; column = column })
       (refl, (has_lines cells.rows size.0 row in_rows, has_lines cells.cols size.1 column in_columns))) in
-      ap (λ (all : List Value). record { rows = length (lines_of cells.rows size.0); columns = length (lines_of cells.cols size.1); values = all }) values
+      ap (λ (all : List Value).
+      record {
+        rows = length (lines_of cells.rows size.0);
+        columns = length (lines_of cells.cols size.1);
+        values =
+            all;
+      }) values
       ∙ ap (cells_by same cells) (sizes cells.sheet)
 
   named_agree : (found : Option Area) → AgreesOnAll (option_to_list found)
@@ -97,7 +103,8 @@ module _ (one other : Book) (read same : Place → Value)
     given_agree lost agree = refl
     given_agree (word w) agree =
         named_agree (one.named w) agree
-        ∙ ap (λ found. option_map_or (λ cells. area (cells_of other same cells)) found (single (Error kind.Name))) (names w)
+        ∙ ap (λ found. option_map_or (λ cells. area (cells_of other same cells)) found
+        (single (Error kind.Name))) (names w)
     given_agree (negative operand) agree = ap (λ given. single (negation (value_of given))) (given_agree operand agree)
     given_agree (binary operator left right) agree =
         let lefts = areas_of one.named left in

@@ -35,17 +35,20 @@ never_below p is =
     false≢true (ap is_lt (sym same ∙ is))
 
 pub below_on : (p q r : ℕ × ℕ) → by_rows p q ≡ Less → by_rows q r ≡ Less → by_rows p r ≡ Less
-below_on = (then_total (on_total (λ (p : ℕ × ℕ). p.0) nat_cmp_total) (on_total (λ (p : ℕ × ℕ). p.1) nat_cmp_total)).trans
+below_on =
+    (then_total (on_total (λ (p : ℕ × ℕ). p.0) nat_cmp_total) (on_total (λ (p : ℕ × ℕ). p.1) nat_cmp_total)).trans
 
 -- lines from one on
-pub range_has : (first count line : ℕ) → first ≤ line → line < first + count → Contains (range_with_len first count) line
+pub range_has : (first count line : ℕ) → first ≤ line → line < first + count
+    → Contains (range_with_len first count) line
 range_has first count line from to = (
   line - first,
   subst (λ l. line - first < l) (sym (length-range_with_len first count)) (omega (arith, from, to)),
   get_or-range_with_len first count (line - first) line (omega (arith, from, to)) ∙ omega (arith, from),
 )
 
-pub range_only : (first count line : ℕ) → Contains (range_with_len first count) line → (first ≤ line) × (line < first + count)
+pub range_only : (first count line : ℕ) → Contains (range_with_len first count) line → (first ≤ line)
+    × (line < first + count)
 range_only first zero line has = absurd (nothing_in line has)
 range_only first (suc count) line has =
     elim (Contains-cons_cases first line (range_with_len (first + 1) count) has) [
@@ -69,7 +72,8 @@ cells_have (r ∷ rows) columns row column in_rows in_columns =
     elim (Contains-cons_cases r row rows in_rows) [
       | inl is ↦
           Contains-append_left (beside r columns) (by_row rows columns) (row, column)
-          (subst (λ x. Contains (beside x columns) (row, column)) (sym is) (Contains-map (λ c. (row, c)) columns column in_columns))
+          (subst (λ x. Contains (beside x columns) (row, column)) (sym is)
+          (Contains-map (λ c. (row, c)) columns column in_columns))
       | inr later ↦
           Contains-append_right (beside r columns) (by_row rows columns) (row, column)
           (cells_have rows columns row column later in_columns)
@@ -114,7 +118,8 @@ row_sorted row first (suc count) = (
   each_from (λ cell. by_rows (row, first) cell ≡ Less) (beside row (range_with_len (first + 1) count)) (λ cell has.
       let own = beside_only row (range_with_len (first + 1) count) cell has in
       let behind = range_only (first + 1) count cell.1 own.1 in
-      subst (λ r. by_rows (row, first) (r, cell.1) ≡ Less) own.0 (cell_beside row first cell.1 (omega (arith, behind.0)))),
+      subst (λ r. by_rows (row, first) (r, cell.1) ≡ Less) own.0
+      (cell_beside row first cell.1 (omega (arith, behind.0)))),
   row_sorted row (first + 1) count,
 )
 
@@ -132,12 +137,17 @@ cells_sorted row (suc rows) column columns =
     row_below one.0 other.0 one.1 other.1 (omega (arith, own.0, behind.0)))
 
 -- what is made of each that passes a test, where nothing is made of the others
-pub kept : {X A : Type 0} (f g : X → List A) (test : X → Bool) → ((x : X) → cond (test x) (f x) [] ≡ g x) → (xs : List X)
+pub kept : {X A : Type 0} (f g : X → List A) (test : X → Bool) → ((x : X) → cond (test x) (f x) [] ≡ g x)
+    → (xs : List X)
     → flat_map f (filter test xs) ≡ flat_map g xs
 kept f g test same [] = refl
 kept f g test same (x ∷ xs) =
     let rest = filter test xs in
-    (elim (test x) as (λ b. flat_map f (cond b (x ∷ rest) rest) ≡ cond b (f x) [] ++ flat_map f rest) [ true ↦ refl | false ↦ refl ])
+    (elim (test x) as (λ b. flat_map f (cond b (x ∷ rest) rest) ≡ cond b (f x) [] ++ flat_map f rest) [
+      | true ↦
+          refl
+      | false ↦ refl
+    ])
     ∙ ap (λ l. l ++ flat_map f rest) (same x) ∙ ap (λ l. g x ++ l) (kept f g test same xs)
 
 -- row by row

@@ -93,7 +93,8 @@ module _ (contents : Contents) (book : Book) (are : AreOf contents book) (marks 
           (λ next reads. read_value depth known next (covers next reads) (contents.content next) (are.cells next))
 
   -- one more mark of a formula leaves marks of formulas alone
-  formulas_after : ((other : Place) → IsSome (marks other) → IsFormula (book.cells other)) → (place : Place) (mark : Mark)
+  formulas_after : ((other : Place) → IsSome (marks other) → IsFormula (book.cells other))
+      → (place : Place) (mark : Mark)
       → IsFormula (book.cells place) → (after : Place → Option Mark) → IsMarked marks place mark after
       → (other : Place) → IsSome (after other) → IsFormula (book.cells other)
   formulas_after formulas place mark formed after marked other some = elim (cases marks place mark after marked other) [
@@ -103,7 +104,8 @@ module _ (contents : Contents) (book : Book) (are : AreOf contents book) (marks 
 
   -- a formula whose reads are known is known
   pub learn : (path : List Frame) → Holds book marks path → (place : Place) (value : Value)
-      → IsFormula (book.cells place) → ReadsAreKnown place → value ≡ value_by_marks place → (after : Place → Option Mark) → IsMarked marks place (Known value) after
+      → IsFormula (book.cells place) → ReadsAreKnown place → value ≡ value_by_marks place
+      → (after : Place → Option Mark) → IsMarked marks place (Known value) after
       → Holds book after path
   learn path h place value formed covers is after marked = record {
     depth = suc h.depth;
@@ -201,8 +203,10 @@ module _ (contents : Contents) (book : Book) (are : AreOf contents book) (marks 
     waits = (
       record {
         is = is;
-        within = λ place held. subst (λ cell. Reads book.named cell place) (sym is) (subst (λ l. HeldBy l place) all held);
-        covers = λ place read formed. inr (subst (λ l. HeldBy l place) (sym all) (subst (λ cell. Reads book.named cell place) is read));
+        within =
+            λ place held. subst (λ cell. Reads book.named cell place) (sym is) (subst (λ l. HeldBy l place) all held);
+        covers = λ place read formed. inr
+            (subst (λ l. HeldBy l place) (sym all) (subst (λ cell. Reads book.named cell place) is read));
         noted = λ key has. absurd (nothing_in key (subst (λ l. Contains l key) nothing has));
       },
       each_waits book marks after (known_apart marks (place_at frame) Open after marked none) path h.waits,
@@ -227,7 +231,8 @@ module _ (contents : Contents) (book : Book) (are : AreOf contents book) (marks 
       by_mark None marked is = let no : ⊥ = cc in absurd no
       by_mark (Some Open) marked is = absurd (h.opened place marked)
       by_mark (Some Endless) marked is =
-          subst (IsValueOf book place) (let e : Error kind.Ref ≡ value = cc in e) (endless_is_value book place (h.endless place marked))
+          subst (IsValueOf book place) (let e : Error kind.Ref ≡ value = cc in e)
+          (endless_is_value book place (h.endless place marked))
       by_mark (Some (Known v)) marked is =
           let (none, had) = h.known place v marked in
           let same : v ≡ value = cc in

@@ -42,7 +42,8 @@ cells_filter : (taking : Taking) (cells : List FilledCell)
     → flat_map (cell_taken taking) cells ≡ filter (is_taken taking) (map (λ p. p.1) (map place_and_value cells))
 cells_filter taking [] = refl
 cells_filter taking (cell ∷ cells) =
-    elim (is_taken taking (value_held cell.value)) as (λ b. cond b (value_held cell.value ∷ []) [] ++ flat_map (cell_taken taking) cells
+    elim (is_taken taking (value_held cell.value)) as (λ b. cond b (value_held cell.value ∷ []) []
+    ++ flat_map (cell_taken taking) cells
     ≡ cond b (value_held cell.value ∷ filter (is_taken taking) (map (λ p. p.1) (map place_and_value cells)))
     (filter (is_taken taking) (map (λ p. p.1) (map place_and_value cells)))) [
       | true ↦ ap (λ l. value_held cell.value ∷ l) (cells_filter taking cells)
@@ -68,7 +69,8 @@ all_taken_given taking (a ∷ more) (g ∷ gs) stand =
     ∙ ap (λ l. values_taken (is_taken taking) g ++ l) (all_taken_given taking more gs stand.1)
 
 -- the errors of arguments are those of what they stand for
-pub error_is : (argument : Argument) (given : Given) → StandsFor argument given → error_lent argument ≡ error_given given
+pub error_is : (argument : Argument) (given : Given) → StandsFor argument given → error_lent argument
+    ≡ error_given given
 error_is (Single value) given stands = ap error_given (sym stands)
 error_is (Area lent) given (cells, stands, are) = ap error_given (sym stands)
 

@@ -25,7 +25,8 @@ all_digits (d ∷ ds) all =
 
 are_all_digits : (ds : List ℕ) → AllDigits 10 ds → list_all is_ascii_digit ds ≡ true
 are_all_digits [] all = refl
-are_all_digits (d ∷ ds) all = ap (λ b. b && list_all is_ascii_digit ds) (small_is_digit d all.0) ∙ are_all_digits ds all.1
+are_all_digits (d ∷ ds) all = ap (λ b. b && list_all is_ascii_digit ds) (small_is_digit d all.0)
+    ∙ are_all_digits ds all.1
 
 pub digits_are_numeral : (ds : List ℕ) → are_digits ds ≡ true → IsNumeral 10 ds
 digits_are_numeral ds are =

@@ -11,7 +11,7 @@ use Rattle.cell_calc.specs.Book.{Book, Place, Cell, stored, IsFormula, HoldsPlac
 use Rattle.cell_calc.specs.Contents.{Contents, AreOf, AreSound, IsCell, IsStoredFormula}
 use Rattle.cell_calc.specs.CellValue.{HasValue}
 use Rattle.cell_calc.specs.Known.{value_known}
-use Rattle.cell_calc.specs.Marks.{place_of, marks_of}
+use Rattle.cell_calc.specs.Marks.{keyed_place, marks_of}
 use Rattle.cell_calc.specs.Walk.{HeldBy, Goes, Holds}
 
 -- the value in a place of a spreadsheet, by what is stored in it
@@ -22,8 +22,8 @@ IsValueIn contents place value = (book : Book) → AreOf contents book → HasVa
 abbrev pub IsFormulaIn : Contents → Place → Type 0
 IsFormulaIn contents place = (book : Book) → AreOf contents book → IsFormula (book.cells place)
 
--- values of a spreadsheet's cells: of each formula in the areas its value, of other formulas none that isn't theirs, and
--- of cells without a formula none
+-- values of a spreadsheet's cells: of each formula in the areas its value, of other formulas none that isn't theirs,
+-- and of cells without a formula none
 pub record AreValues (contents : Contents) (areas : List Area) (told : Place → Option Value) : Type 0 where
   pub formulas : (place : Place) → IsStoredFormula (contents.content place) → HeldBy areas place
       → IsValueIn contents place (value_known told place)
@@ -59,15 +59,17 @@ StoredValues = (contents : Contents) (place : Place) (value : Value)
 -- ---- what the private functions hand to one another
 
 -- marks come to others by which each formula in an area has one
-pub record Calculates (contents : Contents) (area : Area) (before : Place → Option Mark) (after : Place → Option Mark) : Type 0 where
+pub record Calculates (contents : Contents) (area : Area) (before : Place → Option Mark) (after : Place → Option Mark) :
+    Type 0 where
   pub goes : Goes contents before [] after []
   pub all : (place : Place) → HoldsPlace area place → IsStoredFormula (contents.content place) → IsSome (after place)
 
 -- marks come to others by which each formula among these cells of a sheet has one
-pub record SettlesAll (contents : Contents) (sheet : ℕ) (cells : List StoredCell) (before after : Place → Option Mark) : Type 0 where
+pub record SettlesAll (contents : Contents) (sheet : ℕ) (cells : List StoredCell) (before after : Place → Option Mark) :
+    Type 0 where
   pub goes : Goes contents before [] after []
   pub all : (cell : StoredCell) → Contains cells cell → IsStoredFormula (Some cell.content.now)
-      → IsSome (after (place_of (sheet, cell.row, cell.column)))
+      → IsSome (after (keyed_place (sheet, cell.row, cell.column)))
 
 -- by the marks each formula in the areas has a value
 pub record Calculated (contents : Contents) (areas : List Area) (marks : Place → Option Mark) : Type 0 where

@@ -27,4 +27,5 @@ matches_in key cells place = list_any (λ cell. cell.place == place && is_matchi
 
 -- the value of a cell that is a number or an error, if its place passes
 abbrev pub value_if : (ℕ → Bool) → FilledCell → List Value
-value_if test cell = if test cell.place && is_number_or_error (value_held cell.value) then value_held cell.value ∷ [] else []
+value_if test cell = if test cell.place && is_number_or_error (value_held cell.value) then value_held cell.value
+    ∷ [] else []

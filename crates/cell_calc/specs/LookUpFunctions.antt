@@ -59,8 +59,8 @@ first_place key values =
     option_map_or (λ place. whole (pos place)) (position_from (is_match key) 1 values) (Error kind.Na)
 
 -- in cells of one line; #N/A of cells that are more than one both ways
-abbrev pub place_of : Value → Cells → Value
-place_of key cells =
+abbrev pub position_of : Value → Cells → Value
+position_of key cells =
     if nat_lt 1 cells.rows && nat_lt 1 cells.columns then Error kind.Na else first_place key cells.values
 
 -- the search type 0, that of equal cells; #VALUE! for another one
@@ -75,7 +75,7 @@ searched (Err fault) cells = Err fault
 -- MATCH
 abbrev pub matched_place : Value → Given → Value → Value
 matched_place key given search =
-    value_by (place_of key)
+    value_by (position_of key)
     (error_or (leftmost (error_in key ∷ error_given given ∷ error_in search ∷ []))
     (searched (number_of search) (cells_given given)))
 

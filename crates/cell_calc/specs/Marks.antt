@@ -15,8 +15,8 @@ use Rattle.cell_calc.specs.Book.{Place}
 abbrev pub is_key : ℕ × ℕ × ℕ → ℕ × ℕ × ℕ → Bool
 is_key one other = (one.0 == other.0 && one.1 == other.1) && one.2 == other.2
 
-abbrev pub place_of : ℕ × ℕ × ℕ → Place
-place_of key = record { sheet = key.0; row = key.1; column = key.2 }
+abbrev pub keyed_place : ℕ × ℕ × ℕ → Place
+keyed_place key = record { sheet = key.0; row = key.1; column = key.2 }
 
 abbrev pub key_of : Place → ℕ × ℕ × ℕ
 key_of place = (place.sheet, place.row, place.column)

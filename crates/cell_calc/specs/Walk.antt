@@ -15,14 +15,14 @@ use Rattle.cell_calc.specs.declared.walk.Frame.{Frame}
 use Rattle.cell_calc.specs.Book.{Book, Place, formula, IsFormula, HoldsPlace}
 use Rattle.cell_calc.specs.Contents.{Contents, AreOf, IsStoredFormula, cell_place}
 use Rattle.cell_calc.specs.CellValue.{Reads, Walks, value_in}
-use Rattle.cell_calc.specs.Marks.{place_of, is_known, IsMarked, IsKnown}
+use Rattle.cell_calc.specs.Marks.{keyed_place, is_known, IsMarked, IsKnown}
 
 -- one of the areas holds the place
 abbrev pub HeldBy : List Area → Place → Type 0
 HeldBy areas place = (area : Area) × Contains areas area × HoldsPlace area place
 
 abbrev pub place_at : Frame → Place
-place_at frame = place_of frame.place
+place_at frame = keyed_place frame.place
 
 -- a formula on the path stands there
 abbrev pub OnPath : List Frame → Place → Type 0
@@ -37,7 +37,7 @@ pub record Waits (book : Book) (marks : Place → Option Mark) (frame : Frame) :
   pub covers : (place : Place) → Reads book.named (book.cells (place_at frame)) place
       → IsFormula (book.cells place) → IsKnown (marks place) ⊎ HeldBy frame.rest.items place
   pub noted : (key : ℕ × ℕ × ℕ) → Contains frame.noted.items key
-      → Reads book.named (book.cells (place_at frame)) (place_of key)
+      → Reads book.named (book.cells (place_at frame)) (keyed_place key)
 
 -- the first formula of the path, where there is one, reads the place
 abbrev pub IsReadBy : Book → List Frame → Place → Type 0
@@ -114,7 +114,7 @@ is_settled_by mark (content.Formula text) = is_known mark
 
 -- a cell of the sheet has no formula, or one that is known
 abbrev pub is_settled : (Place → Option Mark) → ℕ → StoredCell → Bool
-is_settled marks sheet cell = is_settled_by (marks (place_of (sheet, cell.row, cell.column))) cell.content.now
+is_settled marks sheet cell = is_settled_by (marks (keyed_place (sheet, cell.row, cell.column))) cell.content.now
 
 -- all of these cells of the sheet
 abbrev pub AreSettled : (Place → Option Mark) → ℕ → List StoredCell → Type 0
@@ -135,7 +135,8 @@ LooksAt marks sheet cell noted next =
     ((is_settled marks sheet cell ≡ true) × (next ≡ noted)) ⊎ IsNoted (sheet, cell.row, cell.column) noted next
 
 -- of cells of a sheet some are noted; if none is, the first ones are settled
-pub record Notes (marks : Place → Option Mark) (sheet : ℕ) (cells first : List StoredCell) (noted : List (ℕ × ℕ × ℕ)) : Type 0 where
+pub record Notes (marks : Place → Option Mark) (sheet : ℕ) (cells first : List StoredCell) (noted : List (ℕ × ℕ × ℕ)) :
+    Type 0 where
   pub settled : noted ≡ [] → AreSettled marks sheet first
   pub among : (key : ℕ × ℕ × ℕ) → Contains noted key
       → (key.0 ≡ sheet) × Contains (map cell_place cells) (key.1, key.2)

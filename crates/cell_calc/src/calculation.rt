@@ -3,7 +3,7 @@ ghost use Rattle.std.specs.Option.{IsSome};
 ghost use Rattle.grid_range.specs.declared.area.Area.{Area};
 ghost use Rattle.cell_calc.specs.Calculated.{AreValues, AreAllValues, IsTableOf, Calculates, SettlesAll, whole_sheet};
 ghost use Rattle.cell_calc.specs.Contents.{AreOnSheet, IsStoredFormula};
-ghost use Rattle.cell_calc.specs.Marks.{place_of, marks_of, values_of};
+ghost use Rattle.cell_calc.specs.Marks.{keyed_place, marks_of, values_of};
 ghost use Rattle.cell_calc.specs.Walk.{Goes};
 
 use crate::cells::{CellsOf, StoredCell};
@@ -73,8 +73,8 @@ pub fn calculate_for<C: CellsOf>(
     Ok(table)
 }
 
-/// Comes to know the values of the formulas in one more area, as [`calculate_for`] does, beside those of the areas whose
-/// values the table has; what it knows isn't calculated again.
+/// Comes to know the values of the formulas in one more area, as [`calculate_for`] does, beside those of the areas
+/// whose values the table has; what it knows isn't calculated again.
 ///
 /// # Errors
 ///
@@ -140,9 +140,9 @@ fn settle_content<C: CellsOf>(
     place: Key,
     content: &Content,
 ) -> Result<(), NoMemory>
-    requires { (C.contents cells.now).content (place_of place) ≡ Some content.now }
+    requires { (C.contents cells.now).content (keyed_place place) ≡ Some content.now }
     ensures goes { OnOk result (Goes (C.contents cells.now) (marks_of table.old) [] (marks_of table.new) []) }
-    ensures met { OnOk result (IsStoredFormula (Some content.now) → IsSome (marks_of table.new (place_of place))) }
+    ensures met { OnOk result (IsStoredFormula (Some content.now) → IsSome (marks_of table.new (keyed_place place))) }
 {
     match content {
         Content::Formula(text) => settle(alloc, cells, table, place, text),

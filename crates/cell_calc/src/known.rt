@@ -184,10 +184,10 @@ fn place_among(area: &Area, columns: u32, row: u32, column: u32) -> u64
 {
     let rows_before = row.saturating_sub(area.rows.first_line());
     let columns_before = column.saturating_sub(area.cols.first_line());
-    place_of(rows_before, columns, columns_before)
+    count_before(rows_before, columns, columns_before)
 }
 
-fn place_of(rows: u32, columns: u32, more: u32) -> u64
+fn count_before(rows: u32, columns: u32, more: u32) -> u64
     ensures { result ≡ rows * columns + more }
 {
     u64::from(rows) * u64::from(columns) + u64::from(more)

@@ -24,7 +24,7 @@ impl Table {
     ghost use Rattle.cell_calc.specs.Calculated.{IsTableOf};
     ghost use Rattle.cell_calc.specs.Contents.{Contents};
     ghost use Rattle.cell_calc.specs.Known.{value_known};
-    ghost use Rattle.cell_calc.specs.Marks.{place_of, marks_of, IsMarked, value_told, values_of, found_by, is_known};
+    ghost use Rattle.cell_calc.specs.Marks.{keyed_place, marks_of, IsMarked, value_told, values_of, found_by, is_known};
 
     /// A table of no values.
     pub fn new(alloc: Global) -> Table
@@ -50,7 +50,7 @@ impl Table {
     }
 
     fn told(&self, key: Key) -> Option<&Value>
-        ensures { option_copied result ≡ values_of self.now (place_of key) }
+        ensures { option_copied result ≡ values_of self.now (keyed_place key) }
     {
         match self.marks.get(&key) {
             Some(mark) => self.told_by(mark),
@@ -69,7 +69,7 @@ impl Table {
     }
 
     pub(crate) fn found(&self, key: Key) -> Found
-        ensures { result ≡ found_by (marks_of self.now (place_of key)) }
+        ensures { result ≡ found_by (marks_of self.now (keyed_place key)) }
     {
         match self.marks.get(&key) {
             Some(mark) => mark.found(),
@@ -78,7 +78,7 @@ impl Table {
     }
 
     pub(crate) fn is_known(&self, key: Key) -> bool
-        ensures { result ≡ is_known (marks_of self.now (place_of key)) }
+        ensures { result ≡ is_known (marks_of self.now (keyed_place key)) }
     {
         match self.marks.get(&key) {
             Some(mark) => mark.is_known(),
@@ -87,7 +87,7 @@ impl Table {
     }
 
     pub(crate) fn set(&mut self, key: Key, mark: Mark) -> Result<(), NoMemory>
-        ensures { OnOk result (IsMarked (marks_of self.old) (place_of key) mark (marks_of self.new)) }
+        ensures { OnOk result (IsMarked (marks_of self.old) (keyed_place key) mark (marks_of self.new)) }
     {
         self.marks.insert(key, mark)?;
         Ok(())

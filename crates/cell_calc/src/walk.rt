@@ -8,7 +8,7 @@ ghost use Rattle.cell_calc.specs.Book.{formula};
 ghost use Rattle.cell_calc.specs.Calculated.{one_cell};
 ghost use Rattle.cell_calc.specs.FormulaValue.{value_of_cell};
 ghost use Rattle.cell_calc.specs.Known.{book_read, value_read};
-ghost use Rattle.cell_calc.specs.Marks.{place_of, marks_of, values_of, IsMarked};
+ghost use Rattle.cell_calc.specs.Marks.{keyed_place, marks_of, values_of, IsMarked};
 ghost use Rattle.cell_calc.specs.Walk.{Goes, Passes, Meets, Closes, IsCut, IsTreeAt, LooksAt, IsNoted, Notes};
 ghost use Rattle.cell_calc.specs.Walk.{is_settled, AreSettled, IsAreaSettled, AreAreasSettled};
 
@@ -49,8 +49,9 @@ pub(crate) fn settle<C: CellsOf>(
     place: Key,
     text: &Formula,
 ) -> Result<(), NoMemory>
-    ensures { (C.contents cells.now).content (place_of place) ≡ Some (content.Formula text.now)
-        → OnOk result (Meets (C.contents cells.now) (place_of place) (marks_of table.old) [] (marks_of table.new) []) }
+    ensures { (C.contents cells.now).content (keyed_place place) ≡ Some (content.Formula text.now)
+        → OnOk result
+        (Meets (C.contents cells.now) (keyed_place place) (marks_of table.old) [] (marks_of table.new) []) }
 {
     let mut path = VecDeque::new(alloc);
     meet_formula(alloc, cells, table, &mut path, place, text)?;
@@ -241,7 +242,7 @@ fn meet<C: CellsOf>(
     path: &mut VecDeque<Frame>,
     place: Key,
 ) -> Result<(), NoMemory>
-    ensures { OnOk result (Passes (C.contents cells.now) (place_of place) (marks_of table.old) path.old.items
+    ensures { OnOk result (Passes (C.contents cells.now) (keyed_place place) (marks_of table.old) path.old.items
         (marks_of table.new) path.new.items) }
 {
     match cells.content(place.0, place.1, place.2) {
@@ -258,8 +259,8 @@ fn meet_content<C: CellsOf>(
     place: Key,
     content: &Content,
 ) -> Result<(), NoMemory>
-    ensures { (C.contents cells.now).content (place_of place) ≡ Some content.now
-        → OnOk result (Passes (C.contents cells.now) (place_of place) (marks_of table.old) path.old.items
+    ensures { (C.contents cells.now).content (keyed_place place) ≡ Some content.now
+        → OnOk result (Passes (C.contents cells.now) (keyed_place place) (marks_of table.old) path.old.items
         (marks_of table.new) path.new.items) }
 {
     match content {
@@ -277,8 +278,8 @@ fn meet_formula<C: CellsOf>(
     place: Key,
     text: &Formula,
 ) -> Result<(), NoMemory>
-    ensures { (C.contents cells.now).content (place_of place) ≡ Some (content.Formula text.now)
-        → OnOk result (Meets (C.contents cells.now) (place_of place) (marks_of table.old) path.old.items
+    ensures { (C.contents cells.now).content (keyed_place place) ≡ Some (content.Formula text.now)
+        → OnOk result (Meets (C.contents cells.now) (keyed_place place) (marks_of table.old) path.old.items
         (marks_of table.new) path.new.items) }
 {
     match table.found(place) {
@@ -308,9 +309,9 @@ fn begin<C: CellsOf>(
     place: Key,
     text: &Formula,
 ) -> Result<(), NoMemory>
-    ensures { (C.contents cells.now).content (place_of place) ≡ Some (content.Formula text.now)
-        → marks_of table.old (place_of place) ≡ None
-        → OnOk result (Meets (C.contents cells.now) (place_of place) (marks_of table.old) path.old.items
+    ensures { (C.contents cells.now).content (keyed_place place) ≡ Some (content.Formula text.now)
+        → marks_of table.old (keyed_place place) ≡ None
+        → OnOk result (Meets (C.contents cells.now) (keyed_place place) (marks_of table.old) path.old.items
         (marks_of table.new) path.new.items) }
 {
     let tree = tree_within(alloc, text)?;
@@ -325,9 +326,9 @@ fn begin_tree<C: CellsOf>(
     place: Key,
     tree: Option<Tree>,
 ) -> Result<(), NoMemory>
-    ensures { IsTreeAt (C.contents cells.now) (place_of place) (option_map expression_of tree)
-        → marks_of table.old (place_of place) ≡ None
-        → OnOk result (Meets (C.contents cells.now) (place_of place) (marks_of table.old) path.old.items
+    ensures { IsTreeAt (C.contents cells.now) (keyed_place place) (option_map expression_of tree)
+        → marks_of table.old (keyed_place place) ≡ None
+        → OnOk result (Meets (C.contents cells.now) (keyed_place place) (marks_of table.old) path.old.items
         (marks_of table.new) path.new.items) }
 {
     match tree {
@@ -345,9 +346,9 @@ fn enter<C: CellsOf>(
     place: Key,
     tree: Tree,
 ) -> Result<(), NoMemory>
-    ensures { IsTreeAt (C.contents cells.now) (place_of place) (Some (expression_of tree))
-        → marks_of table.old (place_of place) ≡ None
-        → OnOk result (Meets (C.contents cells.now) (place_of place) (marks_of table.old) path.old.items
+    ensures { IsTreeAt (C.contents cells.now) (keyed_place place) (Some (expression_of tree))
+        → marks_of table.old (keyed_place place) ≡ None
+        → OnOk result (Meets (C.contents cells.now) (keyed_place place) (marks_of table.old) path.old.items
         (marks_of table.new) path.new.items) }
 {
     let mut rest = Vec::new(alloc);
@@ -369,8 +370,9 @@ fn put_on(
     tree: Tree,
     rest: Vec<Area>,
 ) -> Result<(), NoMemory>
-    ensures { OnOk result ((frame : Frame) × (frame.place ≡ place) × (frame.tree ≡ tree) × (frame.rest.items ≡ rest.items)
-        × (frame.noted.items ≡ []) × IsMarked (marks_of table.old) (place_of place) Open (marks_of table.new)
+    ensures { OnOk result
+        ((frame : Frame) × (frame.place ≡ place) × (frame.tree ≡ tree) × (frame.rest.items ≡ rest.items)
+        × (frame.noted.items ≡ []) × IsMarked (marks_of table.old) (keyed_place place) Open (marks_of table.new)
         × (path.new.items ≡ frame ∷ path.old.items)) }
 {
     let noted = Vec::new(alloc);

@@ -4,9 +4,10 @@ use Rattle.std.specs.Prelude.{None, Some}
 use Rattle.std.specs.FinMap as map
 use Rattle.std.proofs.lemmas.Cmp.{eq_by_cmp_equiv}
 use Rattle.grid_range.specs.Area.{by_rows}
+use Rattle.grid_range.specs.ByRows.{by_rows_total}
 use Rattle.cell_store.specs.Table.{item_at}
 use Rattle.cell_store.specs.Laws.{TablesByItems}
-use Rattle.cell_store.proofs.Cells.{by_rows_total, get-cells, same_cells, len-cells}
+use Rattle.cell_store.proofs.Cells.{get-cells, same_cells, len-cells}
 
 pub tables_are : (T : Type 0) → TablesByItems T
 tables_are T = record {

@@ -2,24 +2,16 @@
 use native.Mathlib.Omega.{arith}
 use Rattle.std.proofs.Common.{Bool, true, false, ◌≤◌, ◌≡◌, ℕ, suc, refl, sym, ap, ◌∙◌, List, [], ◌∷◌, cond, length, ◌+◌}
 use Rattle.std.specs.Prelude.{Option, Some, None}
-use Rattle.std.specs.Ordering.{nat_cmp, eq_by_cmp}
+use Rattle.std.specs.Ordering.{eq_by_cmp}
 use Rattle.std.specs.List.{AllByRecursion, IsDistinct}
 use Rattle.std.specs.Option.{is_some}
-use Rattle.std.specs.declared.cmp.Ordering.TheVariants.{Equal}
-use Rattle.std.specs.Cmp.{IsTotalOrder, nat_cmp_total}
-use Rattle.std.proofs.lemmas.Cmp.{then_total, on_total, eq_by_cmp_equiv}
-use Rattle.std.proofs.lemmas.Map.Lookups.{exact_pairs, exact_unsigned}
+use Rattle.std.proofs.lemmas.Cmp.{eq_by_cmp_equiv}
 use Rattle.std.specs.Map.{lookup, keys_of}
 use Rattle.std.proofs.lemmas.Map.Keys.{IsDistinct-head, IsDistinct-tail}
 use Rattle.std.specs.FinMap as map
 use Rattle.grid_range.specs.Area.{by_rows}
+use Rattle.grid_range.specs.ByRows.{by_rows_total, by_rows_exact}
 use Rattle.cell_store.specs.Entries.{entry_at}
-
-pub by_rows_total : IsTotalOrder by_rows
-by_rows_total = then_total (on_total (λ (p : ℕ × ℕ). p.0) nat_cmp_total) (on_total (λ (p : ℕ × ℕ). p.1) nat_cmp_total)
-
-pub by_rows_exact : (one other : ℕ × ℕ) → by_rows one other ≡ Equal → one ≡ other
-by_rows_exact = exact_pairs nat_cmp nat_cmp exact_unsigned exact_unsigned
 
 one_more : (m n : ℕ) → m ≡ n → m + 1 ≡ suc n
 one_more m n e = omega arith

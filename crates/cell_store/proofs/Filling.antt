@@ -8,8 +8,9 @@ use Rattle.std.proofs.lemmas.Map.Keys.{IsDistinct-from_sorted}
 use Rattle.std.proofs.lemmas.Map.Made.{update_all_none}
 use Rattle.std.specs.List.Sorted.{IsStrictlySortedBy}
 use Rattle.grid_range.specs.Area.{by_rows}
+use Rattle.grid_range.specs.ByRows.{by_rows_total}
 use Rattle.cell_store.specs.Entries.{entry_at}
-use Rattle.cell_store.proofs.Cells.{SetsPlace, by_rows_total}
+use Rattle.cell_store.proofs.Cells.{SetsPlace}
 
 module _ {T : Type 0} where
   -- with the rest of the entries put into it the tree has what all of them make

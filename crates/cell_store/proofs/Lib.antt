@@ -1,6 +1,7 @@
 pub mod Cells
 pub mod Tables
 pub mod Ordered
+pub mod Rising
 pub mod ByItems
 pub mod Filling
 pub mod Listed

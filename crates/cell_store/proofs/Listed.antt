@@ -22,11 +22,11 @@ use Rattle.grid_range.specs.declared.band.Band.{Band}
 use Rattle.grid_range.specs.declared.band.Band.TheVariants.{Whole, From, Span}
 use Rattle.grid_range.specs.Band.{HasLine}
 use Rattle.grid_range.specs.Area.{Holds}
+use Rattle.grid_range.specs.ByRows.{by_rows_total, by_rows_exact}
 use Rattle.grid_range.specs.Area.{by_rows}
 use Rattle.cell_store.specs.Table.{Table}
 use Rattle.cell_store.specs.Entries.{entry_at, HasEntriesInside, table_of}
 use Rattle.cell_store.specs.Places.{AreFilledPlaces}
-use Rattle.cell_store.proofs.Cells.{by_rows_total, by_rows_exact}
 use Rattle.cell_store.proofs.Tables.{item-view}
 
 -- the tests of a band and of an area

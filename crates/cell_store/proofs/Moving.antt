@@ -15,10 +15,11 @@ use Rattle.grid_range.specs.declared.axis.Axis.{Axis}
 use Rattle.grid_range.specs.declared.change.Change.{Change}
 use Rattle.grid_range.specs.Change.{Fits}
 use Rattle.grid_range.specs.Area.{by_rows}
+use Rattle.grid_range.specs.ByRows.{by_rows_total, by_rows_exact}
 use Rattle.cell_store.specs.Table.{Table}
 use Rattle.cell_store.specs.Entries.{entry_at, HasEntriesInside, table_of}
 use Rattle.cell_store.specs.Moved.{place_after, lines_on, size_after, GoesWithLines}
-use Rattle.cell_store.proofs.Cells.{SetsPlace, by_rows_total, by_rows_exact, get-cells}
+use Rattle.cell_store.proofs.Cells.{SetsPlace, get-cells}
 use Rattle.cell_store.proofs.Tables.{item-view}
 use Rattle.cell_value.specs.Elements.{Contains-filter_map, Contains-filter_map_from}
 use Rattle.cell_store.proofs.Filling.{FillsTo, fills_on}
@@ -136,7 +137,8 @@ module _ {T : Type 0} (axis : Axis) (change : Change) where
         get-made q
         ∙ lookup-from_Contains (eq_by_cmp_equiv by_rows_total) q x (moved items)
         (distinct_moved law rows cols fits items (keys_inside rows cols items inside) apart)
-        (Contains-filter_map moves items (old, x) (q, x) (Contains-from_lookup (tells_apart by_rows_exact) old x items held)
+        (Contains-filter_map moves items (old, x) (q, x)
+        (Contains-from_lookup (tells_apart by_rows_exact) old x items held)
         (ap (option_map (λ p. (p, x))) goes))
 
     pub inside-moved : PlacesStayBelow → HasEntriesInside (size_after axis change rows cols).0

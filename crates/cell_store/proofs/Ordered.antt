@@ -14,9 +14,9 @@ use Rattle.std.proofs.lemmas.Map.Keys.{IsDistinct-IsPermutation}
 use Rattle.std.proofs.lemmas.Map.Keys.{apart_from_distinct, sorted_from_all_adjacent}
 use Rattle.grid_range.specs.declared.area.Area.{Area}
 use Rattle.grid_range.specs.Area.{Holds}
+use Rattle.grid_range.specs.ByRows.{by_rows_total}
 use Rattle.cell_value.specs.Elements.{Contains-filter, Contains-filter_from, IsDistinct-filter}
 use Rattle.grid_range.specs.Area.{by_rows}
-use Rattle.cell_store.proofs.Cells.{by_rows_total}
 use Rattle.cell_store.proofs.Listed.{holds_place, holds_true, Holds-from}
 
 laws : IsEquivalence (eq_by_cmp by_rows)

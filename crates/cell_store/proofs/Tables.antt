@@ -10,9 +10,10 @@ use Rattle.std.specs.Ordering.{eq_by_cmp}
 use Rattle.std.specs.Map.{lookup, keys_of}
 use Rattle.std.specs.FinMap as map
 use Rattle.grid_range.specs.Area.{by_rows}
+use Rattle.grid_range.specs.ByRows.{by_rows_exact}
 use Rattle.cell_store.specs.Table.{Table, item_at, filled_places, HasItemsInside, with_item, without_item}
 use Rattle.cell_store.specs.Entries.{entry_at, HasEntriesInside, table_of}
-use Rattle.cell_store.proofs.Cells.{SetsPlace, by_rows_exact, get-cells, same_cells, cells_put, cells_taken}
+use Rattle.cell_store.proofs.Cells.{SetsPlace, get-cells, same_cells, cells_put, cells_taken}
 use Rattle.cell_store.proofs.Cells.{len-cells}
 
 module _ {T : Type 0} (rows cols : ℕ) (items : List ((ℕ × ℕ) × T)) {table : Table T}

@@ -47,7 +47,8 @@ goes_below below change count line place fits there goes =
     subst (λ o. IfSome o (λ p. p < count_after change count)) goes (below change count line fits there)
 
 -- where a span that has a line begins
-pub chosen : (a b p : ℕ) → a < b → a ≡ p → option_map (λ (s : ℕ × ℕ). s.0) (cond (nat_lt a b) (Some (a, b)) None) ≡ Some p
+pub chosen : (a b p : ℕ) → a < b → a ≡ p
+    → option_map (λ (s : ℕ × ℕ). s.0) (cond (nat_lt a b) (Some (a, b)) None) ≡ Some p
 chosen a b p less is = grind (arith, nat_tests)
 
 -- the line at a place once lines were deleted, or moved before others, or behind them

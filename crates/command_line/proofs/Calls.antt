@@ -29,7 +29,8 @@ IsCalls words rows = MatchOption (first_of (codes "calls") rows) (words ≡ []) 
 abbrev counted : Text → Held
 counted text = record nothing_held { pending = Some (codes "calls", text ∷ []) }
 
-value_is : (word : Text) → IsValue word → word_met (calls ∷ []) [] false idle 1 word nothing_held ≡ (nothing_held, taken)
+value_is : (word : Text) → IsValue word → word_met (calls ∷ []) [] false idle 1 word nothing_held
+    ≡ (nothing_held, taken)
 value_is word fits = value_met working [] idle 1 nothing_held word refl (value_no_dashes word fits) (no_long word fits)
     (no_short word fits)
 
@@ -58,7 +59,8 @@ level_free : (words : List Text) → level_fault working [] nothing_held words f
 level_free words free =
     let held = held_after (calls ∷ []) (walk_from nothing_held) words in
     without_end (walk_fault working [] (walk_from nothing_held) words) (settle_fault (calls ∷ []) false held)
-    (or_else (defaults_fault (settled (calls ∷ []) held).rows (calls ∷ [])) (check_fault working (finished (calls ∷ []) held) false))
+    (or_else (defaults_fault (settled (calls ∷ []) held).rows (calls ∷ []))
+    (check_fault working (finished (calls ∷ []) held) false))
     free
 
 pub calls_read : (words : List Text) → AllByRecursion IsPlain words

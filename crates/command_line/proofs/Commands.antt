@@ -120,7 +120,8 @@ pub serve_needs : (options : List Pair) (words : List (List ℕ))
     → (command : Meaning) → IsOf (codes "serve") command words
     → (port : ℕ) × (limit : ℕ) × HasNumber (codes "port") MOST_PORT port options
     × HasNumber (codes "limit") MOST_CONNECTIONS limit options
-serve_needs options words are (serve port limit users journal) (is, (options', are', has_port, has_limit, has_users, has_journal)) =
+serve_needs options words are (serve port limit users journal)
+    (is, (options', are', has_port, has_limit, has_users, has_journal)) =
     let same = sym (same_options options options' words are.0 are'.0) in (
       port,
       limit,
@@ -155,4 +156,5 @@ pub unread : (most number : ℕ) (given text : List ℕ) (read : Option ℕ) →
     → ((other : ℕ) → (read ≡ Some other) ↔ IsNumber most given other) → Some given ≡ Some text
     → IsNumber most text number → ⊥
 unread most number given text read none reads same is =
-    never number (none ∙ (reads number).1 (subst (λ (t : List ℕ). IsNumber most t number) (sym (same_given given text same)) is))
+    never number
+    (none ∙ (reads number).1 (subst (λ (t : List ℕ). IsNumber most t number) (sym (same_given given text same)) is))

@@ -46,7 +46,8 @@ apart before (option ∷ options) new =
     (λ (other : Pair). IsNew other.0 before × (option.0 ≢ other.0)) options
     (λ other is. new_before other.0 before option is) later.1 in (
       (
-        each (λ (other : Pair). IsNew other.0 before × (option.0 ≢ other.0)) (λ (other : Pair). other.0 ≢ option.0) options
+        each (λ (other : Pair). IsNew other.0 before × (option.0 ≢ other.0))
+            (λ (other : Pair). other.0 ≢ option.0) options
             (λ other is same. is.1 (sym same)) parts,
         later.0,
       ),
@@ -57,7 +58,8 @@ apart before (option ∷ options) new =
       ),
     )
 
-all_new : (before options : List Pair) → AreDistinct options → AllByRecursion (λ (option : Pair). IsNew option.0 before) options
+all_new : (before options : List Pair) → AreDistinct options
+    → AllByRecursion (λ (option : Pair). IsNew option.0 before) options
     → AreNew before options
 all_new before [] distinct new = tt
 all_new before (option ∷ options) distinct new = (
@@ -109,13 +111,15 @@ module _ (name : Text) (names : List Text) where
   check_free rows = rw (none_required rows names) refl
 
   level_is : (words : List Text)
-      → level_fault (leaf name names) [] nothing_held words false [] ≡ fault (leaf name names) (walk_from nothing_held) words
+      → level_fault (leaf name names) [] nothing_held words false []
+      ≡ fault (leaf name names) (walk_from nothing_held) words
   level_is words =
       let c = map rule names in
       let held = held_after c (walk_from nothing_held) words in
       rw (defaults_free (settled c held).rows names, check_free (finished c held)) (ap (or_else _) (alone _))
 
-  rows_are : (words : List Text) → rows_after (map rule names) [] words ≡ rows_behind name names (walk_from nothing_held) words
+  rows_are : (words : List Text) → rows_after (map rule names) [] words
+      ≡ rows_behind name names (walk_from nothing_held) words
   rows_are words = no_defaults _ names
 
   -- words are taken just where they are options, and their values are found
@@ -135,5 +139,6 @@ module _ (name : Text) (names : List Text) where
       → AllByRecursion (λ (option : Pair). option.0 ≢ []) options
       → level_fault (leaf name names) [] nothing_held words false [] ≡ []
   read_taken options words are named = level_is words
-      ∙ complete name names options words are.0 are.1.0 named [] (all_new [] options are.1.1 (any_new options)) nothing_held
+      ∙ complete name names options words are.0 are.1.0 named [] (all_new [] options are.1.1 (any_new options))
+      nothing_held
       refl refl

@@ -57,8 +57,10 @@ journal_some = (some_text _ _, tt)
 
 number_fits : (text : Text) (number : ℕ) → IsNumber MOST_CALLS text number → IsValue text
 number_fits text number is =
-    let begins = number_begins MOST_CALLS text number (omega arith) is in
-    (λ none. absurd (omega (arith, begins.0, ap (λ (t : Text). slice_index t 0) none)), λ dash. absurd (omega (arith, begins.0, dash)))
+    let begins = number_begins MOST_CALLS text number (omega arith) is in (
+      λ none. absurd (omega (arith, begins.0, ap (λ (t : Text). slice_index t 0) none)),
+      λ dash. absurd (omega (arith, begins.0, dash)),
+    )
 
 value_word : (byte : ℕ) (text : Text) → byte ≢ 45 → IsPlain (byte ∷ text)
 value_word byte text no_dash = inl (some_text byte text, no_dash)
@@ -72,7 +74,8 @@ pub reads_plain : (command : Meaning) (words : List Text) → ReadsAs command wo
 reads_plain (run users) words (rest, are, (options, is, has)) =
     plain_first words rest _ _ (λ e. absurd (omega (arith, e))) are
     (options_plain options rest is.0 (all_some (codes "users" ∷ []) options users_some is.1.0))
-reads_plain (serve port limit users journal) words (rest, are, (options, is, has_port, has_limit, has_users, has_journal)) =
+reads_plain (serve port limit users journal) words
+    (rest, are, (options, is, has_port, has_limit, has_users, has_journal)) =
     plain_first words rest _ _ (λ e. absurd (omega (arith, e))) are
     (options_plain options rest is.0
     (all_some (codes "port" ∷ codes "limit" ∷ codes "users" ∷ codes "journal" ∷ []) options serve_some is.1.0))
@@ -86,8 +89,10 @@ reads_plain (workload number) words (rest, are, (text, is, has)) =
 pub reads_taken : (command : Meaning) (words : List Text) → ReadsAs command words → fault_of sheets words ≡ []
 reads_taken (run users) words (rest, are, (options, is, has)) =
     ap (fault_of sheets) are ∙ fault_is (codes "run") enters_run rest
-    ∙ read_taken (codes "run") (codes "users" ∷ []) options rest is (all_some (codes "users" ∷ []) options users_some is.1.0)
-reads_taken (serve port limit users journal) words (rest, are, (options, is, has_port, has_limit, has_users, has_journal)) =
+    ∙ read_taken (codes "run") (codes "users" ∷ []) options rest is
+    (all_some (codes "users" ∷ []) options users_some is.1.0)
+reads_taken (serve port limit users journal) words
+    (rest, are, (options, is, has_port, has_limit, has_users, has_journal)) =
     let names : List Text = codes "port" ∷ codes "limit" ∷ codes "users" ∷ codes "journal" ∷ [] in
     ap (fault_of sheets) are ∙ fault_is (codes "serve") enters_serve rest
     ∙ read_taken (codes "serve") names options rest is (all_some names options serve_some is.1.0)
@@ -156,16 +161,19 @@ some_named words name found (inr (name', rest, rows, are, is, behind)) =
     )
 
 -- a name that is no command's
-pub other_named : (name : Text) → name ≢ codes "run" → name ≢ codes "serve" → name ≢ codes "replay" → name ≢ codes "workload"
+pub other_named : (name : Text) → name ≢ codes "run" → name ≢ codes "serve" → name ≢ codes "replay"
+    → name ≢ codes "workload"
     → (command : Meaning) → name ≢ name_of command
 other_named name not_run not_serve not_replay not_workload (run users) = not_run
 other_named name not_run not_serve not_replay not_workload (serve port limit users journal) = not_serve
 other_named name not_run not_serve not_replay not_workload (replay journal) = not_replay
 other_named name not_run not_serve not_replay not_workload (workload number) = not_workload
 
-pub has_values : (names words : List Text) (found : Found) → HasRows names words (rows_of found) → HasValues names words found
+pub has_values : (names words : List Text) (found : Found) → HasRows names words (rows_of found)
+    → HasValues names words found
 has_values names words found has = (has.0, has.1, λ id. first_value-rows found id ∙ has.2 id)
 
 pub has_calls : (words : List Text) (found : Found) → IsCalls words (rows_of found) → HasCalls words found
 has_calls words found has =
-    subst (λ (o : Option Text). MatchOption o (words ≡ []) (λ text. words ≡ text ∷ [])) (sym (first_value-rows found (codes "calls"))) has
+    subst (λ (o : Option Text). MatchOption o (words ≡ []) (λ text. words ≡ text ∷ []))
+    (sym (first_value-rows found (codes "calls"))) has

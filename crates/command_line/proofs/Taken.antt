@@ -104,7 +104,8 @@ module _ (name : Text) (names : List Text) where
       (turn : turn_fault (leaf name names) [] (walk_from h) word ≡ [])
       (rest : fault (leaf name names) (walked c [] (walk_from h) word) words ≡ []) where
     abbrev Result : Type 0
-    Result = (settle_fault c false h ≡ []) × Reads names before (word ∷ words) (rows_behind (walk_from h) (word ∷ words))
+    Result = (settle_fault c false h ≡ [])
+        × Reads names before (word ∷ words) (rows_behind (walk_from h) (word ∷ words))
 
     by_name : (id : Text) → id ≢ [] → HasNoEquals id → word ≡ codes "--" ++ id → Result
     by_name id some none is = elim (long_known id names) [
@@ -136,13 +137,16 @@ module _ (name : Text) (names : List Text) where
         long : long_of word ≡ Some (id, None)
         long = ap long_of is ∙ long_name id none some
 
-    by_pair : (id value : Text) → HasNoEquals id → word ≡ codes "--" ++ (id ++ (codes "=" ++ value)) → IsValue value → Result
+    by_pair : (id value : Text) → HasNoEquals id → word ≡ codes "--" ++ (id ++ (codes "=" ++ value))
+        → IsValue value → Result
     by_pair id value none is fits = elim (long_known id names) [
-      | inr unknown ↦ absurd (flag_refused (leaf name names) [] idle 1 h word refl no_dashes id (Some value) long unknown turn)
+      | inr unknown ↦
+          absurd (flag_refused (leaf name names) [] idle 1 h word refl no_dashes id (Some value) long unknown turn)
       | inl has ↦
           let free = sym (pair_fault name names idle h word no_dashes id has value long) ∙ turn in
           let settle = first_free _ _ free in
-          let new = free_new id value before (sym (ap (λ (g : Held). use_fault false (rule id) (value ∷ []) g.rows) (leads settle))
+          let new = free_new id value before
+          (sym (ap (λ (g : Held). use_fault false (rule id) (value ∷ []) g.rows) (leads settle))
           ∙ second_free _ _ free) in
           let pair : Pair = (id, value) in
           let next_is : walked c [] (walk_from h) word ≡ walk_from (met (before ++ pair ∷ [])) =
@@ -173,14 +177,16 @@ module _ (name : Text) (names : List Text) where
       let parts = parted (leaf name names) (walk_from h) word words free in
       elim plain [
         | inl value ↦ absurd (stray_refused (leaf name names) [] 1 h word refl (by_index 1 names) value parts.0)
-        | inr (option, is, inl (some, none)) ↦ by_name word words later plains h before leads parts.0 parts.1 option some none is
+        | inr (option, is, inl (some, none)) ↦
+            by_name word words later plains h before leads parts.0 parts.1 option some none is
         | inr (option, is, inr (id, value, none, split, fits)) ↦
             by_pair word words later plains h before leads parts.0 parts.1 id value none
             (is ∙ ap (λ (t : Text). codes "--" ++ t) split) fits
       ]
 
   -- a name behind an option that waits is refused
-  name_refused : (word : Text) (id : Text) (before : List Pair) → Contains names id → (other : Text) (value : Option Text)
+  name_refused : (word : Text) (id : Text) (before : List Pair) → Contains names id
+      → (other : Text) (value : Option Text)
       → bytes_eq word (45 ∷ 45 ∷ []) ≡ false → long_of word ≡ Some (other, value)
       → turn_fault (leaf name names) [] (waits id before) word ≡ [] → ⊥
   name_refused word id before has other value no_dashes long free = go value long (long_known other names)
@@ -202,8 +208,10 @@ module _ (name : Text) (names : List Text) where
       elim plain [
         | inl value ↦
             let no_dashes = value_no_dashes word value in
-            let next_is = value_walked name names (met before) word no_dashes (no_long word value) (no_short word value) id has in
-            let leads : Leads (valued id word before) (before ++ (id, word) ∷ []) = λ settle. valued_kept id word before has
+            let next_is =
+            value_walked name names (met before) word no_dashes (no_long word value) (no_short word value) id has in
+            let leads : Leads (valued id word before) (before ++ (id, word) ∷ []) =
+            λ settle. valued_kept id word before has
             (free_new id word before (sym (valued_fault id word before has) ∙ settle)) in
             let found = later.0 plains (valued id word before) (before ++ (id, word) ∷ []) leads
             (subst (λ (w : Walk). fault (leaf name names) w words ≡ []) next_is parts.1) in

@@ -12,7 +12,8 @@ IsTold command app = (app_of command ≡ app) × ((out-Command command).has_glob
 either_false : (one other : Bool) → one ≡ false → other ≡ false → (one || other) ≡ false
 either_false one other is is' = ap₂ (λ (a b : Bool). a || b) is is'
 
-pub told_arg : (old new : Command) (argument : Arg) (app : App) (rule : Rule) → AddsArg old argument new → IsTold old app
+pub told_arg : (old new : Command) (argument : Arg) (app : App) (rule : Rule) → AddsArg old argument new
+    → IsTold old app
     → rule_of argument ≡ rule → argument.global ≡ false → IsTold new (with_rule app rule)
 told_arg old new argument app rule adds told is local = (
   adds.shape local ∙ ap₂ with_rule told.0 is,

@@ -65,8 +65,13 @@ module _ (name : Text) (enters : Enters name) (rest : List Text) where
       last : or_else (walk_fault top commands (walk_from nothing_held) (name ∷ rest)) (or_else below
           (or_else (settle_fault top.rules false nothing_held)
           (or_else (defaults_fault (settled top.rules nothing_held).rows top.rules)
-          (check_fault top (finished top.rules nothing_held) (is_some (entered (built sheets) (Some (name, rest)))))))) ≡ below
-      last = rw (walk_free, no_check (finished top.rules nothing_held) (is_some (entered (built sheets) (Some (name, rest))))) (alone below)
+          (check_fault top (finished top.rules nothing_held)
+          (is_some (entered (built sheets) (Some (name, rest)))))))) ≡ below
+      last = rw (
+        walk_free,
+        no_check (finished top.rules nothing_held)
+            (is_some (entered (built sheets) (Some (name, rest)))),
+      ) (alone below)
 
 -- ---- by the name
 

@@ -89,7 +89,8 @@ module _ (s : Shape) (names : Names) (position : ℕ) (h : Held) (word : Text)
       let met_is = value_met s names idle position h word no_command (value_no_dashes word fits) (no_long word fits)
       (no_short word fits) in
       let step_is = ap (λ (m : Held × Step). step_fault s position m.0 m.1) met_is in
-      let stray = ap (λ o. option_map_or (λ a. positional_fault s.rules s.args_override_self a h) o (stray_fault s)) no_place in
+      let stray =
+      ap (λ o. option_map_or (λ a. positional_fault s.rules s.args_override_self a h) o (stray_fault s)) no_place in
       some_stray s (sym (step_is ∙ stray) ∙ second_free _ _ free)
 
   -- and so is each plain word, where the command has no option either

@@ -41,7 +41,8 @@ abbrev pub IsNew : Text → List Pair → Type 0
 IsNew name pairs = AllByRecursion (λ (pair : Pair). pair.0 ≢ name) pairs
 
 missed : (name : Text) (pair : Pair) → pair.0 ≢ name → bytes_eq pair.0 name ≡ false
-missed name pair not_name = false_from_ne_true (bytes_eq pair.0 name) (λ is. not_name ((bytes_eq-Decides pair.0 name).0 is))
+missed name pair not_name =
+    false_from_ne_true (bytes_eq pair.0 name) (λ is. not_name ((bytes_eq-Decides pair.0 name).0 is))
 
 new_row : (name : Text) (pairs : List Pair) → IsNew name pairs → has_row name (map row pairs) ≡ false
 new_row name [] new = refl
@@ -79,7 +80,9 @@ pub use_kept : (name value : Text) (pairs : List Pair) → IsNew name pairs
     → used (rule name) (value ∷ []) (map row pairs) ≡ map row (pairs ++ (name, value) ∷ [])
 use_kept name value pairs new =
     let cleared = at_new name (λ _. []) [] pairs new ∙ append-nil (map row pairs) in
-    rw cleared (at_new name (more_values CommandLine (value ∷ [])) (row (name, value) ∷ []) pairs new ∙ sym (map-append row pairs ((name, value) ∷ [])))
+    rw cleared
+    (at_new name (more_values CommandLine (value ∷ [])) (row (name, value) ∷ []) pairs new
+    ∙ sym (map-append row pairs ((name, value) ∷ [])))
 
 -- the value that is found of a name
 pub first_is : (name : Text) (pairs : List Pair) → first_of name (map row pairs) ≡ value_of name pairs
@@ -140,7 +143,8 @@ or_false false = refl
 pub by_id : (name : Text) (names : List Text) → Contains names name → arg_by_id (map rule names) name ≡ Some (rule name)
 by_id name names has = found_rule name (λ a. bytes_eq a.id name) (λ other. refl) names has
 
-pub by_long : (name : Text) (names : List Text) → Contains names name → arg_by_long (map rule names) name ≡ Some (rule name)
+pub by_long : (name : Text) (names : List Text) → Contains names name → arg_by_long (map rule names) name
+    ≡ Some (rule name)
 by_long name names has =
     found_rule name (λ a. not (is_some a.index) && has_long a name) (λ other. or_false (bytes_eq other name)) names has
 

@@ -42,7 +42,8 @@ pub kept_told : (plain : List Entry → Ask → Outcome → Type 0) (dumps : Lis
     → TellsDump dumps history written written' shortages shortages' ended
     → ReplaysKept plain dumps kept written written' shortages shortages' (finish.Served ended)
 kept_told plain dumps kept list history written written' shortages shortages' ended opened is told =
-    tells opened.entries ended (subst (λ (l : List Noted). HasOpened plain LONGEST_JOURNAL kept l) opened.list_is opened)
+    tells opened.entries ended
+    (subst (λ (l : List Noted). HasOpened plain LONGEST_JOURNAL kept l) opened.list_is opened)
     refl
     (subst (λ (es : List Entry). TellsDump dumps es written written' shortages shortages' ended)
     (is ∙ ap entries_of opened.list_is ∙ entries_of_map opened.entries) told)

@@ -1,6 +1,6 @@
 -- Sending one list of bytes after another, and lines that may be cut.
 use Rattle.std.proofs.Common.{◌≡◌, ℕ, ◌+◌, ◌≤◌, List, [], ◌++◌, length, min, take, drop, Option, None, Some}
-use Rattle.std.proofs.Common.{Result, Ok, Err, true, false, IfSome, inl, inr, refl, sym, ◌∙◌, ap, arith}
+use Rattle.std.proofs.Common.{Result, Ok, Err, true, false, IfSome, inl, inr, refl, sym, subst, ◌∙◌, ap, arith}
 use Rattle.std.proofs.lemmas.List.{append-nil, take-append-drop, take-append-le, take_min}
 use Rattle.std.proofs.Math.Seq.{take-append-add}
 use Rattle.std.specs.Option.{option_map}
@@ -9,8 +9,8 @@ use Rattle.sheets_http.specs.declared.outside.SinkFault.{SinkFault}
 use Rattle.conversation.specs.Exchanges.{Sends}
 use Rattle.sheets_http.specs.declared.outside.SinkFault.TheVariants as fault
 use Rattle.cell_value.specs.FaultCount.{Rose}
-use Rattle.conversation.specs.Written.{nothing_more, append_twice}
-use Rattle.commands.specs.Finish.{IsPrefix, Says}
+use Rattle.conversation.specs.Written.{append_twice}
+use Rattle.commands.specs.Finish.{IsPrefix, Says, written_whole, sink_failed, no_memory}
 
 -- the first bytes of a line that were sent
 first_sent : (before after : Option (List ℕ)) (line : List ℕ) (sent : Result (Unit {0}) SinkFault)
@@ -28,21 +28,18 @@ pub says_what_is_sent : (before after : Option (List ℕ)) (faults faults' short
     → (sent ≡ Err fault.NoMemory → Rose shortages shortages')
     → Says before after faults faults' shortages shortages' line
 says_what_is_sent before after faults faults' shortages shortages' line (Ok done) sends cause short =
-    record { first = first_sent before after line (Ok done) sends; whole = inr sends }
+    record { first = first_sent before after line (Ok done) sends; whole = written_whole sends }
 says_what_is_sent before after faults faults' shortages shortages' line (Err fault.Failed) sends cause short =
-    record { first = first_sent before after line (Err fault.Failed) sends; whole = inl (inl (cause refl)) }
+    record { first = first_sent before after line (Err fault.Failed) sends; whole = sink_failed (cause refl) }
 says_what_is_sent before after faults faults' shortages shortages' line (Err fault.NoMemory) sends cause short =
-    record { first = first_sent before after line (Err fault.NoMemory) sends; whole = inl (inr (short refl)) }
+    record { first = first_sent before after line (Err fault.NoMemory) sends; whole = no_memory (short refl) }
 
-nothing_first : (before : Option (List ℕ))
-    → IfSome before (λ said. (first : List ℕ) × IsPrefix first [] × (before ≡ Some (said ++ first)))
-nothing_first None = tt
-nothing_first (Some said) = ([], ([], refl), ap Some (sym (append-nil said)))
-
--- where nothing is sent, no line is said
-pub says_nothing : (before : Option (List ℕ)) (faults shortages : ℕ)
-    → Says before before faults faults shortages shortages []
-says_nothing before faults shortages = record { first = nothing_first before; whole = inr (nothing_more before) }
+-- what is said of a line is said of one that is the same
+pub says_same : {before after : Option (List ℕ)} {faults faults' shortages shortages' : ℕ} {line line' : List ℕ}
+    → line ≡ line' → Says before after faults faults' shortages shortages' line
+    → Says before after faults faults' shortages shortages' line'
+says_same {before} {after} {faults} {faults'} {shortages} {shortages'} same says =
+    subst (Says before after faults faults' shortages shortages') same says
 
 -- what rose in the second of two calls, and fell in none, rose in both
 pub Rose-later : (count count' count'' : ℕ) → count ≤ count' → Rose count' count'' → Rose count count''

@@ -107,7 +107,8 @@ pub serves_at : {E K W A : Type 0} (plain : List Entry → Ask → Outcome → T
     (users : UserTable) (limit : ℕ) (end end' : Served)
     (before after : Moment (Option Shown)) (entries : List Entry) (failed : ℕ) (kept : Option (List ℕ)) (by : Ended)
     → AreServed plain → IsOpened start desk pass → end ≡ end'
-    → AreServedAt plain (IsAnswer plain failures steady) desk users pass limit end before.state after.state entries failed
+    → AreServedAt plain (IsAnswer plain failures steady) desk users pass limit end before.state after.state
+    entries failed
     kept
     → TellsBehind cells end' entries before.written after.written before.shortages after.shortages by
     → ServesAll E K W A plain cells failures steady users limit start before after kept by

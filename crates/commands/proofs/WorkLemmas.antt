@@ -15,7 +15,8 @@ use Rattle.commands.specs.Serving.{ended_telling}
 use Rattle.commands.specs.Working.{Works, sends, work_text}
 
 -- what was sent of it, however that ended
-pub work_told : (plain : List Entry → Ask → Outcome → Type 0) (cells : List Entry → ℕ → Type 0) (calls : ℕ) (told : WorkSummary)
+pub work_told : (plain : List Entry → Ask → Outcome → Type 0) (cells : List Entry → ℕ → Type 0) (calls : ℕ)
+    (told : WorkSummary)
     (written written' : Option (List ℕ)) (shortages shortages' : ℕ) (sent other : Result (Unit {0}) SinkFault)
     → sent ≡ other → Tells plain LONGEST_JOURNAL cells calls told → Sends written written' (work_text told) sent
     → shortages ≤ shortages' → (sent ≡ Err fault.NoMemory → Rose shortages shortages')

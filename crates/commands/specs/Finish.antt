@@ -1,5 +1,5 @@
 -- How a command ends: its status, and its line on the faults.
-use Rattle.std.specs.Prelude.{◌≡◌, ℕ, List, [], ◌++◌, ◌⊎◌, codes, Option, Some, IfSome}
+use Rattle.std.specs.Prelude.{◌≡◌, ℕ, List, [], ◌++◌, codes, Option, Some, IfSome}
 use Rattle.std.specs.Option.{option_map}
 use Rattle.std.specs.Fmt.{decimal}
 use Rattle.conversation.specs.declared.ended.Ended.{Ended}
@@ -59,12 +59,19 @@ line_of Unavailable = codes "unavailable\n"
 abbrev pub IsPrefix : List ℕ → List ℕ → Type 0
 IsPrefix first whole = (rest : List ℕ) × (whole ≡ first ++ rest)
 
--- the line is written whole, where the device tells what is written to it, unless its count of faults
--- or of shortages rose: then its first bytes are, or none
+-- the line is written whole, or the count of faults or of shortages rose
+pub data WholeOrFails (before after : Option (List ℕ)) (faults faults' shortages shortages' : ℕ) (line : List ℕ) :
+    Type 0 where
+  written_whole : after ≡ option_map (λ said. said ++ line) before
+      → WholeOrFails before after faults faults' shortages shortages' line
+  sink_failed : Rose faults faults' → WholeOrFails before after faults faults' shortages shortages' line
+  no_memory : Rose shortages shortages' → WholeOrFails before after faults faults' shortages shortages' line
+
+-- the first bytes of the line are written, where the device tells what is: all of them, unless a count rose
 pub record Says (before after : Option (List ℕ)) (faults faults' shortages shortages' : ℕ) (line : List ℕ) : Type 0
   where
     pub first : IfSome before (λ said. (first : List ℕ) × IsPrefix first line × (after ≡ Some (said ++ first)))
-    pub whole : (Rose faults faults' ⊎ Rose shortages shortages') ⊎ (after ≡ option_map (λ said. said ++ line) before)
+    pub whole : WholeOrFails before after faults faults' shortages shortages' line
 
 -- the status of the talk's end
 abbrev pub status_at : TalkEnd → ℕ

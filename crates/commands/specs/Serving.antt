@@ -183,7 +183,8 @@ pub data ServesInMemory (E W A : Type 0) (plain : List Entry → Ask → Outcome
     (end : Ended) : Type 0 where
   no_desk : end ≡ NoMemory → IsIdle before after → ServesInMemory E W A plain cells users port limit before after end
   from_nothing : (kept' : List ℕ)
-      → ServesFrom E (List ℕ) W A plain cells (λ kept. 0) (λ kept. true) users port limit [] before after (Some kept') end
+      → ServesFrom E (List ℕ) W A plain cells (λ kept. 0) (λ kept. true) users port limit [] before after
+      (Some kept') end
       → ServesInMemory E W A plain cells users port limit before after end
 
 -- Connections at a desk whose journal is the file of that name: the folder didn't hand it out, since it failed or

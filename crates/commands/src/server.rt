@@ -56,8 +56,10 @@ where
     // The doors have accepted no connection yet.
     requires { IfSome (D.shown doors.old) (λ shown. shown.connections ≡ []) }
     ensures serve { (finish : Finish) × (result ≡ status_of finish)
-        × Serves E F.Kept E.World E.Asked E.plain E.cells F.Kept.failures F.Kept.steady wanted.entry.port wanted.entry.limit
-        (option_copied wanted.entry.users) (option_copied wanted.entry.journal) (F.shown folder.old) (F.shown folder.new)
+        × Serves E F.Kept E.World E.Asked E.plain E.cells F.Kept.failures F.Kept.steady wanted.entry.port
+        wanted.entry.limit
+        (option_copied wanted.entry.users) (option_copied wanted.entry.journal) (F.shown folder.old)
+        (F.shown folder.new)
         (at_moment (D.shown doors.old) (O.written output.old) (O.sink_shortages output.old))
         (at_moment (D.shown doors.new) (O.written output.new) (O.sink_shortages output.new)) finish
         × Says (O.written faults.old) (O.written faults.new) (O.sink_faults faults.old) (O.sink_faults faults.new)
@@ -104,7 +106,8 @@ where
     requires { IfSome (D.shown doors.old) (λ shown. shown.connections ≡ []) }
     ensures serves { Serves E F.Kept E.World E.Asked E.plain E.cells F.Kept.failures F.Kept.steady wanted.entry.port
         wanted.entry.limit
-        (option_copied wanted.entry.users) (option_copied wanted.entry.journal) (F.shown folder.old) (F.shown folder.new)
+        (option_copied wanted.entry.users) (option_copied wanted.entry.journal) (F.shown folder.old)
+        (F.shown folder.new)
         (at_moment (D.shown doors.old) (O.written output.old) (O.sink_shortages output.old))
         (at_moment (D.shown doors.new) (O.written output.new) (O.sink_shortages output.new)) result }
     ensures asked { Asks (option_copied wanted.entry.users) (option_copied wanted.entry.journal) (F.shown folder.old)

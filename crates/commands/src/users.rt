@@ -21,9 +21,11 @@ pub(crate) fn users_of<F: Folder>(
     ensures users { IfOk result (λ users. HasUsers (F.shown folder.old) (option_copied name.entry) users) }
     ensures fault { IfErr result (λ finish. IsUsersFault (F.shown folder.old) (option_copied name.entry) finish) }
     ensures shown { F.shown folder.new ≡ option_map (after_reading (option_copied name.entry)) (F.shown folder.old) }
-    ensures cause { result ≡ Err (Finish.Served Ended.ReadFault) → Rose (F.failures folder.old) (F.failures folder.new) }
+    ensures cause { result ≡ Err (Finish.Served Ended.ReadFault)
+        → Rose (F.failures folder.old) (F.failures folder.new) }
     ensures steady { IsTrue (F.steady folder.old) → result ≢ Err (Finish.Served Ended.ReadFault) }
-    ensures counts { Counts (F.failures folder.old) (F.failures folder.new) (F.steady folder.old) (F.steady folder.new) }
+    ensures counts { Counts (F.failures folder.old) (F.failures folder.new) (F.steady folder.old)
+        (F.steady folder.new) }
     ensures keepers { F.keeper_failures folder.new ≡ F.keeper_failures folder.old }
 {
     match name {
@@ -37,9 +39,11 @@ fn read_named<F: Folder>(alloc: Global, folder: &mut F, name: &str) -> Result<Us
     ensures users { IfOk result (λ users. HasUsers (F.shown folder.old) (Some name.now) users) }
     ensures fault { IfErr result (λ finish. IsUsersFault (F.shown folder.old) (Some name.now) finish) }
     ensures shown { F.shown folder.new ≡ option_map (after_reading (Some name.now)) (F.shown folder.old) }
-    ensures cause { result ≡ Err (Finish.Served Ended.ReadFault) → Rose (F.failures folder.old) (F.failures folder.new) }
+    ensures cause { result ≡ Err (Finish.Served Ended.ReadFault)
+        → Rose (F.failures folder.old) (F.failures folder.new) }
     ensures steady { IsTrue (F.steady folder.old) → result ≢ Err (Finish.Served Ended.ReadFault) }
-    ensures counts { Counts (F.failures folder.old) (F.failures folder.new) (F.steady folder.old) (F.steady folder.new) }
+    ensures counts { Counts (F.failures folder.old) (F.failures folder.new) (F.steady folder.old)
+        (F.steady folder.new) }
     ensures keepers { F.keeper_failures folder.new ≡ F.keeper_failures folder.old }
 {
     match folder.open(name) {

@@ -52,7 +52,8 @@ module _ (plain : List Entry → Ask → Outcome → Type 0)
         (subst IsServedStatus (sym is.status_is) (steps_served pair.0 (entries_of call.told) ask is.outcome is.steps))
     | as_unavailable is ↦ subst (λ (o : Option (List ℕ)). IfSome o (λ _. IsServedStatus reply.status)) (sym is.body_is)
         (subst IsServedStatus (sym is.status_is) (search rules))
-    | as_out_of_memory is ↦ subst (λ (o : Option (List ℕ)). IfSome o (λ _. IsServedStatus reply.status)) (sym is.body_is)
+    | as_out_of_memory is ↦
+        subst (λ (o : Option (List ℕ)). IfSome o (λ _. IsServedStatus reply.status)) (sym is.body_is)
         (search rules)
   ]
 
@@ -139,7 +140,8 @@ module _ {E K W A : Type 0} (plain : List Entry → Ask → Outcome → Type 0) 
             (added call.told is.outcome.accepts (noted.Entry (entry_of caller ask)))
         | as_unavailable is ↦ subst (λ (l : List Noted). StartsWith l call.told) (sym is.item)
             (noted.Mark (entry_of caller ask) reply.faults.0 reply.faults.1 ∷ [], refl)
-        | as_out_of_memory is ↦ subst (λ (l : List Noted). StartsWith l call.told) (sym is.item) (starts_whole call.told)
+        | as_out_of_memory is ↦
+            subst (λ (l : List Noted). StartsWith l call.told) (sym is.item) (starts_whole call.told)
       ]) call.begins
 
   pub served_goes : (room : ℕ) (stream : Option (List ℕ)) (before after : Moment (List Noted)) (end : Ended)

@@ -53,7 +53,8 @@ pub trait Doors {
     ///
     /// [`Failed`] only where the count of faults rose in this call; no connection was accepted then.
     fn accept(&mut self) -> Result<Self::Link, Failed>
-        ensures fresh { IfOk result (λ link. IsFresh (link_seen Self.Link.left Self.Link.written Self.Link.faults Self.Link.sink_faults
+        ensures fresh { IfOk result
+            (λ link. IsFresh (link_seen Self.Link.left Self.Link.written Self.Link.faults Self.Link.sink_faults
             Self.Link.sink_shortages Self.Link.steady Self.Link.sink_steady Self.Link.references link)) }
         ensures accepted { IfOk result (λ link. shown self.new ≡ option_map (after_accept (link_seen Self.Link.left
             Self.Link.written Self.Link.faults Self.Link.sink_faults Self.Link.sink_shortages Self.Link.steady

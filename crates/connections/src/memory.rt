@@ -53,7 +53,9 @@ impl<L: Duplex + Drop> Model for MemoryDoors<L> {
     } };
 
     ghost invariant = { λ d. (vec_len d.accepted + vec_len d.coming ≤ vec_capacity d.accepted)
-        × All (IsComing (link_seen L.left L.written L.faults L.sink_faults L.sink_shortages L.steady L.sink_steady L.references)) d.coming.items };
+        × All (IsComing
+        (link_seen L.left L.written L.faults L.sink_faults L.sink_shortages L.steady L.sink_steady L.references))
+        d.coming.items };
 }
 
 impl<L: Duplex + Drop> Drop for MemoryDoors<L> {
@@ -83,7 +85,10 @@ impl<L: Duplex + Drop> MemoryDoors<L> {
         links: Items<(L, Bytes)>,
         failing: Items<u64>,
     ) -> Result<MemoryDoors<L>, NoMemory>
-        requires { All (IsComing (link_seen L.left L.written L.faults L.sink_faults L.sink_shortages L.steady L.sink_steady L.references)) links }
+        requires { All
+            (IsComing
+            (link_seen L.left L.written L.faults L.sink_faults L.sink_shortages L.steady L.sink_steady
+            L.references)) links }
         ensures { IfOk result (λ doors. doors ≡ record {
           coming = lists.reverse links;
           accepted = [];
@@ -145,15 +150,23 @@ impl<L: Duplex + Send + Drop> Doors for MemoryDoors<L> {
 
     ghost steady_low = { Prim.search rules };
 
-    ghost shown = { λ doors. Some (shown_by (link_seen L.left L.written L.faults L.sink_faults L.sink_shortages L.steady L.sink_steady L.references)
+    ghost shown = { λ doors. Some
+        (shown_by
+        (link_seen L.left L.written L.faults L.sink_faults L.sink_shortages L.steady L.sink_steady L.references)
         doors) };
 
-    ghost rest_seen = { link_seen L.left L.written L.faults L.sink_faults L.sink_shortages L.steady L.sink_steady L.references };
+    ghost rest_seen = { link_seen L.left L.written L.faults L.sink_faults
+        L.sink_shortages L.steady L.sink_steady L.references };
 
     fn open(&mut self, port: u16) -> Result<(), Failed>
-        ensures opened { Some (shown_by (link_seen L.left L.written L.faults L.sink_faults L.sink_shortages L.steady L.sink_steady L.references) self.new)
+        ensures opened { Some
+            (shown_by
+            (link_seen L.left L.written L.faults L.sink_faults L.sink_shortages L.steady L.sink_steady
+            L.references) self.new)
             ≡ option_map (after_open port)
-            (Some (shown_by (link_seen L.left L.written L.faults L.sink_faults L.sink_shortages L.steady L.sink_steady L.references) self.old)) }
+            (Some (shown_by
+            (link_seen L.left L.written L.faults L.sink_faults L.sink_shortages L.steady L.sink_steady L.references)
+            self.old)) }
         ensures cause { OnErr result (Rose self.old.calls.faults self.new.calls.faults) }
         ensures later { self.old.calls.faults ≤ self.new.calls.faults }
         ensures steady { StaysSteady false false self.old.calls.faults self.new.calls.faults }
@@ -167,16 +180,29 @@ impl<L: Duplex + Send + Drop> Doors for MemoryDoors<L> {
     }
 
     fn accept(&mut self) -> Result<L, Failed>
-        ensures fresh { IfOk result (λ link. IsFresh (link_seen L.left L.written L.faults L.sink_faults L.sink_shortages L.steady L.sink_steady L.references
+        ensures fresh { IfOk result
+            (λ link. IsFresh
+            (link_seen L.left L.written L.faults L.sink_faults L.sink_shortages L.steady L.sink_steady L.references
             link)) }
         ensures accepted { IfOk result (λ link.
-            Some (shown_by (link_seen L.left L.written L.faults L.sink_faults L.sink_shortages L.steady L.sink_steady L.references) self.new)
-            ≡ option_map (after_accept (link_seen L.left L.written L.faults L.sink_faults L.sink_shortages L.steady L.sink_steady L.references link))
-            (Some (shown_by (link_seen L.left L.written L.faults L.sink_faults L.sink_shortages L.steady L.sink_steady L.references) self.old))) }
+            Some (shown_by
+            (link_seen L.left L.written L.faults L.sink_faults L.sink_shortages L.steady L.sink_steady
+            L.references) self.new)
+            ≡ option_map
+            (after_accept
+            (link_seen L.left L.written L.faults L.sink_faults L.sink_shortages L.steady L.sink_steady
+            L.references link))
+            (Some (shown_by
+            (link_seen L.left L.written L.faults L.sink_faults L.sink_shortages L.steady L.sink_steady L.references)
+            self.old))) }
         ensures refused { OnErr result
-            (Some (shown_by (link_seen L.left L.written L.faults L.sink_faults L.sink_shortages L.steady L.sink_steady L.references) self.new)
+            (Some (shown_by
+            (link_seen L.left L.written L.faults L.sink_faults L.sink_shortages L.steady L.sink_steady
+            L.references) self.new)
             ≡ option_map after_refusal
-            (Some (shown_by (link_seen L.left L.written L.faults L.sink_faults L.sink_shortages L.steady L.sink_steady L.references) self.old))) }
+            (Some (shown_by
+            (link_seen L.left L.written L.faults L.sink_faults L.sink_shortages L.steady L.sink_steady L.references)
+            self.old))) }
         ensures cause { OnErr result (Rose self.old.calls.faults self.new.calls.faults) }
         ensures later { self.old.calls.faults ≤ self.new.calls.faults }
         ensures steady { StaysSteady false false self.old.calls.faults self.new.calls.faults }
@@ -211,13 +237,23 @@ impl<L: Duplex + Send + Drop> Doors for MemoryDoors<L> {
     }
 
     fn back(&mut self, number: u32, ended: Ended, rest: L)
-        requires { IfSome (Some (shown_by (link_seen L.left L.written L.faults L.sink_faults L.sink_shortages L.steady L.sink_steady L.references) self.old))
+        requires { IfSome
+            (Some (shown_by
+            (link_seen L.left L.written L.faults L.sink_faults L.sink_shortages L.steady L.sink_steady
+            L.references) self.old))
             (λ shown. IsAway number shown.connections) }
-        ensures shown { Some (shown_by (link_seen L.left L.written L.faults L.sink_faults L.sink_shortages L.steady L.sink_steady L.references) self.new)
+        ensures shown { Some
+            (shown_by
+            (link_seen L.left L.written L.faults L.sink_faults L.sink_shortages L.steady L.sink_steady
+            L.references) self.new)
             ≡ option_map (after_back number (record {
               ended = ended;
-              link = link_seen L.left L.written L.faults L.sink_faults L.sink_shortages L.steady L.sink_steady L.references rest;
-            })) (Some (shown_by (link_seen L.left L.written L.faults L.sink_faults L.sink_shortages L.steady L.sink_steady L.references) self.old)) }
+              link = link_seen L.left L.written L.faults L.sink_faults L.sink_shortages L.steady L.sink_steady
+                  L.references rest;
+            })) (Some
+            (shown_by
+            (link_seen L.left L.written L.faults L.sink_faults L.sink_shortages L.steady L.sink_steady L.references)
+            self.old)) }
         ensures failures { self.new.calls.faults ≡ self.old.calls.faults }
         ensures steady { false ≡ false }
         ensures calls { self.new.calls ≡ self.old.calls }

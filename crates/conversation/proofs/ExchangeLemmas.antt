@@ -182,7 +182,8 @@ module _ {State : Type 0} (IsReply : State → Wire → State → List ℕ → T
   exchanged room room' stream stream' stream'' before after (next.Request request) result answer left
       (responds response is sends) =
       subst (λ (r : Option Ended). IsExchange IsReply room stream before room' stream'' after r) (sym sends.result_is)
-      (answered_here room room' stream stream' stream'' before after request response request.close sends.sent answer left
+      (answered_here room room' stream stream' stream'' before after request response request.close
+      sends.sent answer left
       refl is sends.sends sends.counts)
   exchanged room room' stream stream' stream'' before after (next.Request request) result answer left
       (loses response is written result_is) =
@@ -211,12 +212,14 @@ module _ {State : Type 0} (IsReply : State → Wire → State → List ℕ → T
   -- the same, where the read kept what was written, and its count
   pub exchanged_beside : (room room' : ℕ) (stream stream' stream'' : Option (List ℕ))
       (cells cells' : State)
-      (written middle written' : Option (List ℕ)) (shortages between shortages' : ℕ) (next : Next) (result : Option Ended)
+      (written middle written' : Option (List ℕ)) (shortages between shortages' : ℕ) (next : Next)
+      (result : Option Ended)
       → IfSome stream (λ bytes. IsAnswer room bytes room' stream' next) → stream'' ≡ stream' → middle ≡ written
       → between ≡ shortages
       → Acts IsReply next (record { state = cells; written = middle; shortages = between })
       (record { state = cells'; written = written'; shortages = shortages' }) result
-      → IsExchange IsReply room stream (record { state = cells; written = written; shortages = shortages }) room' stream''
+      → IsExchange IsReply room stream (record { state = cells; written = written; shortages = shortages })
+      room' stream''
       (record { state = cells'; written = written'; shortages = shortages' }) result
   exchanged_beside room room' stream stream' stream'' cells cells' written middle written' shortages between
       shortages'

@@ -31,7 +31,8 @@ next_left parts room room' None stream' next answer same = tt
 next_left parts room room' (Some bytes) stream' (next.Request wire) answer same =
     let cut = parts room bytes answer.0 wire answer.1 in (cut.0, answer.0, answer.2, cut.3)
 next_left parts room room' (Some bytes) stream' next.End answer same = unmoved bytes stream' (same (λ no. no))
-next_left parts room room' (Some bytes) stream' (next.Closed fault) answer same = unmoved bytes stream' (same (λ no. no))
+next_left parts room room' (Some bytes) stream' (next.Closed fault) answer same =
+    unmoved bytes stream' (same (λ no. no))
 next_left parts room room' (Some bytes) stream' (next.Truncated count) answer same =
     unmoved bytes stream' (same (λ no. no))
 next_left parts room room' (Some bytes) stream' next.LongTalk answer same = unmoved bytes stream' (same (λ no. no))
@@ -39,7 +40,8 @@ next_left parts room room' (Some bytes) stream' next.ReadFault answer same = unm
 next_left parts room room' (Some bytes) stream' next.NoMemory answer same = unmoved bytes stream' (same (λ no. no))
 
 -- what is held at the end was taken, too
-taken_too : (held' : Buffered) (bytes : List ℕ) (left' : Option (List ℕ)) → LosesFirst (Some bytes) (stream_of held' left')
+taken_too : (held' : Buffered) (bytes : List ℕ) (left' : Option (List ℕ))
+    → LosesFirst (Some bytes) (stream_of held' left')
     → LosesFirst (Some bytes) left'
 taken_too held' bytes None loses = let wrong : None ≡ Some loses.1 = loses.2 in cc
 taken_too held' bytes (Some rest) loses =

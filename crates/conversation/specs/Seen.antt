@@ -43,7 +43,8 @@ module _ {State Other : Type 0} (Sees : State → Other → Type 0) (IsReply : S
   module _ (room : ℕ) (stream : Option (List ℕ)) (before after : Moment State) (other : Other)
       (sees : Sees before.state other) where
     has_answered : (room' : ℕ) (stream' : Option (List ℕ)) → HasAnswered IsReply room stream before room' stream' after
-        → HasSeen Sees after.state (λ other'. HasAnswered IsReplySeen room stream (moment_with other before) room' stream'
+        → HasSeen Sees after.state
+        (λ other'. HasAnswered IsReplySeen room stream (moment_with other before) room' stream'
         (moment_with other' after))
     has_answered room' stream' has =
         let (other', sees', are) = answered before.state after.state other has.requests has.responses sees

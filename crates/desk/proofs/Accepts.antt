@@ -166,7 +166,8 @@ module _ (plain : List Entry → Ask → Outcome → Type 0) where
       accepted.plainly) ∙ accepted.accepts)
 
   -- an entry whose call is accepted, and what it leaves
-  pub made_again : {W : Type 0} (stands : W → List Entry → Type 0) (before : List Entry) (read entry : Entry) (ask : Ask)
+  pub made_again : {W : Type 0} (stands : W → List Entry → Type 0) (before : List Entry)
+      (read entry : Entry) (ask : Ask)
       (world : W) (outcome : Outcome) → AreTexts read → ask ≡ asked_again read → entry ≡ entry_of read.caller ask
       → plain before ask outcome
       → (outcome.accepts ≡ true) × ((caller : ℕ) → stands world (before ++ entry_of caller ask ∷ []))

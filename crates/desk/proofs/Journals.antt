@@ -143,7 +143,8 @@ module _ (plain : List Entry → Ask → Outcome → Type 0) where
   pub place_within : (limit : ℕ) (kept : Option (List ℕ)) (list : List Noted) → Keeps plain limit kept list
       → IfSome kept (λ bytes. journal_end (entries_of list) ≤ length bytes)
   place_within limit None list keeps = tt
-  place_within limit (Some bytes) list keeps = by_entries (entries_of list) (kept_fits plain limit list (Some bytes) keeps)
+  place_within limit (Some bytes) list keeps =
+      by_entries (entries_of list) (kept_fits plain limit list (Some bytes) keeps)
     where
       by_entries : (es : List Entry) → Fits plain es (marked_last [] list) bytes → journal_end es ≤ length bytes
       by_entries [] fits = omega arith
@@ -196,11 +197,13 @@ module _ (plain : List Entry → Ask → Outcome → Type 0) where
   -- the piece of one entry more was torn
   pub torn_keeps : (kept kept' : Option (List ℕ)) (es marks : List Entry) (e : Entry) → AreAccepted plain es
       → IsAcceptedBehind plain es e → IfSome kept (Fits plain es marks)
-      → IsTornPut kept kept' (journal_end es) (piece_of (is_first es) e) → IfSome kept' (Fits plain es (marks ++ e ∷ []))
+      → IsTornPut kept kept' (journal_end es) (piece_of (is_first es) e)
+      → IfSome kept' (Fits plain es (marks ++ e ∷ []))
   torn_keeps None kept' es marks e accepted also keeps (inl same) =
       subst (λ (k : Option (List ℕ)). IfSome k (Fits plain es (marks ++ e ∷ []))) (sym same) tt
   torn_keeps (Some bytes) kept' es marks e accepted also keeps (inl same) =
-      subst (λ (k : Option (List ℕ)). IfSome k (Fits plain es (marks ++ e ∷ []))) (sym same) (fits_more es marks e bytes keeps)
+      subst (λ (k : Option (List ℕ)). IfSome k (Fits plain es (marks ++ e ∷ []))) (sym same)
+      (fits_more es marks e bytes keeps)
   torn_keeps None kept' es marks e accepted also keeps (inr (count, torn)) =
       subst (λ (k : Option (List ℕ)). IfSome k (Fits plain es (marks ++ e ∷ []))) (sym torn) tt
   torn_keeps (Some bytes) kept' [] marks e accepted also keeps (inr (count, torn)) =

@@ -195,7 +195,8 @@ pub torn_behind : {e : Entry} {before after : ℕ} {at : ℕ} {piece : List ℕ}
     {kept kept' : Option (List ℕ)} {failures failures' : ℕ} (es : List Entry) (entry : Entry)
     → at ≡ journal_end es → piece ≡ piece_of (is_first es) entry
     → IsMarked e before after at piece list list' kept kept' failures failures' → IsTornBehind es entry kept kept'
-torn_behind {e} {before} {after} {at} {piece} {list} {list'} {kept} {kept'} {failures} {failures'} es entry at_is piece_is
+torn_behind {e} {before} {after} {at} {piece} {list} {list'} {kept} {kept'} {failures} {failures'} es entry
+    at_is piece_is
     put =
     subst (λ (n : ℕ). IsTornPut kept kept' n (piece_of (is_first es) entry)) at_is
     (subst (λ (p : List ℕ). IsTornPut kept kept' at p) piece_is put.kept_is)

@@ -26,7 +26,8 @@ entries_mark (noted.Entry first ∷ list) e b a = ap (λ (l : List Entry). first
 entries_mark (noted.Mark first before after ∷ list) e b a = entries_mark list e b a
 
 -- an ask with a user and no content coding is the one that its entry asked
-pub asks_again : (caller : ℕ) (ask : Ask) → IsSome ask.user → ask.coded ≡ false → ask ≡ asked_again (entry_of caller ask)
+pub asks_again : (caller : ℕ) (ask : Ask) → IsSome ask.user → ask.coded ≡ false → ask
+    ≡ asked_again (entry_of caller ask)
 asks_again caller ask known uncoded =
     ap (λ (u : Option (List ℕ)). as_asked u ask.coded) (same ask.user known)
     ∙ ap (λ (c : Bool). as_asked (Some (user_of ask.user)) c) uncoded

@@ -44,8 +44,8 @@ outage failing number =
 abbrev pub next_outage : KeptBytes → Option (Option ℕ)
 next_outage keeper = outage keeper.failing (one_more keeper.puts)
 
--- the bytes that a put leaves which fails as a pair says: the same where the pair has no number, else the first ones and
--- so many of the piece
+-- the bytes that a put leaves which fails as a pair says: the same where the pair has no number, else the first ones
+-- and so many of the piece
 abbrev pub torn_as : Option ℕ → ℕ → List ℕ → List ℕ → List ℕ
 torn_as None at piece bytes = bytes
 torn_as (Some count) at piece bytes = with_piece at (take count piece) bytes

@@ -9,13 +9,14 @@ use Rattle.std.proofs.lemmas.List.Kept.{IsStrictlySortedBy-filter}
 use Rattle.std.proofs.lemmas.Map.Views.{list_any-from_Contains}
 use Rattle.cell_value.specs.Elements.{Contains-filter, Contains-filter_from}
 use Rattle.grid_range.specs.Area.{by_rows}
+use Rattle.grid_range.specs.ByRows.{by_rows_total}
 use Rattle.grid_range.specs.declared.band.Band.TheVariants.{Whole}
 use Rattle.cell_store.specs.Places.{AreFilledPlaces}
 use Rattle.cell_store.specs.Table.{Table, item_at}
 use Rattle.ref_rewrite.specs.declared.cell_content.Content.{Content}
 use Rattle.world_model.specs.Counts.{is_formula}
 use Rattle.dimension_ops.specs.References.{AreMarked, ArePlacesOfSuch, passes_at}
-use Rattle.dimension_ops.proofs.Places.{all_followed, among, at_place, by_rows_total, size_stays}
+use Rattle.dimension_ops.proofs.Places.{all_followed, among, at_place, size_stays}
 
 module _ (becomes : Content → Content) (test : Content → Bool)
     (stays : (item : Content) → test item ≡ false → becomes item ≡ item) where

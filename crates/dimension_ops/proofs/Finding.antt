@@ -14,7 +14,8 @@ pub record IsFoundAt {X : Type 0} (test : X → Bool) (xs : List X) (place : ℕ
   pub found : (d : X) → find test xs ≡ Some (get_or xs place d)
 
 module _ {X : Type 0} (test : X → Bool) where
-  later : (x : X) (xs : List X) (place : ℕ) → test x ≡ false → IsFoundAt test xs place → IsFoundAt test (x ∷ xs) (suc place)
+  later : (x : X) (xs : List X) (place : ℕ) → test x ≡ false → IsFoundAt test xs place
+      → IsFoundAt test (x ∷ xs) (suc place)
   later x xs place fails at = record {
     there = let lt = at.there in omega arith;
     passes = at.passes;
@@ -42,7 +43,8 @@ module _ {X : Type 0} (test : X → Bool) where
         let one : i ≡ k = some_one i k (sym (cond-true (test x) (Some i) (position_from test (i + 1) xs) passes) ∙ h) in
         (zero, omega arith, first x xs passes)
     | inr fails ↦
-        let (place, is, at) = found_from xs (i + 1) k (sym (cond-false (test x) (Some i) (position_from test (i + 1) xs) fails) ∙ h) in
+        let (place, is, at) =
+        found_from xs (i + 1) k (sym (cond-false (test x) (Some i) (position_from test (i + 1) xs) fails) ∙ h) in
         (suc place, omega arith, later x xs place fails at)
   ]
 
@@ -63,7 +65,8 @@ pub position_from-map : {X Y : Type 0} (test : Y → Bool) (f : X → Y) (xs : L
 position_from-map test f [] i = refl
 position_from-map test f (x ∷ xs) i = ap (cond (test (f x)) (Some i)) (position_from-map test f xs (i + 1))
 
-pub found_at : {X : Type 0} (test : X → Bool) (xs : List X) (k : ℕ) → position_from test 0 xs ≡ Some k → IsFoundAt test xs k
+pub found_at : {X : Type 0} (test : X → Bool) (xs : List X) (k : ℕ) → position_from test 0 xs ≡ Some k
+    → IsFoundAt test xs k
 found_at test xs k h =
     let (place, is, at) = found_from test xs 0 k h in
     let same : place ≡ k = omega (arith, is) in

@@ -13,6 +13,7 @@ use Rattle.std.proofs.lemmas.List.Sums.{sum_by-cons}
 use Rattle.std.proofs.lemmas.Map.Keys.{sorted_head, sorted_tail}
 use Rattle.std.proofs.lemmas.Map.Views.{list_any-from_Contains}
 use Rattle.grid_range.specs.Area.{by_rows}
+use Rattle.grid_range.specs.ByRows.{by_rows_total}
 use Rattle.grid_range.specs.declared.axis.Axis.{Axis}
 use Rattle.grid_range.specs.declared.band.Band.TheVariants.{Whole}
 use Rattle.grid_range.specs.declared.change.Change.{Change}
@@ -30,7 +31,7 @@ use Rattle.world_model.specs.Laws.{FormulasCounted}
 use Rattle.world_model.specs.PlaceChange.{FollowsInPlace, content_followed}
 use Rattle.dimension_ops.specs.References.{AreMarked, AreReferring, AreWithinOn, IsContentWithinOn, followed_at, is_formula_at, is_reference_to, refers_to}
 use Rattle.dimension_ops.proofs.Becoming.{cols_stay, items_become, rows_stay}
-use Rattle.dimension_ops.proofs.Places.{among, by_rows_total, same}
+use Rattle.dimension_ops.proofs.Places.{among, same}
 
 -- ---- what has no reference to the sheet stays
 
@@ -130,7 +131,8 @@ module _ (counted : FormulasCounted) (tables : TablesByItems Content) where
       behind false held rest some listed = listed some
 
   taken : (place : ℕ × ℕ) (table : Table Content)
-      → formulas_in (without_item table place.0 place.1) + formulas_at (item_at table place.0 place.1) ≡ formulas_in table
+      → formulas_in (without_item table place.0 place.1) + formulas_at (item_at table place.0 place.1)
+      ≡ formulas_in table
   taken place table = omega (arith, counted.written table place.0 place.1 None)
 
   -- without a formula at any place there is none
@@ -166,7 +168,8 @@ module _ (counted : FormulasCounted) (tables : TablesByItems Content) where
       let apart : same other place ≡ false =
       (eq_by_cmp_equiv by_rows_total).symm other place ∙ ap is_eq less.0 in
       let stays : item_at without other.0 other.1 ≡ item_at table other.0 other.1 =
-      finite.get-remove by_rows_total table.cells place other ∙ ap (λ b. cond b None (item_at table other.0 other.1)) apart in
+      finite.get-remove by_rows_total table.cells place other
+      ∙ ap (λ b. cond b None (item_at table other.0 other.1)) apart in
       sum_by-cons (λ p. cond (is_formula_at table p) 1 0) other others
       ∙ ap (λ held. cond (option_map_or is_formula held false) 1 0 + count_by (is_formula_at table) others) (sym stays)
       ∙ ap (λ n. cond (is_formula_at without other) 1 0 + n) (elsewhere place table others less.1)
@@ -190,7 +193,8 @@ module _ (counted : FormulasCounted) (tables : TablesByItems Content) where
       (ap (λ held. option_map_or is_formula held false)
       (sym (finite.get-remove by_rows_total table.cells place (row, col))) ∙ is) (all row col)
     where
-      behind : (b : Bool) (held : Option Content) (rest : Bool) → option_map_or is_formula (cond b None held) false ≡ true
+      behind : (b : Bool) (held : Option Content) (rest : Bool)
+          → option_map_or is_formula (cond b None held) false ≡ true
           → (option_map_or is_formula held false ≡ true → (b || rest) ≡ true) → rest ≡ true
       behind true held rest is listed = absurd (false≢true is)
       behind false held rest is listed = listed is

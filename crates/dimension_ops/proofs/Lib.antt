@@ -6,9 +6,7 @@ pub mod Replacing
 pub mod OpeningNames
 pub mod Totals
 pub mod Inserting
-pub mod Judging
 pub mod NewSheets
-pub mod SheetRoom
 pub mod Making
 pub mod Marking
 pub mod Places
@@ -21,8 +19,6 @@ pub mod PastLines
 pub mod LostReferences
 pub mod RenamedWords
 pub mod KeptRanges
-pub mod KeptProtections
-pub mod KeptMetadata
 pub mod RangeAnswers
 pub mod Setting
 pub mod MergesGiven

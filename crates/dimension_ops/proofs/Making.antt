@@ -27,6 +27,8 @@ use Rattle.world_model.specs.Sound.{most_places, most_sheets}
 use Rattle.dimension_ops.specs.declared.creating.TheConstants.{MOST_BOOKS}
 use Rattle.dimension_ops.specs.Broken.{Broken, first_broken, judged_by}
 use Rattle.dimension_ops.specs.Creating.{AreFaults, AreIdsBelow, ArePlaced, AreTitlesBelow, HasIdsOf, HasTitlesOf, HavePlaces, IsBookAdded, book_id, IsPlaced, broken_each, created_broken, passes_created, placed_places, sheets_made, sheets_with}
+use Rattle.dimension_ops.specs.JudgingLaws.{breaks_none, judged_wrong, not_first, passes_none}
+use Rattle.dimension_ops.specs.NewSheetLaws.{above_zero, new_id, new_title}
 use Rattle.dimension_ops.specs.SheetRequests.{has_id, has_title, new_cols, new_place, new_rows, numbered_title, sheet_added_broken}
 use Rattle.dimension_ops.specs.World.{AreNumbered}
 use Rattle.dimension_ops.specs.declared.creating.Faults.{Faults}
@@ -35,8 +37,6 @@ use Rattle.dimension_ops.specs.declared.rule.Rule.{Rule}
 use Rattle.dimension_ops.specs.declared.rule.RuleOr.{RuleOr}
 use Rattle.dimension_ops.specs.declared.rule.RuleOr.TheVariants as refusal
 use Rattle.dimension_ops.specs.Rules.{IsUnlessNoMemory}
-use Rattle.dimension_ops.proofs.Judging.{breaks_none, judged_wrong, not_first, passes_none}
-use Rattle.dimension_ops.proofs.SheetRoom.{above_zero, new_id, new_title}
 
 -- ---- one item more in a list
 
@@ -51,7 +51,8 @@ module _ {X : Type 0} (test : X → Bool) where
   first_or true x rest = refl
   first_or false x rest = refl
 
-  pub found_with : (at : ℕ) (x : X) (xs : List X) → is_some (find test (insert xs at x)) ≡ (test x || is_some (find test xs))
+  pub found_with : (at : ℕ) (x : X) (xs : List X) → is_some (find test (insert xs at x))
+      ≡ (test x || is_some (find test xs))
   found_with zero x xs = first_or (test x) x (find test xs)
   found_with (suc at) x [] = first_or (test x) x None
   found_with (suc at) x (y ∷ ys) =
@@ -65,7 +66,8 @@ module _ {X : Type 0} (test : X → Bool) where
   pub all_with : (at : ℕ) (x : X) (xs : List X) → list_all test (insert xs at x) ≡ (test x && list_all test xs)
   all_with zero x xs = refl
   all_with (suc at) x [] = refl
-  all_with (suc at) x (y ∷ ys) = ap (λ rest. test y && rest) (all_with at x ys) ∙ swap (test y) (test x) (list_all test ys)
+  all_with (suc at) x (y ∷ ys) = ap (λ rest. test y && rest) (all_with at x ys)
+      ∙ swap (test y) (test x) (list_all test ys)
 
 pub length_with : {X : Type 0} (at : ℕ) (x : X) (xs : List X) → length (insert xs at x) ≡ suc (length xs)
 length_with zero x xs = refl
@@ -110,7 +112,8 @@ pub are_more : (asked : List SheetProperties) (sheets : List PlaceSheet) (placed
 are_more [] sheets [] one last are is = (is, tt)
 are_more [] sheets (p ∷ ps) one last are is = absurd are
 are_more (a ∷ later) sheets [] one last are is = absurd are
-are_more (a ∷ later) sheets (p ∷ ps) one last are is = (are.0, are_more later (sheets_with sheets p) ps one last are.1 is)
+are_more (a ∷ later) sheets (p ∷ ps) one last are is =
+    (are.0, are_more later (sheets_with sheets p) ps one last are.1 is)
 
 pub each_more : (asked : List SheetProperties) (sheets : List PlaceSheet) (placed : List Placed) (one : SheetProperties)
     (last : Placed) → ArePlaced asked sheets placed → broken_each (asked ++ one ∷ []) sheets (placed ++ last ∷ [])
@@ -133,11 +136,16 @@ pub faults_more : (each : List Broken) (one : Broken) (marked more both : Faults
     → both.name_taken ≡ (marked.name_taken || more.name_taken) → both.last_line ≡ (marked.last_line || more.last_line)
     → AreFaults both (each ++ one ∷ [])
 faults_more each one marked more both is of range id name taken line = record {
-  bad_range = marked_more (λ broken. broken.bad_range) each one marked.bad_range more.bad_range both.bad_range is.bad_range of.bad_range range;
-  id_taken = marked_more (λ broken. broken.id_taken) each one marked.id_taken more.id_taken both.id_taken is.id_taken of.id_taken id;
-  bad_name = marked_more (λ broken. broken.bad_name) each one marked.bad_name more.bad_name both.bad_name is.bad_name of.bad_name name;
-  name_taken = marked_more (λ broken. broken.name_taken) each one marked.name_taken more.name_taken both.name_taken is.name_taken of.name_taken taken;
-  last_line = marked_more (λ broken. broken.last_line) each one marked.last_line more.last_line both.last_line is.last_line of.last_line line;
+  bad_range = marked_more (λ broken. broken.bad_range) each one marked.bad_range more.bad_range both.bad_range
+      is.bad_range of.bad_range range;
+  id_taken = marked_more (λ broken. broken.id_taken) each one marked.id_taken more.id_taken both.id_taken is.id_taken
+      of.id_taken id;
+  bad_name = marked_more (λ broken. broken.bad_name) each one marked.bad_name more.bad_name both.bad_name is.bad_name
+      of.bad_name name;
+  name_taken = marked_more (λ broken. broken.name_taken) each one marked.name_taken more.name_taken both.name_taken
+      is.name_taken of.name_taken taken;
+  last_line = marked_more (λ broken. broken.last_line) each one marked.last_line more.last_line both.last_line
+      is.last_line of.last_line line;
 }
 
 -- ---- where no rule is broken
@@ -181,8 +189,10 @@ within_tail sheets one placed within =
     let places = within.places in
     record {
       sheets_few = omega (arith, long, few);
-      rows = (or_parts (nat_lt MOST_ROWS one.1.rows) (list_any (λ (p : Placed). nat_lt MOST_ROWS p.1.rows) placed) within.rows).1;
-      cols = (or_parts (nat_lt MOST_COLUMNS one.1.cols) (list_any (λ (p : Placed). nat_lt MOST_COLUMNS p.1.cols) placed) within.cols).1;
+      rows = (or_parts (nat_lt MOST_ROWS one.1.rows) (list_any (λ (p : Placed). nat_lt MOST_ROWS p.1.rows) placed)
+          within.rows).1;
+      cols = (or_parts (nat_lt MOST_COLUMNS one.1.cols) (list_any (λ (p : Placed). nat_lt MOST_COLUMNS p.1.cols) placed)
+          within.cols).1;
       places = omega (arith, more, split, places);
     }
 
@@ -219,12 +229,14 @@ module _ (id title owner : List ℕ) where
         rows = (
           subst (λ n. 0 < n) (sym is.1.rows) (above_zero (new_rows asked) lines.0),
           ltb-false MOST_ROWS one.1.rows
-              (or_parts (nat_lt MOST_ROWS one.1.rows) (list_any (λ (p : Placed). nat_lt MOST_ROWS p.1.rows) placed) within.rows).0,
+              (or_parts (nat_lt MOST_ROWS one.1.rows) (list_any (λ (p : Placed). nat_lt MOST_ROWS p.1.rows) placed)
+              within.rows).0,
         );
         cols = (
           subst (λ n. 0 < n) (sym is.1.cols) (above_zero (new_cols asked) lines.1),
           ltb-false MOST_COLUMNS one.1.cols
-              (or_parts (nat_lt MOST_COLUMNS one.1.cols) (list_any (λ (p : Placed). nat_lt MOST_COLUMNS p.1.cols) placed) within.cols).0,
+              (or_parts (nat_lt MOST_COLUMNS one.1.cols)
+              (list_any (λ (p : Placed). nat_lt MOST_COLUMNS p.1.cols) placed) within.cols).0,
         );
         few_sheets = omega (arith, few);
         few_places = omega (arith, places, split);
@@ -249,7 +261,8 @@ module _ (id title owner : List ℕ) where
   made_from sheets [] = refl
   made_from sheets (p ∷ ps) = made_from (sheets_with sheets p) ps
 
-  pub book_made : (placed : List Placed) → with_all_placed (bare_book id title owner) placed ≡ book_of (sheets_made placed)
+  pub book_made : (placed : List Placed) → with_all_placed (bare_book id title owner) placed
+      ≡ book_of (sheets_made placed)
   book_made placed = made_from [] placed
 
   few_lines_all : (sheets : List PlaceSheet) (placed : List Placed) → IsRoomForAll (book_of sheets) placed
@@ -344,7 +357,8 @@ places_from (a ∷ later) sheets (p ∷ ps) are good zero d there =
     omega (arith, below, at)
 places_from (a ∷ later) sheets (p ∷ ps) are good (suc place) d there =
     let rest = places_from later (sheets_with sheets p) ps are.1
-    (each_tail (sheet_added_broken a sheets) (broken_each later (sheets_with sheets p) ps) good) place d (omega (arith, there)) in
+    (each_tail (sheet_added_broken a sheets) (broken_each later (sheets_with sheets p) ps) good) place d
+    (omega (arith, there)) in
     let long = length_with p.0 (new_place_sheet p.1) sheets in
     omega (arith, rest, long)
 
@@ -387,7 +401,8 @@ told_err broken rule one other is =
     ap (λ first. option_map_or Err first (Ok other))
     (sym (judged_wrong (judged_by broken one) rule one (first_broken broken) (sym is) refl))
 
-pub told_none : {A : Type 0} (broken : Broken) (other : A) → first_broken broken ≡ None → Ok other ≡ judged_by broken other
+pub told_none : {A : Type 0} (broken : Broken) (other : A) → first_broken broken ≡ None → Ok other
+    ≡ judged_by broken other
 told_none broken other none = ap (λ first. option_map_or Err first (Ok other)) (sym none)
 
 -- ---- what is kept of the sheets beside them
@@ -405,7 +420,8 @@ ids_more sheets one ids more has is id =
 pub ids_below_more : (sheets : List PlaceSheet) (one : Placed) (least : ℕ) → AreIdsBelow sheets least
     → AreIdsBelow (sheets_with sheets one) least
 ids_below_more sheets one least below lesser less =
-    has_id_with sheets one lesser ∙ ap (λ b. (one.1.id == lesser) || b) (below lesser less) ∙ or_true (one.1.id == lesser)
+    has_id_with sheets one lesser ∙ ap (λ b. (one.1.id == lesser) || b) (below lesser less)
+    ∙ or_true (one.1.id == lesser)
 
 pub titles_more : {Y : Type 0} (sheets : List PlaceSheet) (one : Placed) (titles more : BTreeSet (String Y))
     (lowered : List ℕ) → HasTitlesOf sheets titles → lowered ≡ str_to_ascii_lowercase one.1.title
@@ -413,7 +429,8 @@ pub titles_more : {Y : Type 0} (sheets : List PlaceSheet) (one : Placed) (titles
     → HasTitlesOf (sheets_with sheets one) more
 titles_more sheets one titles more lowered has low is title =
     is (str_to_ascii_lowercase title)
-    ∙ ap (λ text. bytes_eq text (str_to_ascii_lowercase title) || contains_text titles (str_to_ascii_lowercase title)) low
+    ∙ ap (λ text. bytes_eq text (str_to_ascii_lowercase title)
+    || contains_text titles (str_to_ascii_lowercase title)) low
     ∙ ap (λ b. str_eq_ignore_ascii_case one.1.title title || b) (has title)
     ∙ sym (has_title_with sheets one title)
 
@@ -481,7 +498,8 @@ pub or_cond : (b c : Bool) → cond b true c ≡ (b || c)
 or_cond true c = refl
 or_cond false c = refl
 
-pub same_book : (id title owner : List ℕ) (placed : List Placed) (named called owned : List ℕ) (sheets : List PlaceSheet)
+pub same_book : (id title owner : List ℕ) (placed : List Placed) (named called owned : List ℕ)
+    (sheets : List PlaceSheet)
     → named ≡ id → called ≡ title → owned ≡ owner → sheets ≡ sheets_made placed
     → book_of named called owned sheets ≡ with_all_placed (bare_book id title owner) placed
 same_book id title owner placed named called owned sheets id_is title_is owner_is are =
@@ -525,7 +543,8 @@ made_so law owner title asked before after placed none are after_is id is =
       added = is_added;
       names = λ world stands.
           subst (λ (books : List PlaceBook). WorldStandsFor books
-          (with_named_book (made_by_name (bare_names id title owner) (additions placed) world.next) world)) (sym is_added)
+          (with_named_book (made_by_name (bare_names id title owner) (additions placed) world.next) world))
+          (sym is_added)
           (law.added before world id title owner placed stands
           (can_be_made number asked placed id title owner none are));
     }

@@ -6,6 +6,7 @@ use Rattle.std.specs.Cmp.{eq_by_cmp_equiv}
 use Rattle.std.specs.FinMap as finite
 use Rattle.std.proofs.lemmas.Bool.{false≢true}
 use Rattle.grid_range.specs.Area.{by_rows}
+use Rattle.grid_range.specs.ByRows.{by_rows_total, same_cell}
 use Rattle.grid_range.specs.declared.axis.Axis.{Axis}
 use Rattle.grid_range.specs.declared.change.Change.{Change}
 use Rattle.cell_store.specs.Moved.{GoesWithLines, size_after}
@@ -14,7 +15,7 @@ use Rattle.ref_rewrite.specs.declared.cell_content.Content.{Content}
 use Rattle.world_model.specs.Counts.{is_formula, formulas_at, formulas_in}
 use Rattle.world_model.specs.Writing.{table_written}
 use Rattle.dimension_ops.specs.References.{AreMarked, KeepsFormulas, is_formula_at}
-use Rattle.dimension_ops.proofs.Places.{by_rows_total, same, same_is}
+use Rattle.dimension_ops.proofs.Places.{same}
 
 -- a formula is held
 abbrev holds_formula : Option Content → Bool
@@ -25,7 +26,8 @@ holds_formula held = option_map_or is_formula held false
 pub keeps_itself : (table : Table Content) → KeepsFormulas table table
 keeps_itself table = record { rows = refl; cols = refl; each = λ row col. refl; count = refl }
 
-pub keeps_on : (one two three : Table Content) → KeepsFormulas one two → KeepsFormulas two three → KeepsFormulas one three
+pub keeps_on : (one two three : Table Content) → KeepsFormulas one two → KeepsFormulas two three
+    → KeepsFormulas one three
 keeps_on one two three first then = record {
   rows = then.rows ∙ first.rows;
   cols = then.cols ∙ first.cols;
@@ -43,7 +45,7 @@ keeps_at table after row col old new is held alike counted = record {
       ap (λ t. is_formula_at t (r, c)) is
       ∙ ap holds_formula (finite.get-insert by_rows_total table.cells (row, col) new (r, c))
       ∙ chosen (same (r, c) (row, col)) (item_at table r c)
-      (λ there. ap (λ (p : ℕ × ℕ). item_at table p.0 p.1) (same_is (r, c) (row, col) there) ∙ held);
+      (λ there. ap (λ (p : ℕ × ℕ). item_at table p.0 p.1) (same_cell (r, c) (row, col) there) ∙ held);
   count = counted;
 }
   where
@@ -81,7 +83,8 @@ module _ {M : Type 0} where
         ∙ ap holds_formula (finite.get-empty by_rows (row, col))) ∙ held));
   }
 
-  pub kept_marked : (before after : Table Content) (marks : Table M) → KeepsFormulas before after → AreMarked before marks
+  pub kept_marked : (before after : Table Content) (marks : Table M) → KeepsFormulas before after
+      → AreMarked before marks
       → AreMarked after marks
   kept_marked before after marks keeps marked = record {
     rows = marked.rows ∙ sym keeps.rows;
@@ -122,7 +125,7 @@ module _ {M : Type 0} where
         subst IsSome (sym (ap (λ t. item_at t r c) is
         ∙ finite.get-remove by_rows_total marks.cells (row, col) (r, c)))
         (other (same (r, c) (row, col)) (item_at marks r c)
-        (λ there. false≢true (sym none ∙ sym (ap (is_formula_at table) (same_is (r, c) (row, col) there)) ∙ held))
+        (λ there. false≢true (sym none ∙ sym (ap (is_formula_at table) (same_cell (r, c) (row, col) there)) ∙ held))
         (marked.each r c held));
   }
     where
@@ -159,7 +162,7 @@ module _ {M : Type 0} where
     cols = marked.cols ∙ sym (ap (λ t. t.cols) is);
     each = λ r c held. either (same (r, c) (row, col)) (item_at table r c) (item_at marks r c)
         (λ one. subst (λ (p : ℕ × ℕ). 0 < formulas_at (Some item) → IsSome (item_at marks p.0 p.1))
-        (sym (same_is (r, c) (row, col) one)) there)
+        (sym (same_cell (r, c) (row, col) one)) there)
         (marked.each r c)
         (sym (ap (λ t. is_formula_at t (r, c)) is
         ∙ ap holds_formula (finite.get-insert by_rows_total table.cells (row, col) item (r, c))) ∙ held);
@@ -189,7 +192,8 @@ module _ {M : Type 0} where
         each = λ row col is. came row col (item_at moved row col) refl is;
       }
     where
-      marked_there : (row col old_row old_col : ℕ) (found : Option M) → item_at marks old_row old_col ≡ found → IsSome found
+      marked_there : (row col old_row old_col : ℕ) (found : Option M) → item_at marks old_row old_col ≡ found
+          → IsSome found
           → Rattle.cell_store.specs.Moved.place_after axis change old_row old_col ≡ Some (row, col)
           → IsSome (item_at after row col)
       marked_there row col old_row old_col None held some way = absurd (false≢true some)

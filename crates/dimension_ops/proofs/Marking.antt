@@ -77,7 +77,8 @@ module _ (items : List (Arc PlaceSheet Global)) (id place : ℕ) (old new : Arc 
   pub seen_changed : map arc_value (set items place new) ≡ map changed (map arc_value items)
   seen_changed =
       map-set arc_value items place new
-      ∙ ap (set (map arc_value items) place) (made ∙ ap change (seen_stands arc_value items place old new is found.there))
+      ∙ ap (set (map arc_value items) place)
+      (made ∙ ap change (seen_stands arc_value items place old new is found.there))
       ∙ changed_at_place (has_id id) change (map arc_value items) place found
       (others (map arc_value items) id place distinct found) (arc_value old)
 
@@ -91,6 +92,7 @@ module _ (id : ℕ) (change : PlaceSheet → PlaceSheet) (keeps : (sheet : Place
       ≡ map (λ (sheet : PlaceSheet). sheet.id) sheets
   ids_kept [] = refl
   ids_kept (s ∷ ss) =
-      ap (λ n. n ∷ map (λ (sheet : PlaceSheet). sheet.id) (map (λ sheet. cond (sheet.id == id) (change sheet) sheet) ss))
+      ap (λ n. n
+      ∷ map (λ (sheet : PlaceSheet). sheet.id) (map (λ sheet. cond (sheet.id == id) (change sheet) sheet) ss))
       (own_id (s.id == id) s)
       ∙ ap (λ ns. s.id ∷ ns) (ids_kept ss)

@@ -1,5 +1,5 @@
 -- Merges that a sheet gets are of it, and it is found with them.
-use Rattle.std.proofs.Common.{◌≡◌, ℕ, ◌+◌, ◌≤◌, ◌<◌, inl, inr, arith, refl, sym, ap, subst, ◌∙◌, cond, Bool, true, false, List, [], ◌∷◌, get_or, map}
+use Rattle.std.proofs.Common.{◌≡◌, ℕ, ◌+◌, ◌<◌, inl, inr, arith, refl, sym, ap, subst, ◌∙◌, cond, Bool, true, false, List, [], ◌∷◌, get_or, map}
 use Rattle.std.specs.Prelude.{Option, None, Some, IfSome, IsSomeAnd, ◌==◌}
 use Rattle.std.specs.List.{range_with_len}
 use Rattle.std.proofs.lemmas.Bool.{eqb-true}
@@ -7,10 +7,9 @@ use Rattle.std.proofs.lemmas.List.Elements.{All-cons, All-contains, All-filter, 
 use Rattle.std.proofs.lemmas.List.FromFn.{get_or-map-range_with_len, length-map-range_with_len}
 use Rattle.std.proofs.lemmas.Option.{none-some, same_Some}
 use Rattle.grid_range.specs.Area.{AreaWithin, band_on}
-use Rattle.grid_range.specs.Band.{HasLine, Within, first_line}
+use Rattle.grid_range.specs.Band.{HasLine, first_line}
 use Rattle.grid_range.specs.declared.area.Area.{Area}
 use Rattle.grid_range.specs.declared.axis.Axis.{Axis}
-use Rattle.grid_range.specs.declared.axis.Axis.TheVariants.{Rows, Columns}
 use Rattle.grid_range.specs.declared.band.Band.{Band}
 use Rattle.grid_range.specs.declared.band.Band.TheVariants.{Whole, From, Span}
 use Rattle.merge_ranges.specs.Calls.{IsLeft, IsLeftOrPart, ListsJust}
@@ -21,6 +20,8 @@ use Rattle.world_model.specs.BookChange.{AreChanges, BookChange}
 use Rattle.world_model.specs.Sheet.{PlaceSheet}
 use Rattle.world_model.specs.SheetChange.{place_merged, place_merges_set}
 use Rattle.world_model.specs.Sound.{IsOnSheet, IsSheetSound, IsSound, place_sheet_with}
+use Rattle.dimension_ops.specs.MergeLaws.{found_with, line_is_of}
+use Rattle.merge_ranges.specs.EndsLaws.{ends_on}
 use Rattle.dimension_ops.specs.MergeRequests.{AreOfSheet, IsOfSheet, MergesBecome}
 use Rattle.dimension_ops.proofs.PastLines.{found_holds}
 
@@ -37,26 +38,6 @@ module _ (id : ℕ) where
   found_id [] found is = absurd (none-some found is)
   found_id (s ∷ ss) found is =
       either_found (s.id == id) s found (place_sheet_with id ss) refl (found_id ss found) is
-
-  module _ (merges : List Area) where
-    abbrev gets : PlaceSheet → PlaceSheet
-    gets sheet = cond (sheet.id == id) (place_merged merges sheet) sheet
-
-    either_set : (b : Bool) (s found : PlaceSheet) (rest rest' : Option PlaceSheet) → (s.id == id) ≡ b
-        → (rest ≡ Some found → rest' ≡ Some (place_merged merges found)) → cond b (Some s) rest ≡ Some found
-        → cond ((cond b (place_merged merges s) s).id == id) (Some (cond b (place_merged merges s) s)) rest'
-        ≡ Some (place_merged merges found)
-    either_set true s found rest rest' here behind is =
-        ap (λ b. cond b (Some (place_merged merges s)) rest') here
-        ∙ ap (λ (sheet : PlaceSheet). Some (place_merged merges sheet)) (same_Some s found is)
-    either_set false s found rest rest' away behind is = ap (λ b. cond b (Some s) rest') away ∙ behind is
-
-    found_with : (sheets : List PlaceSheet) (found : PlaceSheet) → place_sheet_with id sheets ≡ Some found
-        → place_sheet_with id (map gets sheets) ≡ Some (place_merged merges found)
-    found_with [] found is = absurd (none-some found is)
-    found_with (s ∷ ss) found is =
-        either_set (s.id == id) s found (place_sheet_with id ss) (place_sheet_with id (map gets ss)) refl
-        (found_with ss found) is
 
 -- ---- what the merges become
 
@@ -120,28 +101,10 @@ parts_are_of area was parts sheet merge are all (inr part) = All-contains (IsOfS
 pub itself_is_of : (area : Area) (sheet : PlaceSheet) → IsOfSheet sheet area → AreOfSheet sheet (area ∷ [])
 itself_is_of area sheet of = All-cons (IsOfSheet sheet) area [] of (All-nil (IsOfSheet sheet))
 
-ends_on : (axis : Axis) (area : Area) → IsRectangle area → HasEnds (band_on axis area)
-ends_on Rows area is = is.0
-ends_on Columns area is = is.1
-
 line_at : (band : Band) (k : ℕ) → HasEnds band → k < line_count band → HasLine band (first_line band + k)
 line_at Whole k ends few = absurd ends
 line_at (From start) k ends few = absurd ends
 line_at (Span start end) k ends few = (omega arith, omega (arith, few))
-
-span_line : (band : Band) (line count : ℕ) → HasEnds band → HasLine band line → Within band count
-    → line + 1 ≤ count
-span_line Whole line count ends has within = absurd ends
-span_line (From start) line count ends has within = absurd ends
-span_line (Span start end) line count ends has within =
-    let below = has.1 in let most = within.1 in omega (arith, below, most)
-
-line_is_of : (axis : Axis) (area : Area) (sheet : PlaceSheet) (line : ℕ) → IsRectangle area
-    → HasLine (band_on axis area) line → IsOfSheet sheet area → IsOfSheet sheet (line_of axis area line)
-line_is_of Rows area sheet line is has of =
-    (of.0, ((omega arith, span_line area.rows line sheet.table.rows is.0 has of.1.0), of.1.1))
-line_is_of Columns area sheet line is has of =
-    (of.0, (of.1.0, (omega arith, span_line area.cols line sheet.table.cols is.1 has of.1.1)))
 
 pub lines_are_of : (axis : Axis) (area : Area) (sheet : PlaceSheet) → IsRectangle area → IsOfSheet sheet area
     → AreOfSheet sheet (lines_of axis area)

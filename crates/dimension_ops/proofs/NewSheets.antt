@@ -10,8 +10,8 @@ use Rattle.world_model.specs.BookChange.{NewSheet}
 use Rattle.world_model.specs.Sheet.{PlaceSheet}
 use Rattle.world_model.specs.SheetChange.{new_place_sheet, place_sheet_added}
 use Rattle.world_model.specs.Sound.{place_sheet_with}
+use Rattle.dimension_ops.specs.JudgingLaws.{not_first}
 use Rattle.dimension_ops.specs.SheetRequests.{IsFirstTitle, IsLeastId, IsNewSheet, has_id, has_title, numbered_title}
-use Rattle.dimension_ops.proofs.Judging.{not_first}
 
 -- ---- one sheet
 
@@ -60,7 +60,8 @@ new_sheet_once properties sheets one other is is' =
     ap (λ id. as_new id one.title one.hidden one.rows one.cols)
     (new_id_once (IsLeastId sheets) (least_id_once sheets) properties.id one.id other.id is.id is'.id)
     ∙ ap (λ title. as_new other.id title one.hidden one.rows one.cols)
-    (new_id_once (IsFirstTitle sheets) (first_title_once sheets) properties.title one.title other.title is.title is'.title)
+    (new_id_once (IsFirstTitle sheets) (first_title_once sheets) properties.title one.title other.title
+    is.title is'.title)
     ∙ ap (λ hidden. as_new other.id other.title hidden one.rows one.cols) (is.hidden ∙ sym is'.hidden)
     ∙ ap (λ rows. as_new other.id other.title other.hidden rows one.cols) (is.rows ∙ sym is'.rows)
     ∙ ap (λ cols. as_new other.id other.title other.hidden other.rows cols) (is.cols ∙ sym is'.cols)

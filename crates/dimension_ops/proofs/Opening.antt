@@ -50,7 +50,8 @@ sheet_sound sheets = record {
   rows = (omega arith, omega arith);
   cols = (omega arith, omega arith);
   inside = λ row col some. absurd (no_some (item_at opening_sheet.table row col) (nothing_there row col) some);
-  within = λ row col. holds_if_none (item_at opening_sheet.table row col) (IsContentWithin sheets) (nothing_there row col);
+  within =
+      λ row col. holds_if_none (item_at opening_sheet.table row col) (IsContentWithin sheets) (nothing_there row col);
   merges = no_merges;
   filter = tt;
 }
@@ -69,7 +70,8 @@ opening_sound id title owner = record {
   distinct = λ i j d below there. absurd (let no : ⊥ = omega (arith, below, there) in no);
   titles = λ i j d below there. absurd (let no : ⊥ = omega (arith, below, there) in no);
   visible = refl;
-  sheets = All-push (IsSheetSound (opening_sheet ∷ [])) [] opening_sheet (All-nil (IsSheetSound (opening_sheet ∷ []))) (sheet_sound (opening_sheet ∷ []));
+  sheets = All-push (IsSheetSound (opening_sheet ∷ [])) [] opening_sheet (All-nil (IsSheetSound (opening_sheet ∷ [])))
+      (sheet_sound (opening_sheet ∷ []));
   few_sheets = omega arith;
   few_places = omega arith;
   ranges = All-nil (λ (range : NamedRange). IsOnSheet (opening_sheet ∷ []) range.area);

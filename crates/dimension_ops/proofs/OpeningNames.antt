@@ -110,7 +110,8 @@ module _ (rows cols : ℕ) where
   }
 
 pub opening_stands : WorldStandsFor (opening_book ∷ []) opening_world
-opening_stands = world_stands DEFAULT_ROWS DEFAULT_COLUMNS (DEFAULT_ROWS + DEFAULT_COLUMNS) (omega arith) (opening_sound (codes "book1") (codes "book1") (codes "owner"))
+opening_stands = world_stands DEFAULT_ROWS DEFAULT_COLUMNS (DEFAULT_ROWS + DEFAULT_COLUMNS) (omega arith)
+    (opening_sound (codes "book1") (codes "book1") (codes "owner"))
 
 pub first_numbered : AreNumbered (opening_book ∷ [])
 first_numbered zero d there = ap (λ number. codes "book" ++ number) (sym (decimal_digit 1 (omega arith)))

@@ -32,7 +32,8 @@ only_past last cut past passed fails is =
     ∙ ap (λ p. first_broken (record unbroken { last_line = false; past_limit = p; merge_cut = cut })) is
 
 rows_first : (rows cols cells : Bool) → rows ≡ true
-    → cond rows (Some limit.Rows) (cond cols (Some limit.Columns) (cond cells (Some limit.Cells) None)) ≡ Some limit.Rows
+    → cond rows (Some limit.Rows) (cond cols (Some limit.Columns) (cond cells (Some limit.Cells) None))
+    ≡ Some limit.Rows
 rows_first rows cols cells is =
     ap (λ b. cond b (Some limit.Rows) (cond cols (Some limit.Columns) (cond cells (Some limit.Cells) None))) is
 
@@ -66,10 +67,12 @@ module _ (at count places : ℕ) (sheet : PlaceSheet) (sheets : List PlaceSheet)
       → first_passed (passes_size (size_after axis (Insert at count) sheet.table.rows sheet.table.cols) places)
       ≡ Some (limit_on axis)
   past_on Rows many =
-      rows_first (nat_lt MOST_ROWS (sheet.table.rows + count)) (nat_lt MOST_COLUMNS sheet.table.cols) (nat_lt most_places places)
+      rows_first (nat_lt MOST_ROWS (sheet.table.rows + count)) (nat_lt MOST_COLUMNS sheet.table.cols)
+      (nat_lt most_places places)
       (lt-ltb MOST_ROWS (sheet.table.rows + count) (omega arith))
   past_on Columns many =
-      cols_first (nat_lt MOST_ROWS sheet.table.rows) (nat_lt MOST_COLUMNS (sheet.table.cols + count)) (nat_lt most_places places)
+      cols_first (nat_lt MOST_ROWS sheet.table.rows) (nat_lt MOST_COLUMNS (sheet.table.cols + count))
+      (nat_lt most_places places)
       (le-ltb MOST_ROWS sheet.table.rows sound.rows.1) (lt-ltb MOST_COLUMNS (sheet.table.cols + count) (omega arith))
 
 pub past_refused : (before : PlaceBook) (id at count lines : ℕ) (axis : Axis) (broken : Rule)

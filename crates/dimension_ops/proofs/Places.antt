@@ -4,21 +4,17 @@ use Rattle.std.specs.Prelude.{Option, None, Some}
 use Rattle.std.specs.List.{AllByRecursion, fold, list_any}
 use Rattle.std.specs.List.Sorted.{IsStrictlySortedBy}
 use Rattle.std.specs.Option.{option_map, option_map_or}
-use Rattle.std.specs.Ordering.{nat_cmp, eq_by_cmp, is_eq, ordering_then}
-use Rattle.std.specs.declared.cmp.Ordering.{Ordering}
-use Rattle.std.specs.declared.cmp.Ordering.TheVariants.{Less, Equal, Greater}
-use Rattle.std.specs.Cmp.{IsTotalOrder, eq_by_cmp_equiv, nat_cmp_total, ranked}
+use Rattle.std.specs.Ordering.{eq_by_cmp, is_eq}
+use Rattle.std.specs.declared.cmp.Ordering.TheVariants.{Less}
+use Rattle.std.specs.Cmp.{eq_by_cmp_equiv}
 use Rattle.std.specs.FinMap as finite
 use Rattle.std.proofs.lemmas.Bool.{false≢true}
-use Rattle.std.proofs.lemmas.Cmp.{then_total, on_total}
 use Rattle.std.proofs.lemmas.List.{get_or_default, take_more}
 use Rattle.std.proofs.lemmas.List.Sums.{fold-append}
 use Rattle.std.proofs.lemmas.Map.Keys.{Less-from_sorted, sorted_head, sorted_tail}
 use Rattle.grid_range.specs.Area.{by_rows}
+use Rattle.grid_range.specs.ByRows.{by_rows_total, same_cell}
 use Rattle.cell_store.specs.Table.{Table, item_at, with_item}
-
-pub by_rows_total : IsTotalOrder by_rows
-by_rows_total = then_total (on_total (λ (p : ℕ × ℕ). p.0) nat_cmp_total) (on_total (λ (p : ℕ × ℕ). p.1) nat_cmp_total)
 
 -- whether two places are one
 abbrev pub same : ℕ × ℕ → ℕ × ℕ → Bool
@@ -27,19 +23,6 @@ same = eq_by_cmp by_rows
 -- whether the place is one of those
 abbrev pub among : List (ℕ × ℕ) → ℕ × ℕ → Bool
 among places place = list_any (same place) places
-
-equal_then : (one other : Ordering) → is_eq (ordering_then one other) ≡ true → (one ≡ Equal) × (other ≡ Equal)
-equal_then Less other is = absurd (false≢true is)
-equal_then Equal Less is = absurd (false≢true is)
-equal_then Equal Equal is = (refl, refl)
-equal_then Equal Greater is = absurd (false≢true is)
-equal_then Greater other is = absurd (false≢true is)
-
-pub same_is : (one other : ℕ × ℕ) → same one other ≡ true → one ≡ other
-same_is one other is =
-    let both = equal_then (nat_cmp one.0 other.0) (nat_cmp one.1 other.1) is in
-    ap (λ n. (n, one.1)) (ranked one.0 other.0 Equal (sym both.0))
-    ∙ ap (λ n. (other.0, n)) (ranked one.1 other.1 Equal (sym both.1))
 
 -- a place below others is none of them
 not_same : (place other : ℕ × ℕ) → by_rows place other ≡ Less → same place other ≡ false
@@ -78,7 +61,7 @@ module _ {T : Type 0} (f : T → T) where
   item_at_place table place other = held (item_at table place.0 place.1) refl
     where
       its : same other place ≡ true → item_at table other.0 other.1 ≡ item_at table place.0 place.1
-      its is = ap (λ p. item_at table p.0 p.1) (same_is other place is)
+      its is = ap (λ p. item_at table p.0 p.1) (same_cell other place is)
 
       held : (found : Option T) → item_at table place.0 place.1 ≡ found
           → item_at (option_map_or (λ item. with_item table place.0 place.1 (f item)) found table) other.0 other.1
@@ -103,7 +86,7 @@ module _ {T : Type 0} (f : T → T) where
       all_followed places (at_place table place) other (sorted_tail by_rows place places sorted)
       ∙ ap (λ held. cond (among places other) (option_map f held) held) (item_at_place table place other)
       ∙ chosen_once (same other place) (among places other) (item_at table other.0 other.1)
-      (λ is. ap (among places) (same_is other place is) ∙ first_once place places sorted)
+      (λ is. ap (among places) (same_cell other place is) ∙ first_once place places sorted)
 
   size_at_place : (table : Table T) (place : ℕ × ℕ) (held : Option T)
       → ((option_map_or (λ item. with_item table place.0 place.1 (f item)) held table).rows ≡ table.rows)

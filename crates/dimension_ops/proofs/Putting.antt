@@ -86,10 +86,12 @@ room_at sheets place d few there is =
 
 -- a write keeps the ids
 ids_stay : (id row col : ℕ) (content : Option Content) (sheets : List PlaceSheet)
-    → map (λ (sheet : PlaceSheet). sheet.id) (map (sheet_put id row col content) sheets) ≡ map (λ (sheet : PlaceSheet). sheet.id) sheets
+    → map (λ (sheet : PlaceSheet). sheet.id) (map (sheet_put id row col content) sheets)
+    ≡ map (λ (sheet : PlaceSheet). sheet.id) sheets
 ids_stay id row col content [] = refl
 ids_stay id row col content (sheet ∷ sheets) =
-    ap (λ n. n ∷ map (λ (sheet : PlaceSheet). sheet.id) (map (sheet_put id row col content) sheets)) (one (sheet.id == id))
+    ap (λ n. n ∷ map (λ (sheet : PlaceSheet). sheet.id) (map (sheet_put id row col content) sheets))
+    (one (sheet.id == id))
     ∙ ap (λ ns. sheet.id ∷ ns) (ids_stay id row col content sheets)
   where
     one : (b : Bool) → (cond b (record sheet { table = table_written row col content sheet.table }) sheet).id ≡ sheet.id
@@ -109,7 +111,8 @@ module _ {X : Type 0} (value : X → PlaceSheet) (shared : List X) (place : ℕ)
       → map value (set shared place new) ≡ map (sheet_put id row col content) (map value shared)
   seen_written id row col content distinct found made =
       map-set value shared place new
-      ∙ ap (set (map value shared) place) (made ∙ ap (λ (sheet : PlaceSheet). record sheet { table = table_written row col content sheet.table }) stands)
+      ∙ ap (set (map value shared) place)
+      (made ∙ ap (λ (sheet : PlaceSheet). record sheet { table = table_written row col content sheet.table }) stands)
       ∙ put_at_place (map value shared) id row col content place distinct found (value old)
     where
       stands : value old ≡ get_or (map value shared) place (value old)

@@ -1,12 +1,7 @@
 -- What calls on named ranges answer, from what the list of ranges answers, and the changes that they make.
-use Rattle.std.proofs.Common.{◌≡◌, ℕ, zero, suc, refl, sym, ap, subst, ◌∙◌, List, [], ◌∷◌, get_or, cond, Bool, true, false, arith, inl, inr}
+use Rattle.std.proofs.Common.{◌≡◌, ℕ, refl, sym, ap, subst, ◌∙◌, List, [], ◌∷◌, true, false, inl, inr}
 use Rattle.std.specs.Prelude.{◌↔◌, ◌≢◌, Option, None, Some, Result, Ok, Err, IfErr, IfSome, MatchOption, OnErr, OnOk, is_some}
-use Rattle.std.specs.List.{All}
 use Rattle.std.specs.Option.{IsSome, option_map_or}
-use Rattle.std.specs.Str.{bytes_eq}
-use Rattle.std.proofs.lemmas.Bool.{false_from_ne_true, false≢true}
-use Rattle.std.proofs.lemmas.Option.{none-some, same_Some}
-use Rattle.std.proofs.lemmas.Slice.Eq.{bytes_eq-Decides}
 use Rattle.cell_value.specs.Ids.{IsNewId, is_taken}
 use Rattle.grid_range.specs.declared.area.Area.{Area}
 use Rattle.named_ranges.specs.Given.{given_range}
@@ -21,6 +16,7 @@ use Rattle.world_model.specs.ChangingLaws.{ChangesInTurn}
 use Rattle.world_model.specs.RangeChange.{PlaceWordsRenamed, place_range_added, place_range_changed, place_range_deleted, with_place_ranges}
 use Rattle.world_model.specs.RangeLaws.{RangesChanged, RangesDeleted, WordsAreRenamed}
 use Rattle.world_model.specs.Sound.{IsOnSheet, IsSound}
+use Rattle.dimension_ops.specs.RangeLaws.{changed_as, found_on, given_on, has_its_id, only_one}
 use Rattle.dimension_ops.specs.RangeRequests.{IsRangeAdded, IsRangeDropped, IsRangeUpdated, range_of, range_set, range_updates, refusal_of, words_given}
 use Rattle.dimension_ops.specs.Rules.{IsUnlessNoMemory}
 use Rattle.dimension_ops.specs.declared.rule.Rule.{Rule}
@@ -167,96 +163,12 @@ module _ (id : List ℕ) (name : Option (List ℕ)) (area : Option Area) (before
     unchanged = tt;
   }
 
--- ---- the range with the id is the only one
-
-module _ (id : List ℕ) where
-  abbrev has_this : NamedRange → Bool
-  has_this range = bytes_eq id range.id
-
-  this_id : (range : NamedRange) → has_this range ≡ true → id ≡ range.id
-  this_id range is = (bytes_eq-Decides id range.id).0 is
-
-  found_has : (b : Bool) (one : NamedRange) (rest : Option NamedRange) (range : NamedRange) → has_this one ≡ b
-      → (rest ≡ Some range → has_this range ≡ true) → cond b (Some one) rest ≡ Some range → has_this range ≡ true
-  found_has true one rest range is behind found = ap has_this (sym (same_Some one range found)) ∙ is
-  found_has false one rest range is behind found = behind found
-
-  pub has_its_id : (ranges : List NamedRange) (range : NamedRange) → with_id id ranges ≡ Some range
-      → has_this range ≡ true
-  has_its_id [] range found = absurd (none-some range found)
-  has_its_id (r ∷ rs) range found =
-      found_has (has_this r) r (with_id id rs) range refl (has_its_id rs range) found
-
-  first_is : (b : Bool) (one : NamedRange) (rest : Option NamedRange) (range : NamedRange) → has_this one ≡ b
-      → cond b (Some one) rest ≡ Some range → has_this one ≡ true → one ≡ range
-  first_is true one rest range is found has = same_Some one range found
-  first_is false one rest range is found has = absurd (false≢true (sym is ∙ has))
-
-  rest_has : (b : Bool) (one : NamedRange) (rest : Option NamedRange) (range : NamedRange) → b ≡ false
-      → cond b (Some one) rest ≡ Some range → rest ≡ Some range
-  rest_has true one rest range is found = absurd (false≢true (sym is))
-  rest_has false one rest range is found = found
-
-  pub only_one : (ranges : List NamedRange) (range : NamedRange) → AreNames ranges → with_id id ranges ≡ Some range
-      → All (λ other. has_this other ≡ true → other ≡ range) ranges
-  only_one [] range apart found k d there = absurd (omega (arith, there))
-  only_one (r ∷ rs) range apart found zero d there =
-      first_is (has_this r) r (with_id id rs) range refl found
-  only_one (r ∷ rs) range apart found (suc k) d there = λ has.
-      let other = get_or rs k d in
-      let differ : has_this r ≡ false = not_this r (λ is. (apart 0 (suc k) d (omega arith) there).ids
-      (sym (this_id r is) ∙ this_id other has)) in
-      only_one rs range (λ i j e less inside. apart (suc i) (suc j) e (omega (arith, less)) (omega (arith, inside)))
-      (rest_has (has_this r) r (with_id id rs) range differ found) k d (omega (arith, there)) has
-    where
-      not_this : (r : NamedRange) → (has_this r ≡ true → ⊥) → has_this r ≡ false
-      not_this r never = false_from_ne_true (has_this r) never
-
 -- ---- the changes
-
-module _ (id : List ℕ) (name : Option (List ℕ)) (area : Option Area) (range : NamedRange)
-    (is : bytes_eq id range.id ≡ true) where
-  abbrev given : NamedRange
-  given = given_range name area range
-
-  one_given : (b b' : Bool) (other : NamedRange) → b ≡ b' → (b ≡ true → other ≡ range)
-      → cond b (given_range name area other) other ≡ cond b' given other
-  one_given true true other same only = ap (given_range name area) (only refl)
-  one_given true false other same only = absurd (false≢true (sym same))
-  one_given false true other same only = absurd (false≢true same)
-  one_given false false other same only = refl
-
-  pub changed_as : (ranges : List NamedRange) → All (λ other. bytes_eq id other.id ≡ true → other ≡ range) ranges
-      → with_changed id (given_range name area) ranges ≡ with_changed given.id (λ other. given) ranges
-  changed_as [] only = refl
-  changed_as (r ∷ rs) only =
-      ap (λ first. first ∷ with_changed id (given_range name area) rs)
-      (one_given (bytes_eq id r.id) (bytes_eq range.id r.id) r
-      (ap (λ own. bytes_eq own r.id) ((bytes_eq-Decides id range.id).0 is)) (only 0 r (omega arith)))
-      ∙ ap (λ rest. cond (bytes_eq range.id r.id) given r ∷ rest)
-      (changed_as rs (λ k d there. only (suc k) d (omega (arith, there))))
 
 module _ (in_turn : ChangesInTurn) (changing : RangesChanged) (renaming : WordsAreRenamed) (id : List ℕ)
     (name : Option (List ℕ)) (area : Option Area) (before between after : PlaceBook) (apart : AreNames before.ranges)
     (sound : IsSound before) (on : IfSome area (IsOnSheet before.sheets))
     (made : between ≡ with_place_ranges (with_changed id (given_range name area) before.ranges) before) where
-  area_on : (area : Option Area) (range : NamedRange) → IfSome area (IsOnSheet before.sheets)
-      → IsOnSheet before.sheets range.area → IsOnSheet before.sheets (given_range name area range).area
-  area_on None range on own = own
-  area_on (Some area) range on own = on
-
-  first_on : (P : NamedRange → Type 0) (b : Bool) (one : NamedRange) (rest : Option NamedRange) (range : NamedRange)
-      → P one → (rest ≡ Some range → P range) → cond b (Some one) rest ≡ Some range → P range
-  first_on P true one rest range holds behind found = subst P (same_Some one range found) holds
-  first_on P false one rest range holds behind found = behind found
-
-  found_on : (P : NamedRange → Type 0) (ranges : List NamedRange) (range : NamedRange) → with_id id ranges ≡ Some range
-      → All P ranges → P range
-  found_on P [] range found all = absurd (none-some range found)
-  found_on P (r ∷ rs) range found all =
-      first_on P (bytes_eq id r.id) r (with_id id rs) range (all 0 r (omega arith))
-      (λ is. found_on P rs range is (λ k d there. all (suc k) d (omega (arith, there)))) found
-
   module _ (range : NamedRange) (found : with_id id before.ranges ≡ Some range) where
     abbrev now : NamedRange
     now = given_range name area range
@@ -270,8 +182,8 @@ module _ (in_turn : ChangesInTurn) (changing : RangesChanged) (renaming : WordsA
     range_changes : AreChanges (BookChange.RangeChanged now ∷ []) before between
     range_changes = subst (AreChanges (BookChange.RangeChanged now ∷ []) before) between_is
         (changing.changes before now
-        (area_on area range on
-        (found_on (λ one. IsOnSheet before.sheets one.area) before.ranges range found sound.ranges)))
+        (given_on before.sheets name area range on
+        (found_on id (λ one. IsOnSheet before.sheets one.area) before.ranges range found sound.ranges)))
 
     then_words : (name : Option (List ℕ))
         → AreChanges (BookChange.RangeChanged now ∷ []) before between
@@ -282,7 +194,8 @@ module _ (in_turn : ChangesInTurn) (changing : RangesChanged) (renaming : WordsA
     then_words None first renamed =
         subst (AreChanges (BookChange.RangeChanged now ∷ []) before) (sym renamed) first
     then_words (Some new) first renamed =
-        in_turn.both (BookChange.RangeChanged now ∷ []) (BookChange.WordsRenamed range.name new ∷ []) before between after
+        in_turn.both (BookChange.RangeChanged now ∷ []) (BookChange.WordsRenamed range.name new ∷ []) before
+        between after
         first (renaming.changes between after range.name new renamed)
 
   some_changes : (found : Option NamedRange) → with_id id before.ranges ≡ found → (found ≡ None → ⊥)

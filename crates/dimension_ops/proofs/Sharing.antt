@@ -8,4 +8,5 @@ pub seen_same : {X Y : Type 0} (value : X → Y) (xs ys : List X) → AllZip (λ
 seen_same value [] [] all = refl
 seen_same value [] (y ∷ ys) all = absurd all
 seen_same value (x ∷ xs) [] all = absurd all
-seen_same value (x ∷ xs) (y ∷ ys) all = ap (λ z. z ∷ map value ys) all.0 ∙ ap (λ zs. value x ∷ zs) (seen_same value xs ys all.1)
+seen_same value (x ∷ xs) (y ∷ ys) all = ap (λ z. z ∷ map value ys) all.0
+    ∙ ap (λ zs. value x ∷ zs) (seen_same value xs ys all.1)

@@ -65,11 +65,13 @@ same_area Columns area = refl
 module _ (sheet : ℕ) (axis : Axis) (count : ℕ) (change : Change) (is : keeps_places change count ≡ true) where
   area_stays : (area : Area) → IsWithinOn sheet axis count area → area_followed sheet axis count change area ≡ Some area
   area_stays area within = elim (cases_Bool (area.sheet == sheet)) [
-    | inl on ↦ ap (λ b. cond b (option_map (with_band axis area) (track_of (band_on axis area) count change)) (Some area)) on
+    | inl on ↦
+        ap (λ b. cond b (option_map (with_band axis area) (track_of (band_on axis area) count change)) (Some area)) on
         ∙ ap (option_map (with_band axis area))
         (band_stays change count (band_on axis area) is (within (eqb-true area.sheet sheet on)))
         ∙ ap Some (same_area axis area)
-    | inr off ↦ ap (λ b. cond b (option_map (with_band axis area) (track_of (band_on axis area) count change)) (Some area)) off
+    | inr off ↦
+        ap (λ b. cond b (option_map (with_band axis area) (track_of (band_on axis area) count change)) (Some area)) off
   ]
 
   piece_stays : (one : Piece) → IsPieceWithinOn sheet axis count one → piece_followed sheet axis count change one ≡ one
@@ -84,7 +86,8 @@ module _ (sheet : ℕ) (axis : Axis) (count : ℕ) (change : Change) (is : keeps
       → map (piece_followed sheet axis count change) pieces ≡ pieces
   pieces_stay [] within = refl
   pieces_stay (one ∷ pieces) within =
-      ap (λ first. first ∷ map (piece_followed sheet axis count change) pieces) (piece_stays one (within 0 one (omega arith)))
+      ap (λ first. first ∷ map (piece_followed sheet axis count change) pieces)
+      (piece_stays one (within 0 one (omega arith)))
       ∙ ap (λ rest. one ∷ rest) (pieces_stay pieces (λ k d there. within (suc k) d (omega (arith, there))))
 
   content_stays : (item : Content) → IsContentWithinOn sheet axis count item
@@ -119,7 +122,8 @@ place_stays (Delete first past) count line is there = absurd (false≢true is)
 place_stays (Move first past to) count line is there =
     ap (λ (span : ℕ × ℕ). Some span.0) (move_stays line (line + 1) first past to is)
 
-spot_stays : (axis : Axis) (change : Change) (rows cols row col : ℕ) → keeps_places change (lines_on axis rows cols) ≡ true
+spot_stays : (axis : Axis) (change : Change) (rows cols row col : ℕ)
+    → keeps_places change (lines_on axis rows cols) ≡ true
     → row < rows → col < cols → place_after axis change row col ≡ Some (row, col)
 spot_stays Rows change rows cols row col is row_there col_there =
     ap (option_map (λ (line : ℕ). (line, col))) (place_stays change rows row is row_there)

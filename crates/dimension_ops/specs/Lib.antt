@@ -17,3 +17,12 @@ pub mod MergeRequests
 pub mod Parts
 pub mod ProtectionRequests
 pub mod MetadataRequests
+pub mod JudgingLaws
+pub mod NewSheetLaws
+pub mod SizeLaws
+pub mod PropertyLaws
+pub mod FollowLaws
+pub mod RangeLaws
+pub mod MergeLaws
+pub mod ProtectionLaws
+pub mod MetadataLaws

@@ -50,7 +50,16 @@ impl Model for PlacedSheet {
 
     ghost coded = { placed_code };
 
-    ghost view = { λ s. (s.at, record { id = s.id; title = s.title; hidden = s.hidden; rows = s.rows; cols = s.cols }) };
+    ghost view = { λ s. (
+      s.at,
+      record {
+        id = s.id;
+        title = s.title;
+        hidden = s.hidden;
+        rows = s.rows;
+        cols = s.cols;
+      },
+    ) };
 }
 
 impl PlacedSheet {
@@ -117,8 +126,10 @@ impl Model for Making {
 
     ghost view = { λ m. m.placed.items };
 
-    ghost invariant = { λ m. HasIdsOf (sheets_made m.placed.items) m.ids × AreIdsBelow (sheets_made m.placed.items) m.least
-        × HasTitlesOf (sheets_made m.placed.items) m.titles × AreTitlesBelow (sheets_made m.placed.items) m.number };
+    ghost invariant = { λ m. HasIdsOf (sheets_made m.placed.items) m.ids
+        × AreIdsBelow (sheets_made m.placed.items) m.least
+        × HasTitlesOf (sheets_made m.placed.items) m.titles
+        × AreTitlesBelow (sheets_made m.placed.items) m.number };
 }
 
 impl Making {
@@ -184,7 +195,8 @@ impl Making {
     /// The first of `Sheet1`, `Sheet2` and so on that no sheet has, and its number.
     fn first_title(&self, alloc: Global) -> Result<(Text, u64), NoMemory>
         ensures title { IfOk result (λ first. first.0 ≡ numbered_title first.1) }
-        ensures first { IfOk result (λ first. IsLeastUnused (λ number. has_title (sheets_made self.now) (numbered_title number)) first.1) }
+        ensures first { IfOk result
+            (λ first. IsLeastUnused (λ number. has_title (sheets_made self.now) (numbered_title number)) first.1) }
     {
         for number in self.number..u64::MAX {
             let title = format!(in alloc; "Sheet{number}")?;
@@ -238,7 +250,8 @@ impl Making {
     ///
     /// [`NoMemory`] where memory runs out.
     fn with(self, alloc: Global, asked: &SheetProperties) -> Result<Making, NoMemory>
-        ensures { IfOk result (λ more. (placed : Placed) × IsPlaced asked.now (sheets_made self) placed × (more ≡ self ++ placed ∷ [])) }
+        ensures { IfOk result
+            (λ more. (placed : Placed) × IsPlaced asked.now (sheets_made self) placed × (more ≡ self ++ placed ∷ [])) }
     {
         let at = self.place_of_new(asked);
         let (id, least) = self.new_id(asked.id)?;
@@ -332,7 +345,8 @@ impl Faults {
 
 /// The numbers with one more.
 fn with_number(mut numbers: BTreeSet<u32>, number: u32) -> Result<BTreeSet<u32>, NoMemory>
-    ensures { IfOk result (λ more. (other : ℕ) → contains nat_cmp more other ≡ (number == other || contains nat_cmp numbers other)) }
+    ensures { IfOk result
+        (λ more. (other : ℕ) → contains nat_cmp more other ≡ (number == other || contains nat_cmp numbers other)) }
 {
     numbers.insert(number)?;
     Ok(numbers)

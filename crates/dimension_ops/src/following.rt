@@ -154,7 +154,8 @@ pub(crate) fn follow_places(
 /// [`NoMemory`] where memory runs out; the cells are as they were.
 fn follow_at(cells: &mut Cells, row: u32, column: u32, by: &SheetChange) -> Result<(), NoMemory>
     requires fits { Fits by.now.change.now by.now.count }
-    requires within { IfSome (item_at cells.old.table row column) (IsContentWithinOn by.now.sheet by.now.axis by.now.count) }
+    requires within { IfSome (item_at cells.old.table row column)
+        (IsContentWithinOn by.now.sheet by.now.axis by.now.count) }
     ensures followed { OnOk result (cells.new.table
         ≡ followed_at by.now.sheet by.now.axis by.now.count by.now.change.now cells.old.table (row, column)) }
     ensures formulas { KeepsFormulas cells.old.table cells.new.table }

@@ -25,7 +25,8 @@ impl Book {
         requires there { IsOnSheet self.old.sheets area.now }
         requires cells { IsMerge area.now }
         ensures cut { (result ≡ Err Cut) ↔ CutsOne area.now self.old.sheets }
-        ensures added { OnOk result (MergesBecome area.now.sheet (λ merges. IsLeftOrPart area.now merges (area.now ∷ [])) self.old self.new) }
+        ensures added { OnOk result
+            (MergesBecome area.now.sheet (λ merges. IsLeftOrPart area.now merges (area.now ∷ [])) self.old self.new) }
         ensures unchanged { OnErr result (self.new ≡ self.old) }
     {
         self.stays_sound();
@@ -47,7 +48,9 @@ impl Book {
         requires there { IsOnSheet self.old.sheets area.now }
         requires cells { IsRectangle area.now }
         ensures cut { (result ≡ Err Cut) ↔ CutsOne area.now self.old.sheets }
-        ensures added { OnOk result (MergesBecome area.now.sheet (λ merges. IsLeftOrPart area.now merges (lines_of axis area.now)) self.old self.new) }
+        ensures added { OnOk result
+            (MergesBecome area.now.sheet (λ merges. IsLeftOrPart area.now merges (lines_of axis area.now))
+            self.old self.new) }
         ensures unchanged { OnErr result (self.new ≡ self.old) }
     {
         self.stays_sound();

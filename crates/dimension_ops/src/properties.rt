@@ -108,7 +108,8 @@ fn has_no_line(size: (u32, u32)) -> bool
 
 /// Whether the mark hides the sheet, and no other one is visible.
 fn hides_the_last(book: &Book, sheet: u32, hidden: Option<bool>) -> bool
-    ensures { result ≡ (unwrap_or hidden false && list_all (λ other. other.hidden) (other_sheets sheet book.now.sheets)) }
+    ensures { result
+        ≡ (unwrap_or hidden false && list_all (λ other. other.hidden) (other_sheets sheet book.now.sheets)) }
 {
     hidden.unwrap_or(false) && book.others_hidden(sheet)
 }
@@ -230,7 +231,8 @@ fn extend(book: &mut Book, sheet: u32, axis: Axis, lines: u32, given: u32) -> Re
     requires room { IsLineCount axis given }
     requires there { lines < given → IsSomeAnd (place_sheet_with sheet book.old.sheets)
         (λ found. lines_of_sheet axis found ≡ lines) }
-    requires few { lines < given → places_changed sheet axis (Insert lines (given - lines)) book.old.sheets ≤ most_places }
+    requires few { lines < given → places_changed sheet axis (Insert lines (given - lines)) book.old.sheets
+        ≤ most_places }
     ensures added { OnOk result (AreChanges (lines_added sheet axis lines given) book.old book.new) }
     ensures sized { OnOk result (GetsSize sheet (size_added axis lines given) book.old.sheets book.new.sheets) }
 {
@@ -264,7 +266,8 @@ fn make(
     requires few { places_changed sheet axis change.now book.old.sheets ≤ most_places }
     requires stays { ¬ (IsMove change.now) }
     ensures made { OnOk result (AreChanges (LinesChanged sheet axis change.now ∷ []) book.old book.new) }
-    ensures sized { OnOk result (GetsSize sheet (λ size. size_after axis change.now size.0 size.1) book.old.sheets book.new.sheets) }
+    ensures sized { OnOk result
+        (GetsSize sheet (λ size. size_after axis change.now size.0 size.1) book.old.sheets book.new.sheets) }
 {
     line_changes_are_changes();
     book.stays_sound();

@@ -240,7 +240,8 @@ impl Sheet {
     ) -> Result<(), NoMemory>
         requires inside { HasPlace self.old.table row column }
         requires room { filled_places self.old.table < most_filled }
-        ensures put { OnOk result (self.new ≡ record self.old { table = table_written row column content self.old.table }) }
+        ensures put { OnOk result
+            (self.new ≡ record self.old { table = table_written row column content self.old.table }) }
         ensures unchanged { OnErr result (self.new ≡ self.old) }
     {
         formulas_counted();
@@ -441,7 +442,8 @@ fn put_mark(marks: &mut Marks, row: u32, column: u32, formulas: u64) -> Result<(
 
 /// Takes the mark from the place where no formula came to stand there. It stays where memory runs out.
 fn take_mark(marks: &mut Marks, row: u32, column: u32, formulas: u64)
-    ensures { (table : Table Content) → (formulas ≡ 0 → is_formula_at table (row, column) ≡ Rattle.std.specs.Prelude.false)
+    ensures { (table : Table Content)
+        → (formulas ≡ 0 → is_formula_at table (row, column) ≡ Rattle.std.specs.Prelude.false)
         → AreMarked table marks.old.table → AreMarked table marks.new.table }
 {
     tables_by_items::<Mark>();

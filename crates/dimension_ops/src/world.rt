@@ -76,7 +76,8 @@ impl World {
         title: &str,
         sheets: &Items<SheetProperties>,
     ) -> Result<Text, RuleOr>
-        ensures added { IsUnlessNoMemory (IsBookAdded owner.now title.now (asked_sheets sheets.now) self.old self.new) result }
+        ensures added { IsUnlessNoMemory
+            (IsBookAdded owner.now title.now (asked_sheets sheets.now) self.old self.new) result }
         ensures unchanged { OnErr result (self.new ≡ self.old) }
     {
         let alloc = *self.books.allocator();
@@ -120,7 +121,9 @@ impl World {
         requires places { HavePlaces making.now }
         requires few { length self.old < most_books }
         ensures id { IfOk result (λ id. id ≡ book_id (length self.old)) }
-        ensures added { OnOk result (self.new ≡ self.old ++ with_all_placed (bare_book (book_id (length self.old)) title.now owner.now) making.now ∷ []) }
+        ensures added { OnOk result
+            (self.new ≡ self.old
+            ++ with_all_placed (bare_book (book_id (length self.old)) title.now owner.now) making.now ∷ []) }
         ensures unchanged { OnErr result (self.new ≡ self.old) }
     {
         let others = self.count();

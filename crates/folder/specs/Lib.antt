@@ -1,3 +1,3 @@
 pub mod Folder
-pub mod Seen
+pub mod Recorded
 pub mod Memory

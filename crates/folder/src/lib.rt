@@ -7,7 +7,7 @@
 mod file;
 mod folder;
 mod memory;
-mod seen;
+mod recorded;
 #[cfg(test)]
 mod tests;
 

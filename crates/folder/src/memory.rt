@@ -7,7 +7,7 @@ ghost use Rattle.folder.specs.Folder.{after_open, after_journal, found_or_made, 
 ghost use Rattle.folder.specs.Memory.{never_fails, bytes_under, shown_by, call_of, handed_out, outages_of, lent_out};
 ghost use Rattle.folder.specs.Memory.{with_call, with_failure, with_files, with_lent, IsThere, place_in};
 
-use crate::seen::{Seen, seen_text};
+use crate::recorded::{Recorded, recorded_text};
 use crate::{Folder, MemoryFile};
 use cell_value::{Bytes, Items, NoMemory, Text, is_among};
 use desk::{Keeper, LoadFault, MemoryKeeper};
@@ -22,7 +22,7 @@ use std::marker::Model;
 pub struct MemoryFolder {
     files: Vec<(Text, Bytes)>,
     failing: Items<Text>,
-    asked: Seen<(Seen<u8>, Option<bool>)>,
+    asked: Recorded<(Recorded<u8>, Option<bool>)>,
     lent: Vec<Text>,
     failures: u64,
     keeper_failures: u64,
@@ -64,7 +64,7 @@ impl MemoryFolder {
         MemoryFolder {
             files,
             failing,
-            asked: Seen::new(),
+            asked: Recorded::new(),
             lent,
             failures: 0,
             keeper_failures: 0,
@@ -82,7 +82,7 @@ impl MemoryFolder {
     fn note(&mut self, name: &str, make: Option<bool>)
         ensures { self.new ≡ with_call (call_of (name.now, make)) self.old }
     {
-        self.asked.push((seen_text(name), make));
+        self.asked.push((recorded_text(name), make));
     }
 
     // Takes note of a call that failed.

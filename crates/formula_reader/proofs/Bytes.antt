@@ -62,7 +62,8 @@ reference_alone own written is = inl (written, fits_again (token.Reference writt
 
 titled_alone : (own title : List ℕ) (written : MarkedArea) → IsLexeme (token.TitledReference title written) own
     → IsReferenceText own
-titled_alone own title written is = inr (title, written, fits_again (token.TitledReference title written) own [] is refl)
+titled_alone own title written is =
+    inr (title, written, fits_again (token.TitledReference title written) own [] is refl)
 
 -- and stands for what is read of it, lost or not
 area_text : (own : List ℕ) (named : Bool) (written : MarkedArea) (area : Option Area) → IsReferenceText own

@@ -65,7 +65,8 @@ cuts_of rest from before (placed ∷ later) less are all cells =
 
 -- and so it can, where its tokens are told
 pub found_cuts : {E : Type 0} (text behind : List ℕ) (told : Result (Option (List Placed)) E) → text ≡ 61 ∷ behind
-    → IfOk told (λ found. IfSome found (AreTokens behind 0)) → IfOk told (λ found. IfSome found (All (HasBoundaries behind)))
+    → IfOk told (λ found. IfSome found (AreTokens behind 0))
+    → IfOk told (λ found. IfSome found (All (HasBoundaries behind)))
     → IfOk told (λ found. IfSome found (All (λ placed. HasCells placed.token)))
     → IfOk told (λ found. IfSome found (Cuts text 0))
 found_cuts text behind (Err error) begins are all cells = tt

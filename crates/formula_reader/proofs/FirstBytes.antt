@@ -130,7 +130,8 @@ module _ (inside : List ℕ) where
         → Reads IsBehindTitle behind (Some (w, rest)) → Reads (FitsFirst forms) (39 ∷ inside)
         (Some (TitledReference title w, rest))
     quoted_title_read some w rest reference =
-        fits_here Titled behind_titled (39 ∷ inside) (TitledReference title w, rest) (quoted_title_here some w rest reference)
+        fits_here Titled behind_titled (39 ∷ inside) (TitledReference title w, rest)
+        (quoted_title_here some w rest reference)
 
   -- a text, from behind its first "
   no_text_before : (answer : Option (Token × List ℕ))

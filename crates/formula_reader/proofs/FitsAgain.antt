@@ -1,5 +1,5 @@
 -- A lexeme is its token again before whatever leaves it as it is.
-use Rattle.formula_reader.proofs.Runs.{run_is_one}
+use Rattle.a1_notation.specs.OneRun.{run_is_one}
 use Rattle.std.proofs.Common.{◌≡◌, ℕ, Bool, true, false, List, [], ◌∷◌, ◌++◌, refl, sym, ap, ◌∙◌, inl, inr, arith, append_assoc, subst}
 use Rattle.std.specs.Prelude.{None, Some, ◌≢◌, ◌==◌, ◌&&◌, slice_index, if◌then◌else◌, pos, codes}
 use Rattle.std.specs.Char.{is_ascii_alphabetic, is_ascii_digit}

@@ -11,7 +11,8 @@ use Rattle.formula_reader.proofs.WordsAgain.{truth_fits, word_fits}
 pub fits_again : (token : Token) (own rest : List ℕ) → IsLexeme token own → IsBefore token rest
     → FitsFirst forms own token rest
 fits_again (token.Reference written) own rest is before = reference_fits own written rest is before
-fits_again (token.TitledReference title written) own rest is before = titled_reference_fits title own written rest is before
+fits_again (token.TitledReference title written) own rest is before =
+    titled_reference_fits title own written rest is before
 fits_again (token.Function name) own rest is before = rw is.0 (function_fits name rest is.1 before)
 fits_again (token.Word word) own rest is before = rw is.0 (word_fits word rest is.1 before)
 fits_again (token.Truth truth) own rest is before = truth_fits own truth rest is.0 is.1 before

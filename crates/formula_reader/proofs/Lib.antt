@@ -1,4 +1,3 @@
-pub mod Runs
 pub mod Marks
 pub mod Corners
 pub mod References

@@ -1,5 +1,5 @@
 -- Columns and rows with a $ before them or without one.
-use Rattle.formula_reader.proofs.Runs.{run_is_one}
+use Rattle.a1_notation.specs.OneRun.{run_is_one}
 use Rattle.std.proofs.Common.{◌≡◌, ℕ, ◌<◌, Bool, true, false, List, [], ◌∷◌, ◌++◌, length, refl, sym, ap, ◌∙◌, arith, subst}
 use Rattle.std.specs.Prelude.{Some, None}
 use Rattle.std.specs.List.{list_all}

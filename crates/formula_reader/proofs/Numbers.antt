@@ -1,5 +1,5 @@
 -- The number at the front of a text.
-use Rattle.formula_reader.proofs.Runs.{run_is_one}
+use Rattle.a1_notation.specs.OneRun.{run_is_one}
 use Rattle.std.proofs.Common.{◌≡◌, ℕ, ◌<◌, ◌≤◌, true, List, [], ◌∷◌, ◌++◌, length, get_or, refl, sym, ◌∙◌, arith}
 use Rattle.std.specs.Prelude.{◌≢◌, Some, None, Result, Ok, Err, pos}
 use Rattle.std.specs.Char.{is_ascii_digit, digit_value}

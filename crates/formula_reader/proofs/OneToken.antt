@@ -1,6 +1,6 @@
 -- A text begins with one token at most, and has one list of tokens at most.
 use Rattle.a1_notation.specs.Laws.{QuotesEndOnce}
-use Rattle.formula_reader.proofs.Runs.{run_is_one}
+use Rattle.a1_notation.specs.OneRun.{run_is_one}
 use Rattle.std.proofs.Common.{◌≡◌, ℕ, ◌-◌, ◌≤◌, true, List, [], ◌∷◌, ◌++◌, length, drop, refl, sym, ap, ◌∙◌, inl, inr, arith, subst, append_assoc}
 use Rattle.std.specs.Prelude.{◌≢◌, pos, slice_index, slice_range}
 use Rattle.std.specs.Char.{is_ascii_digit}

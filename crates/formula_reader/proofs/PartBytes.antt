@@ -1,5 +1,5 @@
 -- The bytes of a reference: ASCII letters, digits, $ and :, and not letters alone.
-use Rattle.formula_reader.proofs.Runs.{passes_weaker}
+use Rattle.a1_notation.specs.OneRun.{passes_weaker}
 use Rattle.std.proofs.Common.{◌≡◌, ℕ, Bool, true, false, List, [], ◌∷◌, ◌++◌, refl, sym, ap, ◌∙◌, arith, inl, inr}
 use Rattle.std.specs.Prelude.{◌||◌, ◌==◌}
 use Rattle.std.specs.Char.{is_ascii_alphabetic, is_ascii_alphanumeric, is_ascii_digit}

@@ -1,6 +1,6 @@
 -- The text that is printed for a reference is that reference, with the marks that are printed.
 use Rattle.a1_notation.specs.Laws.{A1Laws}
-use Rattle.formula_reader.proofs.Runs.{passes_weaker}
+use Rattle.a1_notation.specs.OneRun.{passes_weaker}
 use Rattle.std.proofs.Common.{◌≡◌, ℕ, ◌+◌, ◌-◌, ◌<◌, min, max, Bool, true, false, List, [], ◌∷◌, length, ◌++◌, refl, ◌∙◌, arith, inl, inr, append_assoc, append-nil}
 use Rattle.std.specs.Prelude.{◌||◌, ◌==◌, ◌&&◌, Some}
 use Rattle.std.specs.List.{list_all}

@@ -14,10 +14,12 @@ module _ (a1 : A1Laws) where
   tokens_of_once text one other are are' =
       let whole : 61 ∷ are.0 ≡ 61 ∷ are'.0 = sym are.1 ∙ are'.1 in
       let same : are.0 ≡ are'.0 = cc in
-      tokens_once a1.quotes_end are'.0 0 one other (subst (λ (behind : List ℕ). AreTokens behind 0 one) same are.2) are'.2
+      tokens_once a1.quotes_end are'.0 0 one other
+      (subst (λ (behind : List ℕ). AreTokens behind 0 one) same are.2) are'.2
 
   pub read_once : IsReadOnce
-  read_once sheets here text one other limit limit' (by_tokens tokens are is passes) (by_tokens tokens' are' is' passes') =
+  read_once sheets here text one other limit limit' (by_tokens tokens are is passes)
+      (by_tokens tokens' are' is' passes') =
       let same = tokens_of_once text tokens tokens' are are' in (
         is ∙ ap (λ list. record { pieces = pieces_from sheets here text 0 list }) same ∙ sym is',
         passes ∙ ap passed same ∙ sym passes',

@@ -73,7 +73,8 @@ module _ (sheets : Sheets) (here : ℕ) where
 
   module _ (a1 : A1Laws) (known : AreKnown sheets here) where
     -- one behind a title
-    titled_reference_seen : (title : List ℕ) (written : MarkedArea) (found : Option ℕ) → sheet_named sheets title ≡ found
+    titled_reference_seen : (title : List ℕ) (written : MarkedArea) (found : Option ℕ)
+        → sheet_named sheets title ≡ found
         → HasForm written.rows written.cols → IsSeen sheets here (titled_reference sheets written found)
     titled_reference_seen title written None is form = (tt, tt)
     titled_reference_seen title written (Some sheet) is form =
@@ -88,7 +89,8 @@ module _ (sheets : Sheets) (here : ℕ) where
         (part_form a1 own written (lexeme_of own (token.Reference written) rest tt fits))
     token_seen own (token.TitledReference title written) rest fits =
         let titled = lexeme_of own (token.TitledReference title written) rest tt fits in
-        titled_reference_seen title written (sheet_named sheets title) refl (part_form a1 titled.part written titled.names)
+        titled_reference_seen title written (sheet_named sheets title) refl
+        (part_form a1 titled.part written titled.names)
     token_seen own (token.Word word) rest fits = (tt, tt)
     token_seen own token.Lost rest fits = (tt, tt)
     token_seen own _ rest fits = tt

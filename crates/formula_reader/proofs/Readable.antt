@@ -52,7 +52,8 @@ module _ (a1 : A1Laws) (sheets : Sheets) (here : ℕ) (text behind : List ℕ) (
 
   pub read_references : IfOk result (HasReferences sheets here)
   read_references =
-      read_has (HasReferences sheets here) sheets here text tokens result (λ within. rw begins (pieces_referring a1 sheets here behind tokens are)) is
+      read_has (HasReferences sheets here) sheets here text tokens result
+      (λ within. rw begins (pieces_referring a1 sheets here behind tokens are)) is
 
   abbrev symbols : List Symbol
   symbols = symbols_read sheets here tokens

@@ -86,7 +86,8 @@ module _ (sheets : Sheets) (here : ℕ) where
 
   own_or_in_text : (t : Token) → IsOwnOrInText t (piece_of sheets here t)
   own_or_in_text (token.Reference written) = (area_symbol false written (area_on sheets here written), λ e. cc)
-  own_or_in_text (token.TitledReference title written) = (titled_reference_symbol written (sheet_named sheets title), λ e. cc)
+  own_or_in_text (token.TitledReference title written) =
+      (titled_reference_symbol written (sheet_named sheets title), λ e. cc)
   own_or_in_text (token.Word word) = (refl, λ e. cc)
   own_or_in_text token.Lost = (refl, λ e. cc)
   own_or_in_text (token.Function name) = (_, refl)

@@ -36,7 +36,7 @@ use Rattle.formula_reader.proofs.Lexemes.{Item, gap, lexeme, spelled, spell, Are
 use Rattle.formula_reader.proofs.Marks.{letters_all}
 use Rattle.formula_reader.proofs.OneToken.{first_once}
 use Rattle.formula_reader.proofs.Read.{none_read}
-use Rattle.formula_reader.proofs.Runs.{run_is_one}
+use Rattle.a1_notation.specs.OneRun.{run_is_one}
 use Rattle.formula_reader.proofs.Spelling.{lexeme_of, bracket_behind, word_ends, digits_end, quotes_end}
 use Rattle.formula_reader.proofs.Starts.{begins-front, none_starts}
 use Rattle.formula_reader.proofs.Titles.{no_title_mark, word_no_title, no_function}

@@ -1,5 +1,5 @@
 -- References to other sheets, and what else begins with a word.
-use Rattle.formula_reader.proofs.Runs.{run_is_one}
+use Rattle.a1_notation.specs.OneRun.{run_is_one}
 use Rattle.std.proofs.Common.{◌≡◌, ℕ, true, false, List, ◌∷◌, ◌++◌, refl, sym, ap, ◌∙◌, inl, inr, subst, append_assoc}
 use Rattle.std.specs.Prelude.{◌≢◌, Option, Some, None, IfSome, slice_index}
 use Rattle.std.proofs.lemmas.Bool.{false≢true}
@@ -141,7 +141,8 @@ module _ (text word behind : List ℕ) (whole : text ≡ word ++ behind) (is_wor
   -- which of these is the first
   pub first_titled : (w : MarkedArea) (rest : List ℕ) → Reads IsBehindTitle behind (Some (w, rest))
       → Reads (FitsFirst forms) text (Some (TitledReference word w, rest))
-  first_titled w rest reads = fits_here Titled behind_titled text (TitledReference word w, rest) (word_title w rest reads)
+  first_titled w rest reads =
+      fits_here Titled behind_titled text (TitledReference word w, rest) (word_title w rest reads)
 
   module _ (untitled : Reads IsBehindTitle behind None) where
     pub first_function : slice_index behind 0 ≡ 40 → Reads (FitsFirst forms) text (Some (Function word, behind))

@@ -18,7 +18,8 @@ module _ (P : Piece → Type 0) (reference_has : (reference : Ref) → P (piece.
   area_has named written None = lost_has
   area_has named written (Some area) = reference_has (record { named = named; area = area; marks = written.marks })
 
-  titled_reference_has : (sheets : Sheets) (written : MarkedArea) (sheet : Option ℕ) → P (titled_reference sheets written sheet)
+  titled_reference_has : (sheets : Sheets) (written : MarkedArea) (sheet : Option ℕ)
+      → P (titled_reference sheets written sheet)
   titled_reference_has sheets written None = lost_has
   titled_reference_has sheets written (Some sheet) = area_has true written (area_on sheets sheet written)
 

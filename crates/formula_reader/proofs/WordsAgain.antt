@@ -1,5 +1,5 @@
 -- A word and a truth value are read again where they are followed by the end of an operand.
-use Rattle.formula_reader.proofs.Runs.{passes_weaker}
+use Rattle.a1_notation.specs.OneRun.{passes_weaker}
 use Rattle.std.specs.Prelude.{codes}
 use Rattle.std.proofs.Common.{◌≡◌, ℕ, Bool, true, false, List, [], ◌∷◌, ◌++◌, refl, sym, ap, ◌∙◌, arith, inl, inr, append_assoc, subst}
 use Rattle.std.specs.Char.{is_ascii_alphabetic, to_ascii_lowercase}
@@ -53,7 +53,8 @@ same_letters own name all same =
     passes_weaker (λ b. is_ascii_alphabetic (to_ascii_lowercase b)) is_ascii_alphabetic lowered_letter own
     (sym (list_all-map is_ascii_alphabetic to_ascii_lowercase own) ∙ ap (list_all is_ascii_alphabetic) lowered ∙ all)
 
-pub truth_letters : (own : List ℕ) (truth : Bool) → word_token own ≡ Truth truth → list_all is_ascii_alphabetic own ≡ true
+pub truth_letters : (own : List ℕ) (truth : Bool) → word_token own ≡ Truth truth
+    → list_all is_ascii_alphabetic own ≡ true
 truth_letters own truth is =
     elim (cases_Bool (str_eq_ignore_ascii_case own (codes "TRUE"))) [
       | inl same ↦ same_letters own (codes "TRUE") refl same

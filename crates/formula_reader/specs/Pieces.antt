@@ -91,7 +91,8 @@ formula_of sheets here text tokens = within_limits (passed tokens) (pieces_from 
 
 -- what a text is read as in a formula of the sheet `here`, whatever limits it passes, and the first one that it does:
 -- by its tokens, and as one piece where it has none
-pub data IsRead (sheets : Sheets) (here : ℕ) (text : List ℕ) (formula : Formula) (limit : Option FormulaFault) : Type 0 where
+pub data IsRead (sheets : Sheets) (here : ℕ) (text : List ℕ) (formula : Formula) (limit : Option FormulaFault) :
+    Type 0 where
   by_tokens : (tokens : List Placed) → AreTokensOf text tokens
       → formula ≡ record { pieces = pieces_from sheets here text 0 tokens } → limit ≡ passed tokens
       → IsRead sheets here text formula limit

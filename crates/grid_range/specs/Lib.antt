@@ -1,5 +1,6 @@
 pub mod Band
 pub mod Area
+pub mod ByRows
 pub mod Change
 pub mod Order
 pub mod NameBand

@@ -191,7 +191,8 @@ module _ {T E : Type 0} (list : T → List E) (pair : T → ℕ × ℕ) (caller 
       let done : AreSilent caller v.met (list x) = subst (AreSilent caller v.met) (sym home.list_is) known.done in
       let sees : StartsWith (list x) v.seen = (known.seen.0, home.list_is ∙ known.seen.1) in
       let entries : All (λ e. caller e < k.drawn) (drop (length (list start)) (list x)) =
-      subst (λ all. All (λ e. caller e < k.drawn) (drop (length (list start)) all)) (sym home.list_is) k.kept.entries in (
+      subst (λ all. All (λ e. caller e < k.drawn) (drop (length (list start)) all)) (sym home.list_is)
+      k.kept.entries in (
         w,
         takes 0 (Some x),
         ap (λ hs. get_elem? hs 0) home.home,
@@ -300,7 +301,8 @@ module _ {T E : Type 0} (list : T → List E) (pair : T → ℕ × ℕ) (caller 
       (λ g. absurd (live g))
       (apart_same list pair caller start most views id v (record v { stage = stage; seen = list x; mine = list x }) at
       (λ n. (n, refl)) k.apart)
-      (λ number lt. drawn_set views id v (record v { stage = stage; seen = list x; mine = list x }) number at (λ has. has)
+      (λ number lt. drawn_set views id v (record v { stage = stage; seen = list x; mine = list x }) number
+      at (λ has. has)
       (k.drawn_by number lt))
 
   pub leaves : (slots id : ℕ) (v : View E) (x : T) → v.stage ≡ Holds → v.numbered ≡ true → StartsWith (list x) v.seen
@@ -414,7 +416,8 @@ module _ {T E : Type 0} (list : T → List E) (pair : T → ℕ × ℕ) (caller 
       → StartsWith (list x) m.0.seen → AllOf caller m.0.number (drop (length m.0.seen) (list x)) → pair x ≡ m.0.pair
       → Allows (Kept list pair caller start most) slots id m 0 (λ _. 0) (λ _. Left list caller m)
   leaves_at slots id m x slot holds numbered longer own pair_is =
-      subst (λ c. Allows (Kept list pair caller start most) slots id (m.0, c) 0 (λ _. 0) (λ _. Left list caller (m.0, c)))
+      subst (λ c. Allows (Kept list pair caller start most) slots id (m.0, c) 0 (λ _. 0)
+      (λ _. Left list caller (m.0, c)))
       (sym slot) (leaves slots id m.0 x holds numbered longer own pair_is)
 
   pub readies_at : (slots id : ℕ) (m : Me (Maybe T) (View E)) (x : T) → m.1 ≡ (0, Some x) ∷ [] → m.0.stage ≡ Holds

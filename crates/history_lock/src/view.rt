@@ -23,8 +23,8 @@ pub enum Drawing {
 /// passes that it took in, each with the length of the list that that one had seen. `seen` is the list that it has
 /// seen; of the last join, `mine` is the list that it had seen before and `heard` the shorter of both lists. `drawing`
 /// says whether it draws numbers, `count` is a count of drawn numbers that it has read, and `given` the greatest number
-/// that a split gave. `start`, `pair` and `most` are the list and the pair of the value at the opening and the number of
-/// callers, which no step changes.
+/// that a split gave. `start`, `pair` and `most` are the list and the pair of the value at the opening and the number
+/// of callers, which no step changes.
 pub struct View<E> {
     pub stage: Stage,
     pub numbered: bool,

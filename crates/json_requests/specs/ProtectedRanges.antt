@@ -144,12 +144,14 @@ update_of parts = request.UpdateProtectedRange parts.0.0 (masked_patch (parts.0.
 abbrev pub update_protected_range : Fields Request
 update_protected_range =
     making update_of
-    (masked (codes "protectedRange") (object_of changed_protected_range) (λ body. protection_paths (stated_protection body)))
+    (masked (codes "protectedRange") (object_of changed_protected_range)
+    (λ body. protection_paths (stated_protection body)))
 
 -- the mask of a request takes a path
 abbrev pub takes_of : List ℕ → Data → Bool
 takes_of path asked =
-    option_map_or (λ mask. option_map_or (λ paths. takes paths path) (as_str mask) false) (member_of (codes "fields") (Some asked)) false
+    option_map_or (λ mask. option_map_or (λ paths. takes paths path) (as_str mask) false)
+    (member_of (codes "fields") (Some asked)) false
 
 -- the mask doesn't take unprotected ranges beside a part of a sheet
 abbrev pub keeps_taken_parts : Data → Bool

@@ -50,7 +50,8 @@ joined-item done (Some fault) item (Err other) = refl
 
 pub joined-fault : {A : Type 0} → (done : List A) (fault : Option ShapeFault) (other : ShapeFault)
     (rest : Reading (List A))
-    → joined done (Some (with_fault fault other)) rest ≡ joined done fault (made one_more (both {A = A} (Err other) rest))
+    → joined done (Some (with_fault fault other)) rest
+    ≡ joined done fault (made one_more (both {A = A} (Err other) rest))
 joined-fault done None other (Ok rest) = refl
 joined-fault done None other (Err more) = refl
 joined-fault done (Some fault) other (Ok rest) = refl

@@ -21,7 +21,7 @@ use Rattle.values_api.specs.Blocks.{contents_of, rows_needed}
 use Rattle.values_api.specs.Denials.{IsDenial, IsWriteBy, WriteCells}
 use Rattle.values_api.specs.declared.appending.Added.{Added}
 use Rattle.values_api.specs.declared.table.Rectangle.{Rectangle}
-use Rattle.values_api.specs.declared.writing.Written.{Written}
+use Rattle.values_api.specs.declared.writing.WrittenCells.{WrittenCells}
 use Rattle.json_requests.specs.declared.request.Request.{Request}
 use Rattle.json_requests.specs.declared.request.Request.TheVariants as request
 use Rattle.sheets_json.specs.declared.spreadsheet.Reply.{Reply}
@@ -76,7 +76,8 @@ module _ (denials : DenialsByName) (user : List ℕ) where
       → ¬ (IsNamedBy named.book cells id row col)
   not_touched book cells none named stands id row col protected touched =
       let (k, one, there, is, denies) =
-      (denials.denied book named.book user id touched.row_place touched.col_place row col stands.stands touched.row_there
+      (denials.denied book named.book user id touched.row_place touched.col_place row col stands.stands
+      touched.row_there
       touched.col_there).1 protected in
       none k one there (subst (DeniesOne user book.owner cells) (sym is) (record {
         sheet = id;
@@ -123,7 +124,8 @@ module _ (denials : DenialsByName) (user : List ℕ) where
 
     -- ---- rows that are appended
 
-    pub rows_parts : (sheet at count : ℕ) (rows : Block) (book : PlaceBook) (area : Area) (told : Reply × List BookChange)
+    pub rows_parts : (sheet at count : ℕ) (rows : Block) (book : PlaceBook) (area : Area)
+        (told : Reply × List BookChange)
         → AreRowsWrittenBy user (added_on sheet Rows at count) rows book area (as_reply told)
         → LeavesProtectedInParts user book told.1
     rows_parts sheet at count rows book area told is =
@@ -131,25 +133,30 @@ module _ (denials : DenialsByName) (user : List ℕ) where
         let between = is.between in
         let cells = WriteCells between.sheets true area rows in
         let put : AreRowsPut first rows true between area (as_reply told) =
-        subst (AreRowsPut first rows true between area) (done_of is.put.denied is.put.done told is.put.told_is) is.put.is in
+        subst (AreRowsPut first rows true between area) (done_of is.put.denied is.put.done told is.put.told_is)
+        is.put.is in
         let later = cells_updated area.sheet (contents_of put.writes.entries) in
         two_parts book between cells first later told.1
-        (sym (match_changes put.wrote told (λ counts. (reply_of.Empty, first ++ later)) (first ++ later) (λ counts. refl)
+        (sym (match_changes put.wrote told (λ counts. (reply_of.Empty, first ++ later)) (first ++ later)
+        (λ counts. refl)
         put.tells))
         is.changed (λ named id row col there. added_leave named sheet Rows at count id row col there)
-        (subst (IsDenial user between cells) (none_denied is.put.denied is.put.done told is.put.told_is) is.put.is_denied)
+        (subst (IsDenial user between cells) (none_denied is.put.denied is.put.done told is.put.told_is)
+        is.put.is_denied)
         (write_leave true area rows put.sheet between put.after put.wrote put.writes put.there)
 
     from_parts : (sheet row : ℕ) (rows : Block) (book : PlaceBook) (found : PlaceSheet) (told : Reply × List BookChange)
         (broken : Option Rule)
-        → UnlessBroken broken (AreRowsWrittenBy user (added_on sheet Rows found.table.rows (rows_missing row rows found)) rows
+        → UnlessBroken broken
+        (AreRowsWrittenBy user (added_on sheet Rows found.table.rows (rows_missing row rows found)) rows
         book (from_row sheet row)) (as_reply told)
         → LeavesProtectedInParts user book told.1
     from_parts sheet row rows book found told None is =
         rows_parts sheet found.table.rows (rows_missing row rows found) rows book (from_row sheet row) told is
     from_parts sheet row rows book found told (Some broken) is = absurd (reply_apart told broken is)
 
-    unless_parts : (b : Bool) (sheet : ℕ) (rows : Block) (book : PlaceBook) (found : PlaceSheet) (told : Reply × List BookChange)
+    unless_parts : (b : Bool) (sheet : ℕ) (rows : Block) (book : PlaceBook) (found : PlaceSheet)
+        (told : Reply × List BookChange)
         → UnlessNone b (AreRowsAppended user sheet rows book found) (as_reply told)
         → LeavesProtectedInParts user book told.1
     unless_parts true sheet rows book found told is =
@@ -172,7 +179,7 @@ module _ (denials : DenialsByName) (user : List ℕ) where
     -- ---- values that are appended
 
     pub appended_parts : (sheet : ℕ) (added : Added) (start : ℕ × ℕ) (block : Block) (table : Option Rectangle)
-        (changes : List BookChange) (before after : PlaceBook) (made : Option Area × Written)
+        (changes : List BookChange) (before after : PlaceBook) (made : Option Area × WrittenCells)
         → IsValuesAppended user sheet added start block table changes before after (Ok made)
         → LeavesProtectedInParts user before changes
     appended_parts sheet added start block table changes before after made is =
@@ -192,7 +199,8 @@ module _ (denials : DenialsByName) (user : List ℕ) where
 module _ (keep : UntouchedCellsKeep) (stays : LeftCellsStay) (denials : DenialsByName) (user : List ℕ) where
   by_kind_parts : (project : List ℕ) (book : PlaceBook) (asked : Request) (denied : Option ℕ) → denied ≡ None
       → IsDenial user book (TouchedCells book.sheets asked) denied → (reply : Reply) (changes : List BookChange)
-      → appends_rows asked ≡ false → IsDoneByKind user project book asked (Ok (reply, changes)) → LeavesProtectedInParts user book changes
+      → appends_rows asked ≡ false → IsDoneByKind user project book asked (Ok (reply, changes))
+      → LeavesProtectedInParts user book changes
   by_kind_parts project book asked denied none is_denied reply changes other is =
       one_part denials user book (TouchedCells book.sheets asked) changes
       (subst (IsDenial user book (TouchedCells book.sheets asked)) none is_denied)
@@ -210,7 +218,8 @@ module _ (keep : UntouchedCellsKeep) (stays : LeftCellsStay) (denials : DenialsB
   done_parts project book (request.DeleteSheet sheet) denied none is_denied reply changes is =
       by_kind_parts project book (request.DeleteSheet sheet) denied none is_denied reply changes refl is
   done_parts project book (request.UpdateSheetProperties sheet properties) denied none is_denied reply changes is =
-      by_kind_parts project book (request.UpdateSheetProperties sheet properties) denied none is_denied reply changes refl is
+      by_kind_parts project book (request.UpdateSheetProperties sheet properties) denied none is_denied reply
+      changes refl is
   done_parts project book (request.InsertDimension range inherits) denied none is_denied reply changes is =
       by_kind_parts project book (request.InsertDimension range inherits) denied none is_denied reply changes refl is
   done_parts project book (request.DeleteDimension range) denied none is_denied reply changes is =
@@ -242,20 +251,24 @@ module _ (keep : UntouchedCellsKeep) (stays : LeftCellsStay) (denials : DenialsB
   done_parts project book (request.CreateDeveloperMetadata item) denied none is_denied reply changes is =
       by_kind_parts project book (request.CreateDeveloperMetadata item) denied none is_denied reply changes refl is
   done_parts project book (request.UpdateDeveloperMetadata filters patch) denied none is_denied reply changes is =
-      by_kind_parts project book (request.UpdateDeveloperMetadata filters patch) denied none is_denied reply changes refl is
+      by_kind_parts project book (request.UpdateDeveloperMetadata filters patch) denied none is_denied reply
+      changes refl is
   done_parts project book (request.DeleteDeveloperMetadata filter) denied none is_denied reply changes is =
       by_kind_parts project book (request.DeleteDeveloperMetadata filter) denied none is_denied reply changes refl is
 
-  pub request_parts : (project : List ℕ) (book : PlaceBook) (asked : Request) (reply : Reply) (changes : List BookChange)
+  pub request_parts : (project : List ℕ) (book : PlaceBook) (asked : Request) (reply : Reply)
+      (changes : List BookChange)
       → IsDoneAsAsked user project book asked (Ok (reply, changes)) → LeavesProtectedInParts user book changes
   request_parts project book asked reply changes is =
-      done_parts project book asked is.denied (none_denied is.denied is.done (reply, changes) is.told_is) is.is_denied reply changes
+      done_parts project book asked is.denied (none_denied is.denied is.done (reply, changes) is.told_is) is.is_denied
+      reply changes
       (subst (IsDoneByKind user project book asked) (done_of is.denied is.done (reply, changes) is.told_is) is.is)
 
 -- ---- values that are written
 
 pub write_parts : UntouchedCellsKeep → DenialsByName → (user : List ℕ) (one_cell : Bool) (area : Area) (block : Block)
-    (sheet : PlaceSheet) (before after : PlaceBook) (counts : Written) → place_sheet_with area.sheet before.sheets ≡ Some sheet
+    (sheet : PlaceSheet) (before after : PlaceBook) (counts : WrittenCells) → place_sheet_with area.sheet before.sheets
+    ≡ Some sheet
     → (writes : IsWriteBy user one_cell area block sheet before after (Ok counts))
     → LeavesProtectedInParts user before (cells_updated area.sheet (contents_of writes.is.entries))
 write_parts keep denials user one_cell area block sheet before after counts is writes =

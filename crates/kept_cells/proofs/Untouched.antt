@@ -61,22 +61,27 @@ use Rattle.kept_cells.proofs.UntouchedRows.{cells_from_leave, on_area_done}
 -- ---- one change
 
 -- what is told where no rule is broken leaves what its changes leave
-judged_leave : (book : PlaceBook) (cells : Cells) (broken : Broken) (reply reply' : Reply) (changes changes' : List BookChange)
+judged_leave : (book : PlaceBook) (cells : Cells) (broken : Broken) (reply reply' : Reply)
+    (changes changes' : List BookChange)
     → Leave [] cells book changes' → as_reply (reply, changes) ≡ judged_by broken (reply', changes')
     → Leave [] cells book changes
 judged_leave book cells broken reply reply' changes changes' leave is =
     subst (Leave [] cells book) (changes_told (first_broken broken) reply reply' changes changes' is) leave
 
-protections_leave : (book : PlaceBook) (protections : List Protection) → Leave [] NoCells book (ProtectionsSet protections ∷ [])
+protections_leave : (book : PlaceBook) (protections : List Protection)
+    → Leave [] NoCells book (ProtectionsSet protections ∷ [])
 protections_leave book protections =
     plain_leave NoCells book (ProtectionsSet protections) (λ named id row col. tt) (λ id. tt)
 
-protection_added_leave : (user : List ℕ) (id : Option ℕ) (patch : ProtectionPatch) (book : PlaceBook) (first : Option Rule)
+protection_added_leave : (user : List ℕ) (id : Option ℕ) (patch : ProtectionPatch) (book : PlaceBook)
+    (first : Option Rule)
     (reply : Reply) (changes : List BookChange) → IsProtectionAdded user id patch book first (as_reply (reply, changes))
     → Leave [] NoCells book changes
-protection_added_leave user id patch book (Some broken) reply changes is = absurd (reply_apart (reply, changes) broken is)
+protection_added_leave user id patch book (Some broken) reply changes is =
+    absurd (reply_apart (reply, changes) broken is)
 protection_added_leave user id patch book None reply changes (new, is_new, is) =
-    subst (Leave [] NoCells book) (reply_changes (reply, changes) (put_among user book (protection_made user patch book new)) is)
+    subst (Leave [] NoCells book)
+    (reply_changes (reply, changes) (put_among user book (protection_made user patch book new)) is)
     (protections_leave book (with_one_more (protection_made user patch book new) book.protections))
 
 metadata_leaves : (book : PlaceBook) (items : List Item) → Leave [] NoCells book (MetadataSet items ∷ [])
@@ -95,12 +100,14 @@ items_updated_leave : (project : List ℕ) (asked : List MetadataLookup) (patch 
     (first : Option Rule) (reply : Reply) (changes : List BookChange)
     → UnlessBroken first (IsMetadataUpdated project asked patch book) (as_reply (reply, changes))
     → Leave [] NoCells book changes
-items_updated_leave project asked patch book (Some broken) reply changes is = absurd (reply_apart (reply, changes) broken is)
+items_updated_leave project asked patch book (Some broken) reply changes is =
+    absurd (reply_apart (reply, changes) broken is)
 items_updated_leave project asked patch book None reply changes is =
     subst (Leave [] NoCells book) (reply_changes (reply, changes) _ is.told_is)
     (metadata_leaves book (metadata_updated project asked patch book))
 
-items_deleted_leave : (project : List ℕ) (asked : MetadataLookup) (book : PlaceBook) (first : Option Rule) (reply : Reply)
+items_deleted_leave : (project : List ℕ) (asked : MetadataLookup) (book : PlaceBook) (first : Option Rule)
+    (reply : Reply)
     (changes : List BookChange) → UnlessBroken first (IsMetadataDeleted project asked book) (as_reply (reply, changes))
     → Leave [] NoCells book changes
 items_deleted_leave project asked book (Some broken) reply changes is = absurd (reply_apart (reply, changes) broken is)
@@ -123,15 +130,18 @@ range_put_leave asked book area reply changes put = go put.added put.tells
   where
     go : (added : Result (List ℕ) Rule)
         → MatchResult added
-        (λ id. as_reply (reply, changes) ≡ judged_by (names_broken (length book.ranges + 1)) (put_behind (range_of id asked.name area)))
+        (λ id. as_reply (reply, changes)
+        ≡ judged_by (names_broken (length book.ranges + 1)) (put_behind (range_of id asked.name area)))
         (λ broken. as_reply (reply, changes) ≡ Err broken)
         → Leave [] NoCells book changes
-    go (Ok id) is = judged_leave book NoCells (names_broken (length book.ranges + 1)) reply _ changes (RangeAdded (range_of id asked.name area) ∷ [])
+    go (Ok id) is = judged_leave book NoCells (names_broken (length book.ranges + 1)) reply _ changes
+        (RangeAdded (range_of id asked.name area) ∷ [])
         (plain_leave NoCells book (RangeAdded (range_of id asked.name area)) (λ named id row col. tt) (λ id. tt)) is
     go (Err broken) is = absurd (reply_apart (reply, changes) broken is)
 
 range_changed_leave : (id : List ℕ) (name : Option (List ℕ)) (book : PlaceBook) (area : Option Area) (reply : Reply)
-    (changes : List BookChange) → IsRangeSet id name book area (as_reply (reply, changes)) → Leave [] NoCells book changes
+    (changes : List BookChange) → IsRangeSet id name book area (as_reply (reply, changes))
+    → Leave [] NoCells book changes
 range_changed_leave id name book area reply changes set =
     subst (Leave [] NoCells book)
     (match_changes set.updated (reply, changes) (λ done. (reply_of.Empty, range_updates id name area book.ranges))
@@ -161,7 +171,8 @@ module _ (apart : ChangesApart) (turns : ChangesInTurn) (user project : List ℕ
   update_cells_leave rows (Start cell) is = cells_from_leave apart turns rows cell book reply changes is
   update_cells_leave rows (Range range) is = range_leave rows range book reply changes is
 
-  pub by_kind_leave : (asked : Request) → appends_rows asked ≡ false → IsDoneByKind user project book asked (as_reply (reply, changes))
+  pub by_kind_leave : (asked : Request) → appends_rows asked ≡ false
+      → IsDoneByKind user project book asked (as_reply (reply, changes))
       → Leaves (TouchedCells book.sheets asked)
   by_kind_leave (request.UpdateCells rows area) none is = update_cells_leave rows area is
   by_kind_leave (request.AppendCells sheet rows) none is = absurd (false≢true (sym none))
@@ -169,7 +180,8 @@ module _ (apart : ChangesApart) (turns : ChangesInTurn) (user project : List ℕ
       sheet_added_leave book (unwrap_or given any_properties)
       (first_broken (sheet_added_broken (unwrap_or given any_properties) book.sheets)) reply changes refl is
   by_kind_leave (request.DeleteSheet sheet) none is =
-      judged_leave book _ (sheet_dropped_broken sheet book.sheets) reply reply_of.Empty changes (SheetDeleted sheet ∷ [])
+      judged_leave book _ (sheet_dropped_broken sheet book.sheets) reply reply_of.Empty changes
+      (SheetDeleted sheet ∷ [])
       (sheet_deleted_leave book sheet) is
   by_kind_leave (request.UpdateSheetProperties sheet properties) none is =
       judged_leave book _ (properties_broken sheet properties book.sheets) reply reply_of.Empty changes
@@ -190,9 +202,11 @@ module _ (apart : ChangesApart) (turns : ChangesInTurn) (user project : List ℕ
   by_kind_leave (request.AddNamedRange asked) none is =
       range_put_leave asked book _ reply changes
       (on_area_done book.sheets asked.range (IsRangePut asked book) (reply, changes) is)
-  by_kind_leave (request.UpdateNamedRange id name range) none is = update_range_leave id name range book reply changes is
+  by_kind_leave (request.UpdateNamedRange id name range) none is =
+      update_range_leave id name range book reply changes is
   by_kind_leave (request.DeleteNamedRange id) none is =
-      judged_leave book NoCells (range_deleted_broken id book.ranges) reply reply_of.Empty changes (RangeDeleted id ∷ [])
+      judged_leave book NoCells (range_deleted_broken id book.ranges) reply reply_of.Empty changes
+      (RangeDeleted id ∷ [])
       (plain_leave NoCells book (RangeDeleted id) (λ named id row col. tt) (λ id. tt)) is
   by_kind_leave (request.AddProtectedRange id patch) none is =
       protection_added_leave user id patch book (first_broken (protection_added_broken id patch book)) reply changes is
@@ -202,7 +216,8 @@ module _ (apart : ChangesApart) (turns : ChangesInTurn) (user project : List ℕ
       (protections_leave book (protections_updated user id patch book)) is
   by_kind_leave (request.DeleteProtectedRange id) none is =
       judged_leave book NoCells (protection_deleted_broken user id book) reply reply_of.Empty changes
-      (ProtectionsSet (without_id id book.protections) ∷ []) (protections_leave book (without_id id book.protections)) is
+      (ProtectionsSet (without_id id book.protections) ∷ [])
+      (protections_leave book (without_id id book.protections)) is
   by_kind_leave (request.SetBasicFilter filter) none is =
       let found = place_sheet_with filter.area.sheet book.sheets in
       judged_leave book NoCells (broken_by_filter found filter) reply reply_of.Empty changes
@@ -217,4 +232,5 @@ module _ (apart : ChangesApart) (turns : ChangesInTurn) (user project : List ℕ
       items_updated_leave project filters patch book (first_broken (metadata_updated_broken filters patch book)) reply
       changes is
   by_kind_leave (request.DeleteDeveloperMetadata filter) none is =
-      items_deleted_leave project filter book (first_broken (broken_by_lookups book.sheets (filter ∷ []))) reply changes is
+      items_deleted_leave project filter book (first_broken (broken_by_lookups book.sheets (filter ∷ [])))
+      reply changes is

@@ -62,7 +62,8 @@ there_then id row col (change ∷ changes) named there (leaves, still, leave) =
 -- the row and the column stand there
 abbrev pub IsAt : NameBook → ℕ → ℕ → ℕ → ℕ → ℕ → Type 0
 IsAt book id row col r c =
-    (slice_get (orders_of book.sheets id Rows) r ≡ Some row) × (slice_get (orders_of book.sheets id Columns) c ≡ Some col)
+    (slice_get (orders_of book.sheets id Rows) r ≡ Some row)
+    × (slice_get (orders_of book.sheets id Columns) c ≡ Some col)
 
 pub is_somewhere : (book : NameBook) (id row col : ℕ) → HasCell id row col book
     → (r : ℕ) × (c : ℕ) × IsAt book id row col r c
@@ -100,7 +101,8 @@ module _ (sheets : List NameSheet) (P : NameSheet → Type 0) where
   placed_first false true sheet names rest rest' same stands behind holds = absurd (false≢true (sym same))
   placed_first false false sheet names rest rest' same stands behind holds = behind holds
 
-  placed_by_name : (id : ℕ) (some : List PlaceSheet) (names : List NameSheet) → AllZip (SheetStandsFor sheets) some names
+  placed_by_name : (id : ℕ) (some : List PlaceSheet) (names : List NameSheet)
+      → AllZip (SheetStandsFor sheets) some names
       → IsSomeAnd (sheet_with id names) P → StandsFound sheets (place_sheet_with id some) (sheet_with id names)
   placed_by_name id [] [] all holds = absurd holds
   placed_by_name id [] (n ∷ ns) all holds = absurd all

@@ -125,7 +125,8 @@ module _ (book : PlaceBook) (range : DimensionRange) (named : Named) (stands : N
   IsOnAxis Rows k = slice_get (orders_of named.book.sheets range.sheet_id Rows) k ≡ Some row
   IsOnAxis Columns k = slice_get (orders_of named.book.sheets range.sheet_id Columns) k ≡ Some col
 
-  sheet_same : (axis : Axis) → (with_band axis (whole_sheet range.sheet_id) (Span range.start_index (end_of range book.sheets))).sheet
+  sheet_same : (axis : Axis)
+      → (with_band axis (whole_sheet range.sheet_id) (Span range.start_index (end_of range book.sheets))).sheet
       ≡ range.sheet_id
   sheet_same Rows = refl
   sheet_same Columns = refl
@@ -138,24 +139,29 @@ module _ (book : PlaceBook) (range : DimensionRange) (named : Named) (stands : N
       somewhere = is_somewhere named.book id row col there
 
       held : (axis : Axis) → axis ≡ range.dimension → (r c : ℕ) → IsAt named.book id row col r c
-          → Holds (with_band axis (whole_sheet range.sheet_id) (Span range.start_index (end_of range book.sheets))) r c → ⊥
+          → Holds (with_band axis (whole_sheet range.sheet_id)
+          (Span range.start_index (end_of range book.sheets))) r c → ⊥
       held axis same r c at' holds =
           let is : lines_area range book.sheets
           ≡ with_band axis (whole_sheet range.sheet_id) (Span range.start_index (end_of range book.sheets)) =
-          ap (λ on. with_band on (whole_sheet range.sheet_id) (Span range.start_index (end_of range book.sheets))) (sym same) in
+          ap (λ on. with_band on (whole_sheet range.sheet_id) (Span range.start_index (end_of range book.sheets)))
+          (sym same) in
           not_held r c at' (own ∙ sym (sheet_same range.dimension)) (subst (λ area. Holds area r c) (sym is) holds)
 
       go : (axis : Axis) → axis ≡ range.dimension → IsOnAxis axis k → ⊥
       go Rows same at' =
           let (r, c, here) = somewhere in
-          held Rows same k c (subst (λ n. slice_get (orders_of named.book.sheets n Rows) k ≡ Some row) (sym own) at', here.1)
+          held Rows same k c
+          (subst (λ n. slice_get (orders_of named.book.sheets n Rows) k ≡ Some row) (sym own) at', here.1)
           ((late, early), tt)
       go Columns same at' =
           let (r, c, here) = somewhere in
-          held Columns same r k (here.0, subst (λ n. slice_get (orders_of named.book.sheets n Columns) k ≡ Some col) (sym own) at')
+          held Columns same r k
+          (here.0, subst (λ n. slice_get (orders_of named.book.sheets n Columns) k ≡ Some col) (sym own) at')
           (tt, (late, early))
 
-  pub deleted_stay : LineStays named range.sheet_id range.dimension (Delete range.start_index (end_of range book.sheets)) id row col
+  pub deleted_stay : LineStays named range.sheet_id range.dimension
+      (Delete range.start_index (end_of range book.sheets)) id row col
   deleted_stay =
       let order = orders_of named.book.sheets range.sheet_id range.dimension in
       record {
@@ -177,7 +183,8 @@ deleted_leave book range reply changes =
 
 -- ---- sheets
 
-pub sheet_deleted_leave : (book : PlaceBook) (sheet : ℕ) → Leave [] (SheetCells sheet book.sheets) book (SheetDeleted sheet ∷ [])
+pub sheet_deleted_leave : (book : PlaceBook) (sheet : ℕ)
+    → Leave [] (SheetCells sheet book.sheets) book (SheetDeleted sheet ∷ [])
 sheet_deleted_leave book sheet named id row col stands there untouched =
     (tt, cell_kept named (SheetDeleted sheet) id row col apart there, tt)
   where
@@ -185,7 +192,8 @@ sheet_deleted_leave book sheet named id row col stands there untouched =
     apart own =
         let (r, c, at) = is_somewhere named.book id row col there in
         untouched (named_by named.book (SheetCells sheet book.sheets) id row col r c
-        (area_has book named.book (whole_sheet sheet) id row col r c (is_placed book named stands id row col there) at own
+        (area_has book named.book (whole_sheet sheet) id row col r c
+        (is_placed book named stands id row col there) at own
         (tt, tt)) at)
 
 some_none : {A : Type 0} (x : A) → Some x ≡ None → ⊥
@@ -198,8 +206,10 @@ sixth_unbroken first second third fourth fifth sixth true b c d e f rest is = ab
 sixth_unbroken first second third fourth fifth sixth false true c d e f rest is = absurd (some_none second is)
 sixth_unbroken first second third fourth fifth sixth false false true d e f rest is = absurd (some_none third is)
 sixth_unbroken first second third fourth fifth sixth false false false true e f rest is = absurd (some_none fourth is)
-sixth_unbroken first second third fourth fifth sixth false false false false true f rest is = absurd (some_none fifth is)
-sixth_unbroken first second third fourth fifth sixth false false false false false true rest is = absurd (some_none sixth is)
+sixth_unbroken first second third fourth fifth sixth false false false false true f rest is =
+    absurd (some_none fifth is)
+sixth_unbroken first second third fourth fifth sixth false false false false false true rest is =
+    absurd (some_none sixth is)
 sixth_unbroken first second third fourth fifth sixth false false false false false false rest is = refl
 
 id_free : (broken : Broken) → first_broken broken ≡ None → broken.id_taken ≡ false
@@ -217,7 +227,8 @@ pub sheet_added_leave : (book : PlaceBook) (properties : SheetProperties) (first
     → IsAdded properties book.sheets first (as_reply (reply, changes)) → Leave [] NoCells book changes
 sheet_added_leave book properties (Some broken) reply changes unbroken is named id row col stands there untouched =
     absurd (reply_apart (reply, changes) broken is)
-sheet_added_leave book properties None reply changes unbroken (new, is_new, is) named id row col stands there untouched =
+sheet_added_leave book properties None reply changes unbroken (new, is_new, is) named id row col stands
+    there untouched =
     subst (λ all. LeaveInTurn named all id row col)
     (changes_told None reply (sheet_reply properties book.sheets new) changes
     (SheetAdded (new_place properties book.sheets) new ∷ []) is)
@@ -227,8 +238,10 @@ sheet_added_leave book properties None reply changes unbroken (new, is_new, is) 
     apart same =
         let placed = is_placed book named stands id row col there in
         let free : has_id book.sheets new.id ≡ false =
-        id_unused book.sheets properties.id new.id (id_free (sheet_added_broken properties book.sheets) unbroken) is_new.id in
-        false≢true (sym free ∙ ap (has_id book.sheets) same ∙ ap (λ (found : Option PlaceSheet). is_some found) placed.there)
+        id_unused book.sheets properties.id new.id (id_free (sheet_added_broken properties book.sheets) unbroken)
+        is_new.id in
+        false≢true
+        (sym free ∙ ap (has_id book.sheets) same ∙ ap (λ (found : Option PlaceSheet). is_some found) placed.there)
 
 -- ---- properties of a sheet
 
@@ -269,7 +282,8 @@ module _ (book : PlaceBook) (sheet : ℕ) (properties : SheetProperties) (found 
 
   in_area : (some : Area) → some.sheet ≡ sheet → id ≡ sheet → Holds some r c → AreaCells book.sheets some id r c
   in_area some same own holds =
-      on_sheet book.sheets some.sheet found (HasCellOf some) id r c (ap (λ n. place_sheet_with n book.sheets) same ∙ there)
+      on_sheet book.sheets some.sheet found (HasCellOf some) id r c
+      (ap (λ n. place_sheet_with n book.sheets) same ∙ there)
       (own ∙ sym same)
       (let here = inside own in (holds, here.0, here.1))
 
@@ -346,7 +360,8 @@ properties_leave book sheet properties named id row col stands there untouched =
         let (r, c, at) = is_somewhere named.book id row col there in
         let placed = is_placed book named stands id row col there in
         let inside = at_inside book named.book id row col r c placed at in
-        all_leave id row col (AtHere id row col r c) (here_cell id row col r c) (all_set sheet properties (size_of found))
+        all_leave id row col (AtHere id row col r c) (here_cell id row col r c)
+        (all_set sheet properties (size_of found))
         (properties_keep book sheet properties found is id row col r c
         (λ own.
         let same : placed.sheet ≡ found =

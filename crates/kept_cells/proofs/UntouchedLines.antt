@@ -1,9 +1,9 @@
 -- The lines of a sheet after a change, and a cell that stays where its lines do.
-use Rattle.std.proofs.Common.{◌≡◌, ◌≢◌, ◌⊎◌, inl, inr, ℕ, zero, suc, ◌+◌, ◌-◌, ◌<◌, ◌≤◌, refl, sym, ap, subst, ◌∙◌, List, [], ◌∷◌, ◌++◌, length, take, drop, get_or, cond, Bool, true, false, arith, length-drop}
-use Rattle.std.specs.Prelude.{Option, Some, None, Contains, IsSomeAnd, ◌==◌, ◌&&◌, nat_le, map, filter, not, slice_get, slice_range}
+use Rattle.std.proofs.Common.{◌≡◌, ◌≢◌, ◌⊎◌, inl, inr, ℕ, suc, ◌+◌, ◌-◌, ◌<◌, ◌≤◌, refl, sym, ap, subst, ◌∙◌, List, [], ◌∷◌, ◌++◌, length, take, drop, get_or, cond, Bool, true, false, arith, length-drop}
+use Rattle.std.specs.Prelude.{Option, Some, None, Contains, IsSomeAnd, ◌==◌, ◌&&◌, nat_le, map, not, slice_get, slice_range}
 use Rattle.std.specs.List.{before_first, position_or_len, range_with_len}
 use Rattle.std.specs.Option.{option_map, option_map_or}
-use Rattle.std.proofs.lemmas.Bool.{cases_lt, eqb-true, false≢true, false_from_ne_true}
+use Rattle.std.proofs.lemmas.Bool.{cases_lt, eqb-true}
 use Rattle.std.proofs.lemmas.List.{get_or-drop, get_or-take, length-take, take-append-drop}
 use Rattle.std.proofs.lemmas.List.Elements.{Contains-append_cases, Contains-append_left, Contains-append_right}
 use Rattle.std.proofs.lemmas.Option.{slice_get-get_or, slice_get_within, get_or_from_slice_get}
@@ -24,6 +24,7 @@ use Rattle.world_model.specs.Filters.{filter_named}
 use Rattle.world_model.specs.Leaving.{HasCell}
 use Rattle.world_model.specs.LineChange.{LineChange, line_change, sheet_followed, with_all_followed, with_lines}
 use Rattle.world_model.specs.Sheet.{NameSheet, lines_of}
+use Rattle.world_model.specs.SheetFound.{find_beside, find_kept, find_left, others}
 use Rattle.world_model.specs.Updating.{sheet_updated}
 
 -- ---- a cell, by the lines of its sheet
@@ -70,20 +71,16 @@ module _ {X : Type 0} (look : NameSheet → X) (none : X) where
   abbrev look_found : Option NameSheet → X
   look_found found = option_map_or look found none
 
-  chosen_kept : (b : Bool) (one other : NameSheet) (found found' : Option NameSheet) → look one ≡ look other
-      → look_found found ≡ look_found found'
-      → look_found (cond b (Some one) found) ≡ look_found (cond b (Some other) found')
-  chosen_kept true one other found found' same rest = same
-  chosen_kept false one other found found' same rest = rest
+  look_kept : (changed : NameSheet → NameSheet) → ((sheet : NameSheet) → look (changed sheet) ≡ look sheet)
+      → (found : Option NameSheet) → look_found (option_map changed found) ≡ look_found found
+  look_kept changed same None = refl
+  look_kept changed same (Some sheet) = same sheet
 
   pub mapped_kept : (changed : NameSheet → NameSheet) → ((sheet : NameSheet) → (changed sheet).id ≡ sheet.id)
       → ((sheet : NameSheet) → look (changed sheet) ≡ look sheet) → (id : ℕ) (sheets : List NameSheet)
       → look_found (sheet_with id (map changed sheets)) ≡ look_found (sheet_with id sheets)
-  mapped_kept changed same_id same id [] = refl
-  mapped_kept changed same_id same id (sheet ∷ sheets) =
-      ap (λ one. look_found (cond (one == id) (Some (changed sheet)) (sheet_with id (map changed sheets)))) (same_id sheet)
-      ∙ chosen_kept (sheet.id == id) (changed sheet) sheet (sheet_with id (map changed sheets)) (sheet_with id sheets)
-      (same sheet) (mapped_kept changed same_id same id sheets)
+  mapped_kept changed same_id same id sheets =
+      ap look_found (find_kept changed same_id id sheets) ∙ look_kept changed same (sheet_with id sheets)
 
 mapped_lines : (changed : NameSheet → NameSheet) → ((sheet : NameSheet) → KeepsLines (changed sheet) sheet)
     → (id : ℕ) (axis : Axis) (sheets : List NameSheet)
@@ -91,42 +88,6 @@ mapped_lines : (changed : NameSheet → NameSheet) → ((sheet : NameSheet) → 
 mapped_lines changed keeps id axis =
     mapped_kept (λ sheet. lines_of sheet axis) [] changed (λ sheet. (keeps sheet).0)
     (λ sheet. same_lines axis (changed sheet) sheet (keeps sheet)) id
-
--- ---- sheets that come and go
-
-not_found : (b : Bool) (sheet : NameSheet) (found : Option NameSheet) → b ≡ false → cond b (Some sheet) found ≡ found
-not_found true sheet found is = absurd (false≢true (sym is))
-not_found false sheet found is = refl
-
-other_id : (one id : ℕ) → one ≢ id → (one == id) ≡ false
-other_id one id apart = false_from_ne_true (one == id) (λ is. apart (eqb-true one id is))
-
--- another one is put in
-found_beside : (new : NameSheet) (id : ℕ) → new.id ≢ id → (at : ℕ) (sheets : List NameSheet)
-    → sheet_with id (take at sheets ++ new ∷ drop at sheets) ≡ sheet_with id sheets
-found_beside new id apart zero sheets = not_found (new.id == id) new (sheet_with id sheets) (other_id new.id id apart)
-found_beside new id apart (suc at) [] = not_found (new.id == id) new None (other_id new.id id apart)
-found_beside new id apart (suc at) (sheet ∷ sheets) =
-    ap (λ found. cond (sheet.id == id) (Some sheet) found) (found_beside new id apart at sheets)
-
-abbrev others : ℕ → List NameSheet → List NameSheet
-others gone sheets = filter (λ sheet. not (sheet.id == gone)) sheets
-
-left_one : (gone id : ℕ) (sheet : NameSheet) (sheets : List NameSheet) → id ≢ gone
-    → sheet_with id (others gone sheets) ≡ sheet_with id sheets → (b : Bool) → (sheet.id == gone) ≡ b
-    → sheet_with id (cond (not b) (sheet ∷ others gone sheets) (others gone sheets))
-    ≡ cond (sheet.id == id) (Some sheet) (sheet_with id sheets)
-left_one gone id sheet sheets apart rest true is = rest
-    ∙ sym (not_found (sheet.id == id) sheet (sheet_with id sheets)
-    (other_id sheet.id id (λ same. apart (sym same ∙ eqb-true sheet.id gone is))))
-left_one gone id sheet sheets apart rest false is = ap (λ found. cond (sheet.id == id) (Some sheet) found) rest
-
--- another one is taken out
-found_left : (gone id : ℕ) (sheets : List NameSheet) → id ≢ gone
-    → sheet_with id (others gone sheets) ≡ sheet_with id sheets
-found_left gone id [] apart = refl
-found_left gone id (sheet ∷ sheets) apart =
-    left_one gone id sheet sheets apart (found_left gone id sheets apart) (sheet.id == gone) refl
 
 -- ---- a change that leaves the lines of the sheet as they are
 
@@ -154,10 +115,10 @@ module _ (named : Named) (id : ℕ) (axis : Axis) where
       → orders_of (changed_by named change).book.sheets id axis ≡ orders_of named.book.sheets id axis
   lines_kept (LinesChanged sheet on change) keeps = absurd keeps
   lines_kept (SheetAdded at sheet) keeps =
-      ap (lines_found axis) (found_beside (new_sheet named.next sheet) id keeps at sheets)
+      ap (lines_found axis) (find_beside (new_sheet named.next sheet) id keeps at sheets)
   lines_kept (SheetDeleted sheet) keeps =
       mapped_lines (without_references sheet) (λ one. (refl, refl, refl)) id axis (others sheet sheets)
-      ∙ ap (lines_found axis) (found_left sheet id sheets keeps)
+      ∙ ap (lines_found axis) (find_left sheet id sheets keeps)
   lines_kept (CellsUpdated sheet updates) keeps =
       mapped_lines (sheet_updated (orders_of sheets) sheet updates)
       (λ one. keeps_if (one.id == sheet) _ one (refl, refl, refl)) id axis sheets
@@ -200,13 +161,15 @@ module _ (P : List ℕ → Type 0) (on : Axis) (order : List ℕ) where
   holds_in false axis sheet holds new = holds
   holds_in true axis sheet holds new = own on axis holds (new refl)
     where
-      own : (on axis : Axis) → P (lines_of sheet on) → (on ≡ axis → P order) → P (lines_of (with_lines axis order sheet) on)
+      own : (on axis : Axis) → P (lines_of sheet on) → (on ≡ axis → P order)
+          → P (lines_of (with_lines axis order sheet) on)
       own Rows Rows holds new = new refl
       own Columns Columns holds new = new refl
       own Rows Columns holds new = holds
       own Columns Rows holds new = holds
 
-all_followed : (to : LineChange) (sheet : NameSheet) (on : Axis) → lines_of (with_all_followed to sheet) on ≡ lines_of sheet on
+all_followed : (to : LineChange) (sheet : NameSheet) (on : Axis) → lines_of (with_all_followed to sheet) on
+    ≡ lines_of sheet on
 all_followed to sheet Rows = refl
 all_followed to sheet Columns = refl
 
@@ -241,7 +204,8 @@ pub holds_then : (P : List ℕ → Type 0) (named : Named) (sheet : ℕ) (axis :
     → P (orders_of (changed_by named (LinesChanged sheet axis change)).book.sheets id on)
 holds_then P named sheet axis change id on new holds =
     let fresh = range_with_len named.next (inserted_lines change) in
-    holds_followed P on (line_change named.book.sheets sheet axis (order_change change fresh)) id named.book.sheets new holds
+    holds_followed P on (line_change named.book.sheets sheet axis (order_change change fresh)) id
+    named.book.sheets new holds
 
 -- ---- which lines an order has then
 
@@ -260,7 +224,8 @@ module _ (order : List ℕ) (line : ℕ) where
       let place : end + (k - end) ≡ k = omega (arith, late) in (
         k - end,
         omega (arith, length-drop end order, late, inside),
-        get_or-drop end order (k - end) line ∙ ap (λ n. get_or order n line) place ∙ get_or_from_slice_get order k line line at,
+        get_or-drop end order (k - end) line ∙ ap (λ n. get_or order n line) place
+            ∙ get_or_from_slice_get order k line line at,
       )
 
   between : (start end k : ℕ) → start ≤ k → k < end → slice_get order k ≡ Some line
@@ -281,7 +246,8 @@ module _ (order : List ℕ) (line : ℕ) where
   pub line_at : (k : ℕ) → slice_get order k ≡ Some line → Contains order line
   line_at k at = (k, slice_get_within order k line at, get_or_from_slice_get order k line line at)
 
-  pub inserted : (at : ℕ) (fresh : List ℕ) → Contains order line → Contains (order_after (Inserting at fresh) order) line
+  pub inserted : (at : ℕ) (fresh : List ℕ) → Contains order line
+      → Contains (order_after (Inserting at fresh) order) line
   inserted at fresh has =
       elim (Contains-append_cases (take at order) (drop at order) line
       (subst (λ all. Contains all line) (sym (take-append-drop at order)) has)) [
@@ -360,7 +326,8 @@ module _ (order : List ℕ) (line : ℕ) where
         ]
       ]
 
-  moved_if : (b : Bool) (one other : List ℕ) → Contains one line → Contains other line → Contains (cond b one other) line
+  moved_if : (b : Bool) (one other : List ℕ) → Contains one line → Contains other line
+      → Contains (cond b one other) line
   moved_if true one other has has' = has
   moved_if false one other has has' = has'
 

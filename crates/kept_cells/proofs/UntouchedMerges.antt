@@ -83,12 +83,14 @@ lines_inside : (axis : Axis) (area part : Area) (r c : ℕ) → Contains (lines_
 lines_inside axis area part r c has covered =
     let first = first_line (band_on axis area) in
     let count = past_line (band_on axis area) - first in
-    let (listed, many) = Contains-filter_from has_many_cells (map (line_of axis area) (range_with_len first count)) part has in
+    let (listed, many) =
+    Contains-filter_from has_many_cells (map (line_of axis area) (range_with_len first count)) part has in
     let (line, there, same) = Contains-map_from (line_of axis area) (range_with_len first count) part listed in
     let (late, early) = in_range first count line there in
     line_inside axis area line r c late early (ap (λ one. covers one r c) same ∙ covered)
 
-part_inside : (type : MergeType) (area part : Area) (r c : ℕ) → Contains (parts_of type area) part → covers part r c ≡ true
+part_inside : (type : MergeType) (area part : Area) (r c : ℕ) → Contains (parts_of type area) part
+    → covers part r c ≡ true
     → IsIn area r c
 part_inside merge.Columns area part r c has covered = lines_inside Columns area part r c has covered
 part_inside merge.Rows area part r c has covered = lines_inside Rows area part r c has covered
@@ -166,7 +168,8 @@ merged_leave range type book told is named id row col stands there untouched =
     let (sheet, asked) = some_found (place_sheet_with area.sheet book.sheets)
     (on_area_done book.sheets range (AreMergedOn type book) told is) in
     let own = rectangle_on sheet area in
-    let (merges, same) = set_changes own.sheet (IsMergeAfter type own) (covered_emptied type own) sheet asked.broken told
+    let (merges, same) =
+    set_changes own.sheet (IsMergeAfter type own) (covered_emptied type own) sheet asked.broken told
     asked.told_is in
     let change = MergesSet own.sheet merges in
     let still = cell_kept named change id row col tt there in

@@ -34,7 +34,7 @@ use Rattle.values_api.specs.Rest.{rest_cleared}
 use Rattle.sheets_json.specs.declared.spreadsheet.Reply.{Reply}
 use Rattle.request_kinds.specs.Rows.{AreRowsWritten, OnArea, area_or_broken, cut_on}
 use Rattle.request_kinds.specs.UpdateCells.{rest_emptied}
-use Rattle.request_kinds.specs.FoundLaws.{sheet_has_id, sheet_sound}
+use Rattle.values_api.specs.FoundLaws.{sheet_has_id, sound_sheet}
 use Rattle.request_kinds.specs.TellingLaws.{as_reply}
 use Rattle.kept_cells.proofs.UntouchedCells.{IsPlaced, as_many, is_placed, some_same}
 use Rattle.kept_cells.proofs.UntouchedKinds.{Leave}
@@ -81,7 +81,8 @@ closed_same : (one other : List ℕ) → NameBand.Closed one ≡ NameBand.Closed
 closed_same one other e = cc
 
 same_band : (order : List ℕ) → IsOrder order → (one other : Band) → HasEnds one → HasEnds other
-    → Within one (length order) → Within other (length order) → band_named order one ≡ band_named order other → one ≡ other
+    → Within one (length order) → Within other (length order) → band_named order one ≡ band_named order other
+    → one ≡ other
 same_band order distinct Whole other ends ends' within within' same = absurd ends
 same_band order distinct (From start) other ends ends' within within' same = absurd ends
 same_band order distinct (Span start end) Whole ends ends' within within' same = absurd ends'
@@ -109,7 +110,7 @@ merges_found book named stands id placed =
     let lines : (axis : Axis) → orders_of sheets id axis ≡ lines_found axis (Some placed.names) =
     λ axis. ap (lines_found axis) placed.named_there in
     let merges : AreMergesOf placed.sheet placed.sheet.merges =
-    (sheet_sound book stands.stands.sound id placed.sheet placed.there).merges in
+    (sound_sheet book stands.stands.sound id placed.sheet placed.there).merges in
     let many = as_many book named.book id placed in
     record {
       rows = subst IsOrder (sym (lines Rows)) placed.stands.distinct_rows;
@@ -212,13 +213,15 @@ module _ (area : Area) (block : Block) (r c : ℕ) where
   abbrev value_of : Option Input
   value_of = given_value (input_at block (r - first_line area.rows) (c - first_line area.cols))
 
-  still_written : (sheet sheet' : PlaceSheet) → sheet.table.rows ≡ sheet'.table.rows → sheet.table.cols ≡ sheet'.table.cols
+  still_written : (sheet sheet' : PlaceSheet) → sheet.table.rows ≡ sheet'.table.rows → sheet.table.cols
+      ≡ sheet'.table.cols
       → (is_covered sheet.merges r c ≡ true → is_covered sheet'.merges r c ≡ true)
       → IsSome (written false area block sheet' r c) → IsSome (written false area block sheet r c)
   still_written sheet sheet' rows cols still wrote =
       let sizes : inside_of sheet'.table.rows sheet'.table.cols ≡ inside_of sheet.table.rows sheet.table.cols =
       ap (λ n. inside_of n sheet'.table.cols) (sym rows) ∙ ap (inside_of sheet.table.rows) (sym cols) in
-      was_written (inside_of sheet.table.rows sheet.table.cols) (is_covered sheet.merges r c) (is_covered sheet'.merges r c)
+      was_written (inside_of sheet.table.rows sheet.table.cols) (is_covered sheet.merges r c)
+      (is_covered sheet'.merges r c)
       value_of still (subst (λ inside. IsWrote inside (is_covered sheet'.merges r c) value_of) sizes wrote)
 
 module _ (book : PlaceBook) (named : Named) (stands : NamedStandsFor book named) (sheet : ℕ) (updates : Updates)
@@ -244,7 +247,8 @@ module _ (book : PlaceBook) (named : Named) (stands : NamedStandsFor book named)
 
     same_merges : placed_then.names.merges ≡ placed.names.merges
     same_merges =
-        let look : Option NameSheet → List NameArea = λ found. option_map_or (λ (one : NameSheet). one.merges) found [] in
+        let look : Option NameSheet → List NameArea =
+        λ found. option_map_or (λ (one : NameSheet). one.merges) found [] in
         sym (ap look placed_then.named_there)
         ∙ mapped_kept (λ one. one.merges) [] (sheet_updated (orders_of named.book.sheets) sheet updates)
         (λ one. id_if (one.id == sheet) _ one refl) (λ one. merges_if (one.id == sheet) _ one refl) id named.book.sheets
@@ -260,7 +264,8 @@ module _ (book : PlaceBook) (named : Named) (stands : NamedStandsFor book named)
 
     -- what is written once cells are emptied is touched
     pub was_touched : (area : Area) (rows : Block) (own : id ≡ area.sheet) (found : PlaceSheet)
-        → place_sheet_with area.sheet between.sheets ≡ Some found → (r c : ℕ) → IsSome (written false area rows found r c)
+        → place_sheet_with area.sheet between.sheets ≡ Some found → (r c : ℕ)
+        → IsSome (written false area rows found r c)
         → WriteCells book.sheets false area rows id r c
     was_touched area rows own found is r c wrote =
         let many = as_many book named.book id placed in
@@ -268,7 +273,8 @@ module _ (book : PlaceBook) (named : Named) (stands : NamedStandsFor book named)
         let same : found ≡ placed_then.sheet =
         some_same found placed_then.sheet
         (sym is ∙ ap (λ n. place_sheet_with n between.sheets) (sym own) ∙ placed_then.there) in
-        on_sheet book.sheets area.sheet placed.sheet (λ one row col. IsSome (written false area rows one row col)) id r c
+        on_sheet book.sheets area.sheet placed.sheet
+        (λ one row col. IsSome (written false area rows one row col)) id r c
         (ap (λ n. place_sheet_with n book.sheets) (sym own) ∙ placed.there) own
         (still_written area rows r c placed.sheet placed_then.sheet
         (many.0 ∙ ap length (sym (same_lines_then Rows)) ∙ sym many_then.0)
@@ -300,5 +306,6 @@ pub range_leave : (rows : Block) (range : Area) (book : PlaceBook) (reply : Repl
     → Leave [] (FilledCells book.sheets (cut_on (place_sheet_with range.sheet book.sheets) range) rows) book changes
 range_leave rows range book reply changes is =
     rows_filled_leave rows (cut_on (place_sheet_with range.sheet book.sheets) range) book reply changes
-    (on_area_done book.sheets range (λ area. AreRowsWritten (rest_emptied area rows) rows false book area) (reply, changes)
+    (on_area_done book.sheets range (λ area. AreRowsWritten (rest_emptied area rows) rows false book area)
+    (reply, changes)
     is)

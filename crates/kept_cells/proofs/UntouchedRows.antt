@@ -21,7 +21,7 @@ use Rattle.values_api.specs.Blocks.{IsWrite, contents_of, written}
 use Rattle.values_api.specs.Denials.{WriteCells}
 use Rattle.values_api.specs.declared.appending.Added.{Added}
 use Rattle.values_api.specs.declared.table.Rectangle.{Rectangle}
-use Rattle.values_api.specs.declared.writing.Written.{Written}
+use Rattle.values_api.specs.declared.writing.WrittenCells.{WrittenCells}
 use Rattle.json_requests.specs.declared.request.GridCoordinate.{GridCoordinate}
 use Rattle.sheets_json.specs.declared.spreadsheet.Reply.{Reply}
 use Rattle.sheets_json.specs.declared.spreadsheet.Reply.TheVariants as reply_of
@@ -37,14 +37,16 @@ use Rattle.kept_cells.proofs.UntouchedWrites.{untouched_written, write_leaves}
 -- ---- what is told
 
 -- what is done on an area is done on the one that is found, cut at the grid
-pub on_area_done : (sheets : List PlaceSheet) (range : Area) (IsDone : Area → Result (Reply × List BookChange) Rule → Type 0)
+pub on_area_done : (sheets : List PlaceSheet) (range : Area)
+    (IsDone : Area → Result (Reply × List BookChange) Rule → Type 0)
     (told : Reply × List BookChange) → OnArea (area_or_broken sheets range) IsDone (as_reply told)
     → IsDone (cut_on (place_sheet_with range.sheet sheets) range) (as_reply told)
 on_area_done sheets range IsDone told is =
     go (first_broken (broken_by_area (place_sheet_with range.sheet sheets) range)) is
   where
     go : (first : Option Rule)
-        → OnArea (option_map_or Err first (Ok (cut_on (place_sheet_with range.sheet sheets) range))) IsDone (as_reply told)
+        → OnArea (option_map_or Err first (Ok (cut_on (place_sheet_with range.sheet sheets) range))) IsDone
+        (as_reply told)
         → IsDone (cut_on (place_sheet_with range.sheet sheets) range) (as_reply told)
     go None is = is
     go (Some broken) is = absurd (reply_apart told broken is)
@@ -57,7 +59,8 @@ added_leave named sheet axis at count id row col there = go (count == 0)
   where
     go : (b : Bool) → LeaveInTurn named (cond b [] (LinesChanged sheet axis (Insert at count) ∷ [])) id row col
     go true = tt
-    go false = lines_leave named sheet axis (Insert at count) id row col (insert_stays named sheet axis at count id row col) there
+    go false = lines_leave named sheet axis (Insert at count) id row col
+        (insert_stays named sheet axis at count id row col) there
 
 pub lines_added_leave : (named : Named) (sheet : ℕ) (added : Added) (id row col : ℕ) → HasCell id row col named.book
     → LeaveInTurn named (changes_of sheet added) id row col
@@ -81,10 +84,12 @@ pub put_leaves : (first : List BookChange) (rows : Block) (one_cell : Bool) (bet
 put_leaves first rows one_cell between area reply changes put named id row col there leave none =
     let later = cells_updated area.sheet (contents_of put.writes.entries) in
     subst (λ all. LeaveInTurn named all id row col)
-    (match_changes put.wrote (reply, changes) (λ counts. (reply_of.Empty, first ++ later)) (first ++ later) (λ counts. refl)
+    (match_changes put.wrote (reply, changes) (λ counts. (reply_of.Empty, first ++ later)) (first ++ later)
+    (λ counts. refl)
     put.tells)
     (leave_both id row col first later named leave
-    (write_leaves (changed_by_all named first) one_cell area rows put.sheet between put.after put.wrote put.writes id row col
+    (write_leaves (changed_by_all named first) one_cell area rows put.sheet between put.after put.wrote
+    put.writes id row col
     (there_then id row col first named there leave) none))
 
 pub rows_leave : (user : List ℕ) (sheet at count : ℕ) (rows : Block) (book : PlaceBook) (area : Area) (reply : Reply)
@@ -100,7 +105,8 @@ rows_leave user sheet at count rows book area reply changes written named id row
     subst (AreRowsPut first rows true between area) done written.put.is in
     put_leaves first rows true between area reply changes put named id row col there
     (added_leave named sheet Rows at count id row col there)
-    (untouched_written (changed_by_all named first).book between.sheets true area rows put.sheet id row col put.there untouched)
+    (untouched_written (changed_by_all named first).book between.sheets true area rows put.sheet id row col
+    put.there untouched)
 
 -- on the spreadsheet as it is
 module _ (apart : ChangesApart) (turns : ChangesInTurn) where
@@ -119,8 +125,10 @@ module _ (apart : ChangesApart) (turns : ChangesInTurn) where
   cut_from None cell = refl
   cut_from (Some sheet) cell = refl
 
-  pub cells_from_leave : (rows : Block) (cell : GridCoordinate) (book : PlaceBook) (reply : Reply) (changes : List BookChange)
-      → OnArea (area_or_broken book.sheets (area_from cell)) (AreRowsWritten [] rows true book) (as_reply (reply, changes))
+  pub cells_from_leave : (rows : Block) (cell : GridCoordinate) (book : PlaceBook) (reply : Reply)
+      (changes : List BookChange)
+      → OnArea (area_or_broken book.sheets (area_from cell)) (AreRowsWritten [] rows true book)
+      (as_reply (reply, changes))
       → Leave [] (WriteCells book.sheets true (area_from cell) rows) book changes
   cells_from_leave rows cell book reply changes is =
       rows_written_leave rows book (area_from cell) reply changes
@@ -131,18 +139,22 @@ module _ (apart : ChangesApart) (turns : ChangesInTurn) where
 -- ---- values that are written and appended
 
 pub write_leave : (one_cell : Bool) (area : Area) (block : Block) (sheet : PlaceSheet) (before after : PlaceBook)
-    (answer : Result Written Rule) → (writes : IsWrite one_cell area block sheet before after answer)
+    (answer : Result WrittenCells Rule) → (writes : IsWrite one_cell area block sheet before after answer)
     → place_sheet_with area.sheet before.sheets ≡ Some sheet
-    → Leave [] (WriteCells before.sheets one_cell area block) before (cells_updated area.sheet (contents_of writes.entries))
+    → Leave [] (WriteCells before.sheets one_cell area block) before
+    (cells_updated area.sheet (contents_of writes.entries))
 write_leave one_cell area block sheet before after answer writes is named id row col stands there untouched =
     write_leaves named one_cell area block sheet before after answer writes id row col there
     (untouched_written named.book before.sheets one_cell area block sheet id row col is untouched)
 
-pub append_leave : (user : List ℕ) (sheet : ℕ) (added : Added) (start : ℕ × ℕ) (block : Block) (table : Option Rectangle)
-    (changes : List BookChange) (before after : PlaceBook) (answer : Result (Option Area × Written) Rule)
+pub append_leave : (user : List ℕ) (sheet : ℕ) (added : Added) (start : ℕ × ℕ) (block : Block)
+    (table : Option Rectangle)
+    (changes : List BookChange) (before after : PlaceBook) (answer : Result (Option Area × WrittenCells) Rule)
     → (appended : IsAppended user sheet added start block table changes before after answer)
-    → Leave (changes_of sheet added) (WriteCells appended.between.sheets true (cell_area sheet start) block) before changes
-append_leave user sheet added start block table changes before after answer appended named id row col stands there untouched =
+    → Leave (changes_of sheet added) (WriteCells appended.between.sheets true (cell_area sheet start) block)
+    before changes
+append_leave user sheet added start block table changes before after answer appended named id row col stands
+    there untouched =
     let first = changes_of sheet added in
     let area = cell_area sheet start in
     let leave = lines_added_leave named sheet added id row col there in

@@ -24,7 +24,7 @@ use Rattle.values_api.specs.Denials.{AreaCells, HasCellOf, OnSheet, RestCells, W
 use Rattle.values_api.specs.Rest.{is_reached, rest_cleared}
 use Rattle.values_api.specs.Sheets.{formula_sheets}
 use Rattle.values_api.specs.Updates.{cleared}
-use Rattle.values_api.specs.declared.writing.Written.{Written}
+use Rattle.values_api.specs.declared.writing.WrittenCells.{WrittenCells}
 use Rattle.std.specs.Prelude.{Result}
 use Rattle.request_kinds.specs.Telling.{cells_updated}
 use Rattle.kept_cells.specs.Staying.{IsNamedBy}
@@ -38,7 +38,8 @@ named_by names cells id row col r c is at =
     record { row_place = r; col_place = c; is = is; row_there = at.0; col_there = at.1 }
 
 -- a cell of a sheet that is there
-pub on_sheet : (sheets : List PlaceSheet) (sheet : ℕ) (found : PlaceSheet) (Has : PlaceSheet → ℕ → ℕ → Type 0) (id row col : ℕ)
+pub on_sheet : (sheets : List PlaceSheet) (sheet : ℕ) (found : PlaceSheet) (Has : PlaceSheet → ℕ → ℕ → Type 0)
+    (id row col : ℕ)
     → place_sheet_with sheet sheets ≡ Some found → id ≡ sheet → Has found row col → OnSheet sheets sheet Has id row col
 on_sheet sheets sheet found Has id row col there own has =
     (own, subst (λ one. IsSomeAnd one (λ found. Has found row col)) (sym there) has)
@@ -114,7 +115,7 @@ module _ (book : PlaceBook) (named : Named) (stands : NamedStandsFor book named)
 -- ---- a write
 
 module _ (one_cell : Bool) (area : Area) (block : Block) (sheet : PlaceSheet) (before after : PlaceBook)
-    (answer : Result Written Rule) (writes : IsWrite one_cell area block sheet before after answer) (r c : ℕ) where
+    (answer : Result WrittenCells Rule) (writes : IsWrite one_cell area block sheet before after answer) (r c : ℕ) where
   -- where no value is written nothing is entered
   none_entered : (value : Option Input) → IsEntryOf (formula_sheets before.sheets) area.sheet value (writes.entries r c)
       → (IsSome value → ⊥) → option_map (λ (entry : Entry). entry.content) (writes.entries r c) ≡ None
@@ -122,9 +123,11 @@ module _ (one_cell : Bool) (area : Area) (block : Block) (sheet : PlaceSheet) (b
   none_entered (Some value) is none = absurd (none refl)
 
 pub write_leaves : (named : Named) (one_cell : Bool) (area : Area) (block : Block) (sheet : PlaceSheet)
-    (before after : PlaceBook) (answer : Result Written Rule) (writes : IsWrite one_cell area block sheet before after answer)
+    (before after : PlaceBook) (answer : Result WrittenCells Rule)
+    (writes : IsWrite one_cell area block sheet before after answer)
     (id row col : ℕ) → HasCell id row col named.book
-    → (id ≡ area.sheet → (r c : ℕ) → IsAt named.book id row col r c → IsSome (written one_cell area block sheet r c) → ⊥)
+    → (id ≡ area.sheet → (r c : ℕ) → IsAt named.book id row col r c
+    → IsSome (written one_cell area block sheet r c) → ⊥)
     → LeaveInTurn named (cells_updated area.sheet (contents_of writes.entries)) id row col
 write_leaves named one_cell area block sheet before after answer writes id row col there none =
     update_leaves named area.sheet (contents_of writes.entries) id row col there (λ own r c at.
@@ -138,5 +141,6 @@ pub untouched_written : (names : NameBook) (sheets : List PlaceSheet) (one_cell 
     → id ≡ area.sheet → (r c : ℕ) → IsAt names id row col r c → IsSome (written one_cell area block sheet r c) → ⊥
 untouched_written names sheets one_cell area block sheet id row col there untouched own r c at wrote =
     untouched (named_by names (WriteCells sheets one_cell area block) id row col r c
-    (on_sheet sheets area.sheet sheet (λ one row col. IsSome (written one_cell area block one row col)) id r c there own wrote)
+    (on_sheet sheets area.sheet sheet (λ one row col. IsSome (written one_cell area block one row col)) id r c
+    there own wrote)
     at)

@@ -15,7 +15,7 @@ use Rattle.values_api.specs.Denials.{AreaCells, IsDenial, IsWriteBy}
 use Rattle.values_api.specs.Updates.{cleared}
 use Rattle.values_api.specs.declared.appending.Added.{Added}
 use Rattle.values_api.specs.declared.table.Rectangle.{Rectangle}
-use Rattle.values_api.specs.declared.writing.Written.{Written}
+use Rattle.values_api.specs.declared.writing.WrittenCells.{WrittenCells}
 use Rattle.json_requests.specs.declared.request.Request.{Request}
 use Rattle.sheets_json.specs.declared.spreadsheet.Reply.{Reply}
 use Rattle.request_kinds.specs.Requests.{IsDoneAsAsked}
@@ -26,13 +26,13 @@ pub record ProtectedCellsKeep : Type 0 where
   pub request : (user project : List ℕ) (book : PlaceBook) (asked : Request) (reply : Reply) (changes : List BookChange)
       → IsDoneAsAsked user project book asked (Ok (reply, changes)) → LeavesProtectedInParts user book changes
   pub write : (user : List ℕ) (one_cell : Bool) (area : Area) (block : Block) (sheet : PlaceSheet)
-      (before after : PlaceBook) (counts : Written) → place_sheet_with area.sheet before.sheets ≡ Some sheet
+      (before after : PlaceBook) (counts : WrittenCells) → place_sheet_with area.sheet before.sheets ≡ Some sheet
       → (writes : IsWriteBy user one_cell area block sheet before after (Ok counts))
       → LeavesProtectedInParts user before (cells_updated area.sheet (contents_of writes.is.entries))
   pub clear : (user : List ℕ) (book : PlaceBook) (area : Area) → IsDenial user book (AreaCells book.sheets area) None
       → LeavesProtectedInParts user book (cells_updated area.sheet (cleared area))
   pub append : (user : List ℕ) (sheet : ℕ) (added : Added) (start : ℕ × ℕ) (block : Block) (table : Option Rectangle)
-      (changes : List BookChange) (before after : PlaceBook) (answer : Option Area × Written)
+      (changes : List BookChange) (before after : PlaceBook) (answer : Option Area × WrittenCells)
       → IsAppended user sheet added start block table changes before after (Ok answer)
       → LeavesProtectedInParts user before changes
   -- nothing that is done, and one thing that is done behind another

@@ -18,7 +18,7 @@ use Rattle.values_api.specs.Denials.{AreaCells, WriteCells}
 use Rattle.values_api.specs.Updates.{cleared}
 use Rattle.values_api.specs.declared.appending.Added.{Added}
 use Rattle.values_api.specs.declared.table.Rectangle.{Rectangle}
-use Rattle.values_api.specs.declared.writing.Written.{Written}
+use Rattle.values_api.specs.declared.writing.WrittenCells.{WrittenCells}
 use Rattle.request_kinds.specs.AppendCells.{AreRowsWrittenBy}
 use Rattle.request_kinds.specs.Requests.{IsDoneByKind}
 use Rattle.request_kinds.specs.Telling.{cells_updated}
@@ -39,14 +39,14 @@ pub record UntouchedCellsKeep : Type 0 where
       → (written : AreRowsWrittenBy user (added_on sheet Rows at count) rows book area (Ok (reply, changes)))
       → LeavesOthers (added_on sheet Rows at count) (WriteCells written.between.sheets true area rows) book changes
   pub write : (one_cell : Bool) (area : Area) (block : Block) (sheet : PlaceSheet) (before after : PlaceBook)
-      (answer : Result Written Rule) → (writes : IsWrite one_cell area block sheet before after answer)
+      (answer : Result WrittenCells Rule) → (writes : IsWrite one_cell area block sheet before after answer)
       → place_sheet_with area.sheet before.sheets ≡ Some sheet
       → LeavesOthers [] (WriteCells before.sheets one_cell area block) before
       (cells_updated area.sheet (contents_of writes.entries))
   pub clear : (book : PlaceBook) (area : Area)
       → LeavesOthers [] (AreaCells book.sheets area) book (cells_updated area.sheet (cleared area))
   pub append : (user : List ℕ) (sheet : ℕ) (added : Added) (start : ℕ × ℕ) (block : Block) (table : Option Rectangle)
-      (changes : List BookChange) (before after : PlaceBook) (answer : Option Area × Written)
+      (changes : List BookChange) (before after : PlaceBook) (answer : Option Area × WrittenCells)
       → (appended : IsAppended user sheet added start block table changes before after (Ok answer))
       → LeavesOthers (changes_of sheet added) (WriteCells appended.between.sheets true (cell_area sheet start) block)
       before changes

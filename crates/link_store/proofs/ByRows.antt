@@ -1,22 +1,14 @@
 -- Places by rows, as keys of a list.
 use Rattle.std.proofs.Common.{◌≡◌, ℕ, List, [], ◌∷◌, ◌++◌, cond, length, subst, arith, refl}
 use Rattle.std.specs.Prelude.{None, Some}
-use Rattle.std.specs.Ordering.{nat_cmp, eq_by_cmp}
-use Rattle.std.specs.declared.cmp.Ordering.TheVariants.{Equal}
-use Rattle.std.specs.Cmp.{IsTotalOrder, nat_cmp_total}
+use Rattle.std.specs.Ordering.{eq_by_cmp}
 use Rattle.std.specs.List.{insert}
-use Rattle.std.proofs.lemmas.Cmp.{then_total, on_total, eq_by_cmp_equiv}
+use Rattle.std.proofs.lemmas.Cmp.{eq_by_cmp_equiv}
 use Rattle.std.proofs.lemmas.List.{take_all, drop_all}
 use Rattle.std.proofs.lemmas.Map.{none_passes_from_lookup, lookup-insert}
-use Rattle.std.proofs.lemmas.Map.Lookups.{exact_pairs, exact_unsigned}
 use Rattle.grid_range.specs.Area.{by_rows}
+use Rattle.grid_range.specs.ByRows.{by_rows_total}
 use Rattle.cell_store.specs.Entries.{entry_at}
-
-pub by_rows_total : IsTotalOrder by_rows
-by_rows_total = then_total (on_total (λ (p : ℕ × ℕ). p.0) nat_cmp_total) (on_total (λ (p : ℕ × ℕ). p.1) nat_cmp_total)
-
-pub by_rows_exact : (one other : ℕ × ℕ) → by_rows one other ≡ Equal → one ≡ other
-by_rows_exact = exact_pairs nat_cmp nat_cmp exact_unsigned exact_unsigned
 
 -- one entry more, at a place that had none
 pub entry_added : {T : Type 0} (place : ℕ × ℕ) (es : List ((ℕ × ℕ) × T)) (item : T) (other : ℕ × ℕ)

@@ -11,8 +11,9 @@ use Rattle.std.proofs.lemmas.List.Elements.{Contains-append_right}
 use Rattle.std.proofs.lemmas.Map.Keys.{IsDistinct-head, IsDistinct-tail}
 use Rattle.cell_value.specs.Elements.{Contains-cons, Contains-map, from_each}
 use Rattle.grid_range.specs.Area.{by_rows}
+use Rattle.grid_range.specs.ByRows.{by_rows_total}
 use Rattle.cell_store.specs.Entries.{entry_at}
-use Rattle.link_store.proofs.ByRows.{by_rows_total, entry_added}
+use Rattle.link_store.proofs.ByRows.{entry_added}
 use Rattle.link_store.specs.declared.cells.Cell.{Cell}
 use Rattle.link_store.specs.declared.cells.Cells.{Cells}
 use Rattle.link_store.specs.Lines.{ArePositions, line_entries, list_of}

@@ -11,8 +11,8 @@ use Rattle.std.proofs.lemmas.Map.Keys.{IsDistinct-head, IsDistinct-tail}
 use Rattle.std.proofs.lemmas.Map.Views.{tells_apart}
 use Rattle.cell_value.specs.Elements.{Contains-cons_cases, from_each, Contains-map}
 use Rattle.grid_range.specs.Area.{by_rows}
+use Rattle.grid_range.specs.ByRows.{by_rows_total, by_rows_exact}
 use Rattle.cell_store.specs.Entries.{entry_at}
-use Rattle.link_store.proofs.ByRows.{by_rows_total, by_rows_exact}
 use Rattle.link_store.specs.declared.cells.Cell.{Cell}
 use Rattle.link_store.specs.declared.cells.Cells.{Cells}
 use Rattle.link_store.specs.declared.lines.Lines.{Lines}

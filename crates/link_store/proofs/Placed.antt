@@ -4,8 +4,8 @@ use Rattle.std.specs.Prelude.{None}
 use Rattle.std.specs.Ordering.{eq_by_cmp}
 use Rattle.std.proofs.lemmas.Map.Views.{tells_apart}
 use Rattle.grid_range.specs.Area.{by_rows}
+use Rattle.grid_range.specs.ByRows.{by_rows_exact}
 use Rattle.cell_store.specs.Entries.{entry_at}
-use Rattle.link_store.proofs.ByRows.{by_rows_exact}
 use Rattle.link_store.specs.declared.cells.Cell.{Cell}
 use Rattle.link_store.specs.declared.cells.Cells.{Cells}
 use Rattle.link_store.specs.Lists.{IsLive}

@@ -11,8 +11,8 @@ use Rattle.std.proofs.lemmas.List.{map-append}
 use Rattle.std.proofs.lemmas.Map.Keys.{IsDistinct-head, IsDistinct-tail}
 use Rattle.std.proofs.lemmas.Map.Views.{tells_apart, Contains-from_lookup, lookup-from_Contains}
 use Rattle.grid_range.specs.Area.{by_rows}
+use Rattle.grid_range.specs.ByRows.{by_rows_total, by_rows_exact}
 use Rattle.cell_store.specs.Entries.{entry_at}
-use Rattle.link_store.proofs.ByRows.{by_rows_total, by_rows_exact}
 use Rattle.link_store.specs.declared.cells.Cell.{Cell}
 use Rattle.link_store.specs.declared.cells.Cells.{Cells}
 use Rattle.link_store.specs.Lists.{entries_of}

@@ -1,14 +1,13 @@
 -- What the merges of a list are after a change that tears none of them.
-use Rattle.std.proofs.Common.{◌≡◌, ℕ, ◌<◌, ◌≤◌, inl, inr, arith, refl, sym, ap, subst, ◌∙◌, true, false, cond, List, [], length, get_or}
-use Rattle.std.specs.Prelude.{Option, Some, None, Contains, Any, IfSome}
-use Rattle.std.specs.Option.{option_map, option_and_then, is_some}
+use Rattle.std.proofs.Common.{◌≡◌, ℕ, ◌<◌, ◌≤◌, inl, inr, arith, refl, sym, ap, subst, ◌∙◌, true, false, List, [], length, get_or}
+use Rattle.std.specs.Prelude.{Some, Contains, Any}
 use Rattle.std.specs.List.{IsDistinct, All, AllPairs, list_any, filter_map, range_with_len}
 use Rattle.std.specs.List.Sorted.{IsSortedByKey, IsPermutation}
 use Rattle.std.specs.declared.cmp.Ordering.TheVariants.{Less}
-use Rattle.std.proofs.lemmas.Bool.{false≢true, cases_Bool, eq-eqb}
-use Rattle.std.proofs.lemmas.Option.{same_Some, cond_some}
+use Rattle.std.proofs.lemmas.Bool.{false≢true, cases_Bool}
+use Rattle.std.proofs.lemmas.Option.{same_Some}
 use Rattle.std.proofs.lemmas.List.Elements.{All-contains, All-contains_itself, All-weaker, Contains-get_or, recursion_from_All}
-use Rattle.std.proofs.lemmas.List.Folds.{Any-from_list_any, list_any-from_Any, list_any_at}
+use Rattle.std.proofs.lemmas.List.Folds.{Any-from_list_any, list_any-from_Any}
 use Rattle.std.proofs.lemmas.List.FromFn.{get_or-range_with_len, length-range_with_len}
 use Rattle.std.proofs.lemmas.List.Sorted.{Contains-permutation, IsPermutation-sym}
 use Rattle.std.proofs.lemmas.Map.Keys.{Less-from_sorted}
@@ -16,37 +15,27 @@ use Rattle.grid_range.specs.declared.area.Area.{Area}
 use Rattle.grid_range.specs.declared.axis.Axis.{Axis}
 use Rattle.grid_range.specs.declared.axis.Axis.TheVariants.{Rows, Columns}
 use Rattle.grid_range.specs.declared.band.Band.{Band}
-use Rattle.grid_range.specs.declared.band.Band.TheVariants.{Whole, From, Span}
 use Rattle.grid_range.specs.declared.change.Change.{Change}
 use Rattle.grid_range.specs.declared.change.Change.TheVariants.{Insert, Delete, Move}
 use Rattle.grid_range.specs.Area.{band_on, with_band, first_cell, by_rows}
-use Rattle.grid_range.specs.Band.{Within, HasLine, ShareLine}
-use Rattle.grid_range.specs.Change.{Changes, Fits, count_after}
+use Rattle.grid_range.specs.Band.{Within}
+use Rattle.grid_range.specs.Change.{Changes, Fits}
 use Rattle.grid_range.specs.Order.{IsOrder}
 use Rattle.grid_range.specs.OrderChange.{OrderChange, order_after}
 use Rattle.grid_range.specs.Tearing.{IsMove, IsTorn, StaysWhole}
-use Rattle.grid_range.specs.Tracking.{track_of, span_after, area_followed}
+use Rattle.grid_range.specs.Tracking.{area_followed}
 use Rattle.grid_range.specs.TrackingLaws.{TracksStayWithin, TearsWhereTorn, TornOrWhole, SpansStayApart}
-use Rattle.merge_ranges.specs.Merges.{HasEnds, IsRectangle, IsMerge, AreMerges, Overlap, by_first_cell}
+use Rattle.merge_ranges.specs.Merges.{IsMerge, AreMerges, Overlap, by_first_cell}
 use Rattle.merge_ranges.specs.Calls.{ListsJust}
 use Rattle.merge_ranges.specs.Following.{AreWithin, CameFrom, FollowedStayMerges, KeepsAll}
-use Rattle.merge_ranges.specs.Tests.{has_many_cells, tears_merge, merge_after}
-use Rattle.merge_ranges.proofs.Rectangles.{ends_on, cells_are, are_cells, meets, meeting, from_meeting}
+use Rattle.merge_ranges.specs.Tests.{tears_merge, merge_after}
+use Rattle.merge_ranges.specs.EndsLaws.{are_cells, cells_are}
+use Rattle.merge_ranges.specs.FirstCells.{not_before_itself}
+use Rattle.merge_ranges.specs.FollowingLaws.{IsUntorn, area_is, area_kept, becomes_merge, kept_area, keeps_all, met_before, none_torn}
+use Rattle.merge_ranges.proofs.Rectangles.{meets, meeting, from_meeting}
 use Rattle.cell_value.specs.Elements.{Contains-filter_map, Contains-filter_map_from}
 use Rattle.merge_ranges.proofs.Lists.{distinct-filter_map}
-use Rattle.merge_ranges.proofs.Merging.{distinct_merges, not_before_itself, one_merge, permuted_merges}
-
-mapped : {A B : Type 0} (f : A → B) (o : Option A) (y : B) → option_map f o ≡ Some y
-    → (x : A) × (o ≡ Some x) × (f x ≡ y)
-mapped f None y e = absurd (false≢true (ap is_some e))
-mapped f (Some x) y e = (x, refl, same_Some (f x) y e)
-
-area_is : (axis : Axis) (count : ℕ) (change : Change) (merge area : Area)
-    → area_followed merge.sheet axis count change merge ≡ Some area
-    → (band : Band) × (track_of (band_on axis merge) count change ≡ Some band) × (with_band axis merge band ≡ area)
-area_is axis count change merge area is =
-    mapped (with_band axis merge) (track_of (band_on axis merge) count change) area
-    (rw (eq-eqb merge.sheet merge.sheet refl) at is)
+use Rattle.merge_ranges.proofs.Merging.{distinct_merges, one_merge, permuted_merges}
 
 with_sheet : (axis : Axis) (merge area : Area) (band : Band) → with_band axis merge band ≡ area
     → area.sheet ≡ merge.sheet
@@ -59,197 +48,107 @@ pub followed_sheet : (axis : Axis) (count : ℕ) (change : Change) (merge area :
 followed_sheet axis count change merge area is =
     let (band, tracked, same) = area_is axis count change merge area is in with_sheet axis merge area band same
 
-kept_area : (o : Option Area) (area : Area) → option_and_then (λ a. cond (has_many_cells a) (Some a) None) o ≡ Some area
-    → (o ≡ Some area) × (has_many_cells area ≡ true)
-kept_area None area e = absurd (false≢true (ap is_some e))
-kept_area (Some a) area e =
-    let both = cond_some (has_many_cells a) a area e in
-    (ap Some both.1, subst (λ x. has_many_cells x ≡ true) both.1 both.0)
+module _ (axis : Axis) (count : ℕ) (change : Change) (fits : Fits change count) (stay_within : TracksStayWithin)
+    (apart : SpansStayApart) where
+  stay_apart : (one other one' other' : Area) → IsUntorn axis count change one → IsUntorn axis count change other
+      → meets one other ≡ false → merge_after axis count change one ≡ Some one'
+      → merge_after axis count change other ≡ Some other' → meets one' other' ≡ false
+  stay_apart one other one' other' whole whole' far is is' = elim (cases_Bool (meets one' other')) [
+    | inl h ↦
+        let both = meeting one' other' (becomes_merge axis count change fits stay_within one one' whole is).0
+        (becomes_merge axis count change fits stay_within other other' whole' is').0 h in
+        let before = met_before axis count change fits stay_within apart one other one' other' whole whole' is is' both
+        in
+        absurd (false≢true (sym far ∙ from_meeting one other whole.0.0 whole'.0.0 before))
+    | inr h ↦ h
+  ]
 
-area_kept : (o : Option Area) (area : Area) → o ≡ Some area → has_many_cells area ≡ true
-    → option_and_then (λ a. cond (has_many_cells a) (Some a) None) o ≡ Some area
-area_kept o area is cells =
-    ap (option_and_then (λ a. cond (has_many_cells a) (Some a) None)) is ∙ ap (λ t. cond t (Some area) None) cells
+  module _ (merges : List Area) (are : AreMerges merges) (within : AreWithin axis count merges)
+      (untorn : All (λ merge. ¬ (IsTorn change count (band_on axis merge))) merges) where
+    all_untorn : All (IsUntorn axis count change) merges
+    all_untorn k d l = (are.each k d l, within k d l, untorn k d l)
 
--- a line of a band with both ends is one of those that it is within
-below : (band : Band) (count line : ℕ) → HasEnds band → Within band count → HasLine band line → line < count
-below Whole count line ends within has = absurd ends
-below (From start) count line ends within has = absurd ends
-below (Span start end) count line ends within has = let a = has.1 in let b = within.1 in omega arith
+    -- what is followed to areas that have a cell in common is one merge
+    from_one : (one other one' other' : Area) → Contains merges one → Contains merges other
+        → merge_after axis count change one ≡ Some one' → merge_after axis count change other ≡ Some other'
+        → meets one' other' ≡ true → one ≡ other
+    from_one one other one' other' held held' is is' meet = elim (cases_Bool (meets one other)) [
+      | inl met ↦ one_merge merges are one other held held' met
+      | inr far ↦ absurd (false≢true (sym (stay_apart one other one' other'
+          (All-contains (IsUntorn axis count change) merges one all_untorn held)
+          (All-contains (IsUntorn axis count change) merges other all_untorn held') far is is') ∙ meet))
+    ]
 
-module _ (axis : Axis) (count : ℕ) (change : Change) (fits : Fits change count) where
-  -- a merge that isn't torn
-  abbrev Good : Area → Type 0
-  Good merge = IsMerge merge × Within (band_on axis merge) count × ¬ (IsTorn change count (band_on axis merge))
+    module _ (after : List Area) (lists : ListsJust (CameFrom axis count change merges) after) where
+      came_from : (k : ℕ) (d : Area) → k < length after → CameFrom axis count change merges (get_or after k d)
+      came_from k d l = (lists.exactly (get_or after k d)).0 (Contains-get_or after k d l)
 
-  becomes : (merge area : Area) → merge_after axis count change merge ≡ Some area
-      → (band : Band) × (track_of (band_on axis merge) count change ≡ Some band)
-      × (with_band axis merge band ≡ area) × (has_many_cells area ≡ true)
-  becomes merge area is =
-      let kept = kept_area (area_followed merge.sheet axis count change merge) area is in
-      let (band, tracked, same) = area_is axis count change merge area kept.0 in
-      (band, tracked, same, kept.1)
+      goes : (area : Area) (came : CameFrom axis count change merges area)
+          → merge_after axis count change came.merge ≡ Some area
+      goes area came = area_kept (area_followed came.merge.sheet axis count change came.merge) area came.followed
+          (are_cells area came.cells)
 
-  module _ (stay_within : TracksStayWithin) where
-    stays : (band found : Band) → Within band count → track_of band count change ≡ Some found
-        → Within found (count_after change count)
-    stays band found within is =
-        subst (λ o. IfSome o (λ b. Within b (count_after change count))) is (stay_within band count change fits within)
+      all_merges : All IsMerge after
+      all_merges k d l =
+          let came = came_from k d l in
+          becomes_merge axis count change fits stay_within came.merge (get_or after k d)
+          (All-contains (IsUntorn axis count change) merges came.merge all_untorn came.listed)
+          (goes (get_or after k d) came)
 
-    -- a band with both ends is followed to one
-    ends_after : (band found : Band) → HasEnds band → Within band count → track_of band count change ≡ Some found
-        → HasEnds found
-    ends_after Whole found ends within is = absurd ends
-    ends_after (From start) found ends within is = absurd ends
-    ends_after (Span start end) found ends within is =
-        let (p, at, same) = mapped (λ (p : ℕ × ℕ). Span p.0 p.1) (span_after change start end) found is in
-        subst (λ band. Within band (count_after change count) → HasEnds band) same (λ there. there.0)
-        (stays (Span start end) found within is)
+      all_apart : AllPairs (λ one other. ¬ (Overlap one other)) after
+      all_apart i j d l m overlap =
+          let one = came_from i d (omega arith) in
+          let other = came_from j d m in
+          let a : Area = get_or after i d in
+          let b : Area = get_or after j d in
+          let is = goes a one in
+          let is' = goes b other in
+          let meet = from_meeting a b (all_merges i d (omega arith)).0 (all_merges j d m).0 overlap in
+          let same = from_one one.merge other.merge a b one.listed other.listed is is' meet in
+          let equal : a ≡ b = same_Some a b
+          (sym is ∙ ap (merge_after axis count change) same ∙ is') in
+          not_before_itself b (subst (λ x. by_first_cell x b ≡ Less) equal
+          (Less-from_sorted by_first_cell after i j d lists.in_order l m))
 
-    rectangle_with : (axis : Axis) (merge : Area) (band : Band) → IsRectangle merge → HasEnds band
-        → IsRectangle (with_band axis merge band)
-    rectangle_with Rows merge band is ends = (ends, is.1)
-    rectangle_with Columns merge band is ends = (is.0, ends)
+      pub still_merges : AreMerges after
+      still_merges = record { each = all_merges; apart = all_apart; in_order = lists.in_order }
 
-    becomes_merge : (merge area : Area) → Good merge → merge_after axis count change merge ≡ Some area → IsMerge area
-    becomes_merge merge area good is =
-        let (band, tracked, same, cells) = becomes merge area is in
-        let ends = ends_after (band_on axis merge) band (ends_on axis merge good.0.0) good.1 tracked in
-        (subst IsRectangle same (rectangle_with axis merge band good.0.0 ends), cells_are area cells)
+    abbrev made : List Area
+    made = filter_map (merge_after axis count change) merges
 
-    module _ (apart : SpansStayApart) where
-      -- a band that isn't torn, and what it becomes
-      abbrev Goes : Band → Band → Type 0
-      Goes band found = HasEnds band × Within band count × ¬ (IsTorn change count band)
-          × (track_of band count change ≡ Some found)
+    of_made : (P : Area → Type 0) → ((merge area : Area) → IsUntorn axis count change merge
+        → merge_after axis count change merge ≡ Some area → P area) → All P made
+    of_made P h = All-weaker (Contains made) P (λ area c.
+        let (merge, held, is) = Contains-filter_map_from (merge_after axis count change) merges area c in
+        h merge area (All-contains (IsUntorn axis count change) merges merge all_untorn held) is) made
+        (All-contains_itself made)
 
-      -- bands that share a line afterwards shared one before
-      shared : (one other one' other' : Band) → Goes one one' → Goes other other'
-          → ShareLine one' other' (count_after change count) → ShareLine one other count
-      shared Whole other one' other' g g' line = absurd g.0
-      shared (From start) other one' other' g g' line = absurd g.0
-      shared (Span start end) Whole one' other' g g' line = absurd g'.0
-      shared (Span start end) (From start') one' other' g g' line = absurd g'.0
-      shared (Span start end) (Span start' end') one' other' (_, within, whole, is) (_, within', whole', is') line =
-          apart start end start' end' one' other' count change fits within whole is within' whole' is' line
+    made_distinct : IsDistinct meets made
+    made_distinct = distinct-filter_map (merge_after axis count change) meets meets (IsUntorn axis count change)
+        stay_apart merges (recursion_from_All (IsUntorn axis count change) merges all_untorn)
+        (distinct_merges merges are)
 
-      -- and so did areas with these bands on the axis
-      met : (axis : Axis) (one other : Area) (band band' : Band) → Goes (band_on axis one) band
-          → Goes (band_on axis other) band'
-          → Overlap (with_band axis one band) (with_band axis other band') → Overlap one other
-      met Rows one other band band' g g' o =
-          let there = below band (count_after change count) o.row
-          (ends_after one.rows band g.0 g.1 g.3) (stays one.rows band g.1 g.3) o.one_holds.0 in
-          let (row, l, a, b) = shared one.rows other.rows band band' g g'
-          (o.row, there, o.one_holds.0, o.other_holds.0) in
-          record { row = row; col = o.col; one_holds = (a, o.one_holds.1); other_holds = (b, o.other_holds.1) }
-      met Columns one other band band' g g' o =
-          let there = below band (count_after change count) o.col
-          (ends_after one.cols band g.0 g.1 g.3) (stays one.cols band g.1 g.3) o.one_holds.1 in
-          let (col, l, a, b) = shared one.cols other.cols band band' g g'
-          (o.col, there, o.one_holds.1, o.other_holds.1) in
-          record { row = o.row; col = col; one_holds = (o.one_holds.0, a); other_holds = (o.other_holds.0, b) }
+    module _ (after : List Area) (moved : IsPermutation made after)
+        (sorted : IsSortedByKey first_cell by_rows after) where
+      changed_are_merges : AreMerges after
+      changed_are_merges = permuted_merges made after
+          (of_made IsMerge (becomes_merge axis count change fits stay_within)) made_distinct moved sorted
 
-      stay_apart : (one other one' other' : Area) → Good one → Good other → meets one other ≡ false
-          → merge_after axis count change one ≡ Some one' → merge_after axis count change other ≡ Some other'
-          → meets one' other' ≡ false
-      stay_apart one other one' other' good good' far is is' =
-          let (band, tracked, same, cells) = becomes one one' is in
-          let (band', tracked', same', cells') = becomes other other' is' in
-          elim (cases_Bool (meets one' other')) [
-            | inl h ↦
-                let o = meeting one' other' (becomes_merge one one' good is).0
-                (becomes_merge other other' good' is').0 h in
-                let before = met axis one other band band'
-                (ends_on axis one good.0.0, good.1, good.2, tracked)
-                (ends_on axis other good'.0.0, good'.1, good'.2, tracked')
-                (subst (λ a. Overlap a (with_band axis other band')) (sym same) (subst (Overlap one') (sym same') o)) in
-                absurd (false≢true (sym far ∙ from_meeting one other good.0.0 good'.0.0 before))
-            | inr h ↦ h
-          ]
-
-      module _ (merges : List Area) (are : AreMerges merges) (within : AreWithin axis count merges)
-          (untorn : All (λ merge. ¬ (IsTorn change count (band_on axis merge))) merges) where
-        all_good : All Good merges
-        all_good k d l = (are.each k d l, within k d l, untorn k d l)
-
-        -- what is followed to areas that have a cell in common is one merge
-        from_one : (one other one' other' : Area) → Contains merges one → Contains merges other
-            → merge_after axis count change one ≡ Some one' → merge_after axis count change other ≡ Some other'
-            → meets one' other' ≡ true → one ≡ other
-        from_one one other one' other' held held' is is' meet = elim (cases_Bool (meets one other)) [
-          | inl met ↦ one_merge merges are one other held held' met
-          | inr far ↦ absurd (false≢true (sym (stay_apart one other one' other'
-              (All-contains Good merges one all_good held) (All-contains Good merges other all_good held') far is is')
-              ∙ meet))
-        ]
-
-        module _ (after : List Area) (lists : ListsJust (CameFrom axis count change merges) after) where
-          came_from : (k : ℕ) (d : Area) → k < length after → CameFrom axis count change merges (get_or after k d)
-          came_from k d l = (lists.exactly (get_or after k d)).0 (Contains-get_or after k d l)
-
-          goes : (area : Area) (came : CameFrom axis count change merges area)
-              → merge_after axis count change came.merge ≡ Some area
-          goes area came = area_kept (area_followed came.merge.sheet axis count change came.merge) area came.followed
-              (are_cells area came.cells)
-
-          all_merges : All IsMerge after
-          all_merges k d l =
-              let came = came_from k d l in
-              becomes_merge came.merge (get_or after k d) (All-contains Good merges came.merge all_good came.listed)
-              (goes (get_or after k d) came)
-
-          all_apart : AllPairs (λ one other. ¬ (Overlap one other)) after
-          all_apart i j d l m overlap =
-              let one = came_from i d (omega arith) in
-              let other = came_from j d m in
-              let a : Area = get_or after i d in
-              let b : Area = get_or after j d in
-              let is = goes a one in
-              let is' = goes b other in
-              let meet = from_meeting a b (all_merges i d (omega arith)).0 (all_merges j d m).0 overlap in
-              let same = from_one one.merge other.merge a b one.listed other.listed is is' meet in
-              let equal : a ≡ b = same_Some a b
-              (sym is ∙ ap (merge_after axis count change) same ∙ is') in
-              not_before_itself b (subst (λ x. by_first_cell x b ≡ Less) equal
-              (Less-from_sorted by_first_cell after i j d lists.in_order l m))
-
-          pub still_merges : AreMerges after
-          still_merges = record { each = all_merges; apart = all_apart; in_order = lists.in_order }
-
-        abbrev made : List Area
-        made = filter_map (merge_after axis count change) merges
-
-        of_made : (P : Area → Type 0) → ((merge area : Area) → Good merge
-            → merge_after axis count change merge ≡ Some area → P area) → All P made
-        of_made P h = All-weaker (Contains made) P (λ area c.
-            let (merge, held, is) = Contains-filter_map_from (merge_after axis count change) merges area c in
-            h merge area (All-contains Good merges merge all_good held) is) made (All-contains_itself made)
-
-        made_distinct : IsDistinct meets made
-        made_distinct = distinct-filter_map (merge_after axis count change) meets meets Good stay_apart merges
-            (recursion_from_All Good merges all_good) (distinct_merges merges are)
-
-        module _ (after : List Area) (moved : IsPermutation made after)
-            (sorted : IsSortedByKey first_cell by_rows after) where
-          changed_are_merges : AreMerges after
-          changed_are_merges = permuted_merges made after (of_made IsMerge becomes_merge) made_distinct moved sorted
-
-          lists_changed : ListsJust (CameFrom axis count change merges) after
-          lists_changed = record {
-            in_order = changed_are_merges.in_order;
-            exactly = λ area. (
-              (λ c.
-                  let (merge, held, is) = Contains-filter_map_from (merge_after axis count change) merges area
-                  (Contains-permutation after made area (IsPermutation-sym made after moved) c) in
-                  let kept = kept_area (area_followed merge.sheet axis count change merge) area is in
-                  record { merge = merge; listed = held; followed = kept.0; cells = cells_are area kept.1 }),
-              (λ came. Contains-permutation made after area moved
-                  (Contains-filter_map (merge_after axis count change) merges came.merge area came.listed
-                  (area_kept (area_followed came.merge.sheet axis count change came.merge) area came.followed
-                  (are_cells area came.cells)))),
-            );
-          }
+      lists_changed : ListsJust (CameFrom axis count change merges) after
+      lists_changed = record {
+        in_order = changed_are_merges.in_order;
+        exactly = λ area. (
+          (λ c.
+              let (merge, held, is) = Contains-filter_map_from (merge_after axis count change) merges area
+              (Contains-permutation after made area (IsPermutation-sym made after moved) c) in
+              let kept = kept_area (area_followed merge.sheet axis count change merge) area is in
+              record { merge = merge; listed = held; followed = kept.0; cells = cells_are area kept.1 }),
+          (λ came. Contains-permutation made after area moved
+              (Contains-filter_map (merge_after axis count change) merges came.merge area came.listed
+              (area_kept (area_followed came.merge.sheet axis count change came.merge) area came.followed
+              (are_cells area came.cells)))),
+        );
+      }
 
 module _ (axis : Axis) (count : ℕ) (change : Change) (fits : Fits change count) (where_torn : TearsWhereTorn)
     (merges : List Area) (within : AreWithin axis count merges) where
@@ -266,19 +165,6 @@ module _ (axis : Axis) (count : ℕ) (change : Change) (fits : Fits change count
       let there = All-contains (λ m. Within (band_on axis m) count) merges merge within (k, l, at) in
       list_any-from_Any (tears_merge axis count change) merges
       (k, merge, l, at, (where_torn (band_on axis merge) count change fits there).1 torn)
-
-  none_torn : list_any (tears_merge axis count change) merges ≡ false
-      → All (λ merge. ¬ (IsTorn change count (band_on axis merge))) merges
-  none_torn none k d l torn =
-      false≢true (sym none ∙ list_any_at (tears_merge axis count change) merges k d l
-      ((where_torn (band_on axis (get_or merges k d)) count change fits (within k d l)).1 torn))
-
-  keeps_all : TornOrWhole → list_any (tears_merge axis count change) merges ≡ false → KeepsAll axis count change merges
-  keeps_all or_whole none move k d l = elim
-      (or_whole (band_on axis (get_or merges k d)) count change fits (within k d l) move) [
-        | inl torn ↦ absurd (none_torn none k d l torn)
-        | inr whole ↦ whole
-      ]
 
 -- what a change leaves that tears none of the merges
 pub record Changed (axis : Axis) (count : ℕ) (change : Change) (merges after : List Area) : Type 0 where
@@ -297,7 +183,7 @@ changed axis count change merges after stay_within apart where_torn or_whole fit
     record {
       are = changed_are_merges axis count change fits stay_within apart merges are within untorn after moved sorted;
       followed = lists_changed axis count change fits stay_within apart merges are within untorn after moved sorted;
-      whole = keeps_all axis count change fits where_torn merges within or_whole none;
+      whole = keeps_all axis count change fits where_torn merges within none or_whole;
     }
 
 -- ---- the law

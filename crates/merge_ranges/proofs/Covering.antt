@@ -19,10 +19,11 @@ use Rattle.grid_range.specs.declared.axis.Axis.{Axis}
 use Rattle.grid_range.specs.declared.axis.Axis.TheVariants.{Rows, Columns}
 use Rattle.grid_range.specs.declared.band.Band.{Band}
 use Rattle.grid_range.specs.declared.band.Band.TheVariants.{Whole, From, Span}
+use Rattle.merge_ranges.specs.EndsLaws.{ends_on}
 use Rattle.merge_ranges.specs.Lines.{AreCurrent, BeginsLater, IsRising, Tells, band_across, covered_places, covers_on, places_in, reaches}
 use Rattle.merge_ranges.specs.Merges.{HasEnds, IsMerge, IsRectangle, Overlap}
 use Rattle.merge_ranges.specs.Tests.{has_cell_of, has_line, line_count, past_line}
-use Rattle.merge_ranges.proofs.Rectangles.{ends_on, from_touching, line_there}
+use Rattle.merge_ranges.proofs.Rectangles.{from_touching, line_there}
 
 -- ---- tests of lists
 

@@ -6,9 +6,7 @@ use Rattle.std.specs.List.{IsDistinct, All, list_any, range_with_len}
 use Rattle.std.specs.List.Sorted.{IsSortedByKey, IsPermutation}
 use Rattle.std.specs.Ordering.{nat_cmp, is_lt, ordering_reverse}
 use Rattle.std.specs.declared.cmp.Ordering.TheVariants.{Less, Equal, Greater}
-use Rattle.std.specs.Cmp.{IsTotalOrder, nat_cmp_total}
 use Rattle.std.proofs.lemmas.Bool.{false≢true, cases_Bool, cases_order, le-ltb}
-use Rattle.std.proofs.lemmas.Cmp.{then_total, on_total}
 use Rattle.std.proofs.lemmas.List.{get_or_default}
 use Rattle.std.proofs.lemmas.List.Elements.{All-append, All-nil, All-contains, All-filter, All-push, Contains-append_cases, Contains-append_left, Contains-append_right, Contains-get_or}
 use Rattle.std.proofs.lemmas.List.FromFn.{get_or-map-range_with_len, get_or-range_with_len, length-map-range_with_len, length-range_with_len}
@@ -23,21 +21,18 @@ use Rattle.grid_range.specs.declared.axis.Axis.{Axis}
 use Rattle.grid_range.specs.declared.axis.Axis.TheVariants.{Rows, Columns}
 use Rattle.grid_range.specs.declared.band.Band.{Band}
 use Rattle.grid_range.specs.Area.{band_on}
+use Rattle.grid_range.specs.ByRows.{by_rows_total}
 use Rattle.grid_range.specs.Band.{HasLine, first_line}
 use Rattle.merge_ranges.specs.Merges.{HasEnds, HasManyCells, IsRectangle, IsMerge, AreMerges, Overlap, HoldsAll, by_first_cell}
 use Rattle.merge_ranges.specs.Calls.{AreParts, Cuts, ListsJust, IsLeft, IsLeftOrPart}
 use Rattle.merge_ranges.specs.Tests.{holds_all, cuts, has_many_cells, left_by, line_of, lines_of, past_line}
 use Rattle.grid_range.specs.Area.{first_cell, by_rows}
+use Rattle.merge_ranges.specs.EndsLaws.{are_cells, cells_are, ends_on, line_between, rises}
+use Rattle.merge_ranges.specs.FirstCells.{by_first_total}
+use Rattle.merge_ranges.specs.LineParts.{line_among, line_part}
 use Rattle.merge_ranges.proofs.Ordered.{sorted_same}
-use Rattle.merge_ranges.proofs.Rectangles.{are_cells, cells_are, ends_on, has_line, line_there, rises, holds_all_cells, all_cells_hold, cuts_cells, from_cuts, meets, meets_turned, meeting, apart, not_overlapping, same_first_meets}
+use Rattle.merge_ranges.proofs.Rectangles.{line_there, holds_all_cells, all_cells_hold, cuts_cells, from_cuts, meets, meets_turned, meeting, apart, not_overlapping, same_first_meets}
 use Rattle.cell_value.specs.Elements.{Contains-filter, Contains-filter_from, Contains-map, Contains-map_from, IsDistinct-append, IsDistinct-filter}
-
-pub by_first_total : IsTotalOrder by_first_cell
-by_first_total = then_total (on_total (λ (a : Area). first_line a.rows) nat_cmp_total)
-    (on_total (λ (a : Area). first_line a.cols) nat_cmp_total)
-
-by_rows_total : IsTotalOrder by_rows
-by_rows_total = then_total (on_total (λ (p : ℕ × ℕ). p.0) nat_cmp_total) (on_total (λ (p : ℕ × ℕ). p.1) nat_cmp_total)
 
 nothing_sorted : IsStrictlySortedBy by_first_cell []
 unfolding IsStrictlySortedBy
@@ -71,12 +66,6 @@ one_merge merges are one other (i, l, at) (j, m, at') met =
       | inr (inr more) ↦ absurd (false≢true (sym (far j i more l)
           ∙ meets_turned (get_or merges j one) (get_or merges i one) ∙ both))
     ]
-
--- none comes before itself
-pub not_before_itself : (merge : Area) → ¬ (by_first_cell merge merge ≡ Less)
-not_before_itself merge less =
-    let turned : Less ≡ Greater = sym less ∙ by_first_total.antisymm merge merge ∙ ap ordering_reverse less in
-    cc
 
 pub merges_are : (merges : List Area) → All IsMerge merges → IsDistinct meets merges
     → IsStrictlySortedBy by_first_cell merges → AreMerges merges
@@ -175,7 +164,8 @@ module _ (area : Area) (merges : List Area) (are : AreMerges merges) where
 
   -- parts of the area in the place of those that it holds
   module _ (whole : ¬ (Any (Cuts area) merges)) (parts : List Area) (are_parts : AreParts area parts)
-      (after : List Area) (moved : IsPermutation (left ++ parts) after) (sorted : IsSortedByKey first_cell by_rows after)
+      (after : List Area) (moved : IsPermutation (left ++ parts) after)
+      (sorted : IsSortedByKey first_cell by_rows after)
     where
       far : (merge part : Area) → Contains left merge → Contains parts part → meets merge part ≡ false
       far merge part c d = elim (cases_Bool (meets merge part)) [
@@ -199,7 +189,8 @@ module _ (area : Area) (merges : List Area) (are : AreMerges merges) where
 
       parts_apart : IsDistinct meets parts
       parts_apart = IsDistinct-from_apart meets parts (λ i j d l m.
-          apart (get_or parts i d) (get_or parts j d) (are_parts.each i d (omega (arith, l, m))).0 (are_parts.each j d m).0
+          apart (get_or parts i d) (get_or parts j d) (are_parts.each i d (omega (arith, l, m))).0
+          (are_parts.each j d m).0
           (are_parts.apart i j d l m))
 
       joined : IsDistinct meets (left ++ parts)
@@ -236,13 +227,6 @@ area_is_part area is = record {
 
 -- ---- the lines of an area
 
-line_among : (first count line : ℕ) → Contains (range_with_len first count) line
-    → (first ≤ line) × (line < first + count)
-line_among first count line (k, l, at) =
-    let few : k < count = subst (λ n. k < n) (length-range_with_len first count) l in
-    let is = get_or-range_with_len first count k line few in
-    (omega (arith, is, at), omega (arith, is, at, few))
-
 among_line : (first count line : ℕ) → first ≤ line → line < first + count → Contains (range_with_len first count) line
 among_line first count line low high =
     let few : line - first < count = omega (arith, low, high) in
@@ -268,23 +252,6 @@ two_apart Columns area line other less =
     ap (λ b. rows && (nat_lt line (other + 1) && b)) (le-ltb other (line + 1) (omega (arith, less)))
     ∙ ap (λ b. rows && b) (and_false (nat_lt line (other + 1)))
     ∙ and_false rows
-
-line_part : (axis : Axis) (area : Area) (line : ℕ) → IsRectangle area → HasLine (band_on axis area) line
-    → IsRectangle (line_of axis area line) × HoldsAll area (line_of axis area line)
-line_part Rows area line is has = (
-  (omega arith, is.1),
-  λ row col holds. (
-    subst (HasLine area.rows) (let low = holds.0.0 in let high = holds.0.1 in omega (arith, low, high)) has,
-    holds.1,
-  ),
-)
-line_part Columns area line is has = (
-  (is.0, omega arith),
-  λ row col holds. (
-    holds.0,
-    subst (HasLine area.cols) (let low = holds.1.0 in let high = holds.1.1 in omega (arith, low, high)) has,
-  ),
-)
 
 -- one of them
 abbrev IsLineOf : Axis → Area → Area → Type 0
@@ -324,7 +291,7 @@ module _ (axis : Axis) (area : Area) (is : IsRectangle area) where
       let (line, among, is_part) = Contains-map_from (line_of axis area) (range_with_len (first_line band) lines) part
       has in
       let both = line_among (first_line band) lines line among in
-      (line, has_line band line band_ends both.0 (omega (arith, both.1, rises band band_ends)), sym is_part)
+      (line, line_between band line band_ends both.0 (omega (arith, both.1, rises band band_ends)), sym is_part)
 
   among_lines : (part : Area) → IsLineOf axis area part → Contains all_lines part
   among_lines part (line, has, is_part) =
@@ -348,7 +315,8 @@ module _ (axis : Axis) (area : Area) (is : IsRectangle area) where
   pub lines_are_parts : AreParts area (lines_of axis area)
   lines_are_parts = record {
     each = λ k d there.
-        let both = (lines_listed (get_or (lines_of axis area) k d)).0 (Contains-get_or (lines_of axis area) k d there) in
+        let both =
+        (lines_listed (get_or (lines_of axis area) k d)).0 (Contains-get_or (lines_of axis area) k d there) in
         ((part_of (get_or (lines_of axis area) k d) both.0).0, both.1);
     apart = λ i j d l m.
         let one = (lines_listed (get_or (lines_of axis area) i d)).0
@@ -358,6 +326,7 @@ module _ (axis : Axis) (area : Area) (is : IsRectangle area) where
         (part_of (get_or (lines_of axis area) i d) one.0).0 (part_of (get_or (lines_of axis area) j d) other.0).0
         (apart_from_distinct meets (lines_of axis area) i j d lines_apart l m);
     inside = λ k d there.
-        let both = (lines_listed (get_or (lines_of axis area) k d)).0 (Contains-get_or (lines_of axis area) k d there) in
+        let both =
+        (lines_listed (get_or (lines_of axis area) k d)).0 (Contains-get_or (lines_of axis area) k d there) in
         (part_of (get_or (lines_of axis area) k d) both.0).1;
   }

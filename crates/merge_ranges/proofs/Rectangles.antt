@@ -1,35 +1,16 @@
 -- What the tests of bands and areas say of their lines and cells.
 use Rattle.std.proofs.Common.{◌≡◌, ℕ, ◌-◌, ◌<◌, ◌≤◌, inl, inr, arith, refl, sym, ap, ◌∙◌, Bool, true, false}
-use Rattle.std.specs.Prelude.{◌&&◌, ◌||◌, not, nat_le, nat_lt, max}
+use Rattle.std.specs.Prelude.{◌&&◌, not, nat_le, nat_lt, max}
 use Rattle.std.proofs.lemmas.Bool.{false≢true, cases_Bool, and_parts, and_from, ltb-true, lt-ltb}
 use Rattle.std.proofs.lemmas.Bool.Decides.{nat_tests}
 use Rattle.grid_range.specs.declared.area.Area.{Area}
 use Rattle.grid_range.specs.declared.band.Band.{Band}
 use Rattle.grid_range.specs.declared.band.Band.TheVariants.{Whole, From, Span}
-use Rattle.grid_range.specs.Area.{band_on}
 use Rattle.grid_range.specs.Band.{HasLine, first_line}
-use Rattle.grid_range.specs.declared.axis.Axis.{Axis}
-use Rattle.grid_range.specs.declared.axis.Axis.TheVariants.{Rows, Columns}
-use Rattle.merge_ranges.specs.Merges.{HasEnds, HasManyLines, IsRectangle, HasManyCells, Overlap, HoldsAll}
+use Rattle.merge_ranges.specs.EndsLaws.{line_between, rises}
+use Rattle.merge_ranges.specs.Merges.{HasEnds, IsRectangle, Overlap, HoldsAll}
 use Rattle.merge_ranges.specs.Calls.{Cuts}
-use Rattle.merge_ranges.specs.Tests.{has_all, has_cell_of, has_some, past_line, holds_all, cuts, has_many_lines, has_many_cells}
-
--- a rectangle's bands have both ends
-pub ends_on : (axis : Axis) (area : Area) → IsRectangle area → HasEnds (band_on axis area)
-ends_on Rows area is = is.0
-ends_on Columns area is = is.1
-
--- a band with both ends has the lines between them
-pub rises : (band : Band) → HasEnds band → first_line band < past_line band
-rises Whole h = absurd h
-rises (From start) h = absurd h
-rises (Span start end) h = h
-
-pub has_line : (band : Band) (line : ℕ) → HasEnds band → first_line band ≤ line → line < past_line band
-    → HasLine band line
-has_line Whole line h a b = absurd h
-has_line (From start) line h a b = absurd h
-has_line (Span start end) line h a b = (a, b)
+use Rattle.merge_ranges.specs.Tests.{has_all, has_cell_of, has_some, past_line, holds_all, cuts}
 
 pub line_there : (band : Band) (line : ℕ) → HasEnds band → HasLine band line
     → (first_line band ≤ line) × (line < past_line band)
@@ -99,13 +80,13 @@ module _ (area merge : Area) (is : IsRectangle merge) where
       let low = rises merge.rows is.0 in
       let left = rises merge.cols is.1 in
       let row : HasLine merge.rows (first_line merge.rows) =
-      has_line merge.rows (first_line merge.rows) is.0 (omega arith) (omega arith) in
+      line_between merge.rows (first_line merge.rows) is.0 (omega arith) (omega arith) in
       let col : HasLine merge.cols (first_line merge.cols) =
-      has_line merge.cols (first_line merge.cols) is.1 (omega arith) (omega arith) in
+      line_between merge.cols (first_line merge.cols) is.1 (omega arith) (omega arith) in
       let last_row : HasLine merge.rows (past_line merge.rows - 1) =
-      has_line merge.rows (past_line merge.rows - 1) is.0 (omega arith) (omega arith) in
+      line_between merge.rows (past_line merge.rows - 1) is.0 (omega arith) (omega arith) in
       let last_col : HasLine merge.cols (past_line merge.cols - 1) =
-      has_line merge.cols (past_line merge.cols - 1) is.1 (omega arith) (omega arith) in
+      line_between merge.cols (past_line merge.cols - 1) is.1 (omega arith) (omega arith) in
       let front = all (first_line merge.rows) (first_line merge.cols) (row, col) in
       let back = all (past_line merge.rows - 1) (past_line merge.cols - 1) (last_row, last_col) in
       and_from (has_all area.rows (first_line merge.rows) (past_line merge.rows))
@@ -126,7 +107,7 @@ module _ (area merge : Area) (is : IsRectangle merge) where
         col = col;
         one_holds = (has, also);
         other_holds =
-            (has_line merge.rows row is.0 a b, has_line merge.cols col is.1 d e);
+            (line_between merge.rows row is.0 a b, line_between merge.cols col is.1 d e);
       }
 
   pub from_touching : Overlap area merge → has_cell_of area merge ≡ true
@@ -149,30 +130,6 @@ module _ (area merge : Area) (is : IsRectangle merge) where
         | inl all ↦ absurd (sticks (holds_all_cells all))
         | inr some ↦ ap not some
       ])
-
--- more than one line, and more than one cell
-pub lines_are : (band : Band) → has_many_lines band ≡ true → HasManyLines band
-lines_are Whole h = absurd (false≢true h)
-lines_are (From start) h = absurd (false≢true h)
-lines_are (Span start end) h = grind (arith, nat_tests)
-
-pub are_lines : (band : Band) → HasManyLines band → has_many_lines band ≡ true
-are_lines Whole h = absurd h
-are_lines (From start) h = absurd h
-are_lines (Span start end) h = grind (arith, nat_tests)
-
-pub cells_are : (area : Area) → has_many_cells area ≡ true → HasManyCells area
-cells_are area h = elim (cases_Bool (has_many_lines area.rows)) [
-  | inl rows ↦ inl (lines_are area.rows rows)
-  | inr none ↦ inr (lines_are area.cols (sym (ap (λ b. b || has_many_lines area.cols) none) ∙ h))
-]
-
-pub are_cells : (area : Area) → HasManyCells area → has_many_cells area ≡ true
-are_cells area (inl rows) = ap (λ b. b || has_many_lines area.cols) (are_lines area.rows rows)
-are_cells area (inr cols) = elim (has_many_lines area.rows) as (λ b. (b || has_many_lines area.cols) ≡ true) [
-  | true ↦ refl
-  | false ↦ are_lines area.cols cols
-]
 
 -- two rectangles have a cell in common; the test is symmetrical
 abbrev pub meets : Area → Area → Bool
@@ -219,8 +176,8 @@ meeting one other is also h =
     record {
       row = row;
       col = col;
-      one_holds = (has_line one.rows row is.0 a b, has_line one.cols col is.1 e f);
-      other_holds = (has_line other.rows row also.0 c d, has_line other.cols col also.1 g h);
+      one_holds = (line_between one.rows row is.0 a b, line_between one.cols col is.1 e f);
+      other_holds = (line_between other.rows row also.0 c d, line_between other.cols col also.1 g h);
     }
 
 pub from_meeting : (one other : Area) → IsRectangle one → IsRectangle other → Overlap one other → meets one other ≡ true

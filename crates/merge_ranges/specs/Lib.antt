@@ -4,3 +4,7 @@ pub mod Following
 pub mod Tests
 pub mod Lines
 pub mod Faults
+pub mod EndsLaws
+pub mod FirstCells
+pub mod LineParts
+pub mod FollowingLaws

@@ -1,11 +1,8 @@
 -- What is told of a filter that is set or cleared; one that breaks no rule is one that its sheet can have.
-use Rattle.std.proofs.Common.{◌≡◌, ℕ, ◌<◌, List, [], ◌∷◌, Bool, true, false, Bor, refl, sym, ap, subst, ◌∙◌, arith}
-use Rattle.std.specs.Prelude.{◌||◌, nat_le, not, Option, None, Some, Result, Ok, Err, IfSome, IsSomeAnd}
-use Rattle.std.specs.List.{All, list_any}
+use Rattle.std.proofs.Common.{◌≡◌, ℕ, List, [], ◌∷◌, Bool, true, false, Bor, refl, sym, ap, subst, ◌∙◌}
+use Rattle.std.specs.Prelude.{not, Option, None, Some, Result, Ok, Err, IfSome, IsSomeAnd}
 use Rattle.std.specs.Option.{is_none, is_some, option_copied, option_map_or}
 use Rattle.std.proofs.lemmas.Bool.{false≢true}
-use Rattle.std.proofs.lemmas.Bool.Decides.{nat_tests}
-use Rattle.std.proofs.lemmas.List.Elements.{All-cons, All-nil}
 use Rattle.basic_filter.specs.declared.types.Criterion.{Criterion}
 use Rattle.basic_filter.specs.declared.types.Filter.{Filter}
 use Rattle.grid_range.specs.declared.area.Area.{Area}
@@ -21,29 +18,7 @@ use Rattle.sheets_json.specs.declared.spreadsheet.Reply.TheVariants as reply
 use Rattle.request_kinds.specs.ClearBasicFilter.{basic_filter_cleared}
 use Rattle.request_kinds.specs.Telling.{IsDoneTo}
 use Rattle.request_kinds.specs.Rows.{cut_on}
-use Rattle.request_kinds.specs.SetBasicFilter.{asks_past, basic_filter_set, broken_by_filter, put_on}
-
-neither : (one other : Bool) → (one || other) ≡ false → (one ≡ false) × (other ≡ false)
-neither true other is = absurd (false≢true (sym is))
-neither false other is = (refl, is)
-
-below : (count line : ℕ) → nat_le count line ≡ false → line < count
-below count line past = grind (arith, nat_tests)
-
-all_below : (count : ℕ) (criteria : List Criterion)
-    → list_any (λ criterion. nat_le count criterion.column) criteria ≡ false
-    → All (λ criterion. criterion.column < count) criteria
-all_below count [] none = All-nil (λ (criterion : Criterion). criterion.column < count)
-all_below count (first ∷ criteria) none =
-    let rest = list_any (λ (criterion : Criterion). nat_le count criterion.column) criteria in
-    let parts = neither (nat_le count first.column) rest none in
-    All-cons (λ (criterion : Criterion). criterion.column < count) first criteria (below count first.column parts.0)
-    (all_below count criteria parts.1)
-
--- no criterion is of a column that the sheet doesn't have
-pub none_past : (filter : Filter) (sheet : PlaceSheet) → asks_past filter sheet ≡ false
-    → All (λ criterion. criterion.column < sheet.table.cols) filter.criteria
-none_past filter sheet none = all_below sheet.table.cols filter.criteria none
+use Rattle.request_kinds.specs.SetBasicFilter.{basic_filter_set, broken_by_filter, put_on}
 
 -- ---- setBasicFilter
 
@@ -87,9 +62,11 @@ module _ (asked : Filter) (sheets : List PlaceSheet) where
   abbrev its_sheet : Option PlaceSheet
   its_sheet = place_sheet_with asked.area.sheet sheets
 
-  pub filter_told : (area : Area) → an_area area ≡ judged_by (broken_by_filter its_sheet asked) (cut_on its_sheet asked.area)
+  pub filter_told : (area : Area) → an_area area
+      ≡ judged_by (broken_by_filter its_sheet asked) (cut_on its_sheet asked.area)
       → as_told (put_on asked area) ≡ basic_filter_set asked sheets
-  filter_told area is = cut_told (first_broken (broken_by_filter its_sheet asked)) (cut_on its_sheet asked.area) area asked is
+  filter_told area is =
+      cut_told (first_broken (broken_by_filter its_sheet asked)) (cut_on its_sheet asked.area) area asked is
 
   pub filter_refused : (broken : Rule)
       → a_rule broken ≡ judged_by (broken_by_filter its_sheet asked) (cut_on its_sheet asked.area)

@@ -9,11 +9,9 @@ pub mod MergesMade
 pub mod MergesOnce
 pub mod RequestsOnce
 pub mod FilterPut
-pub mod PatchWithin
 pub mod ProtectionsJudged
 pub mod ProtectionsMade
 pub mod MetadataJudged
 pub mod MetadataSeen
 pub mod MetadataMade
-pub mod LocationsWithin
 pub mod LookingUp

@@ -34,7 +34,11 @@ module _ (project : List ℕ) (asked : MetadataLookup) (book : PlaceBook) where
 
   pub place_refused : (broken : Rule) → judged_place ≡ Some broken → AreIdsFound project asked book (Err broken)
   place_refused broken is =
-      record { broken = location_first book.sheets (locations_of (asked ∷ [])) bad broken is; unbroken = tt; in_order = tt }
+      record {
+        broken = location_first book.sheets (locations_of (asked ∷ [])) bad broken is;
+        unbroken = tt;
+        in_order = tt;
+      }
 
   module _ (none : judged_place ≡ None) where
     pub ids_are : (ids : List ℕ) → bad ≡ false
@@ -44,5 +48,6 @@ module _ (project : List ℕ) (asked : MetadataLookup) (book : PlaceBook) where
       broken = tt;
       unbroken = lookup_behind book.sheets (locations_of (asked ∷ [])) bad none
           ∙ ap (λ bad. cond bad (Some rule.BadLookup) None) good;
-      in_order = subst (λ items. AreIdsInOrder items ids) (found_alone (lookup_of asked) project book.metadata) in_order;
+      in_order =
+          subst (λ items. AreIdsInOrder items ids) (found_alone (lookup_of asked) project book.metadata) in_order;
     }

@@ -43,7 +43,8 @@ one_line line other = test_same _ _
     (λ is. grind (arith, nat_tests))
     (λ is. grind (arith, nat_tests))
 
-first_or_later : (first count line : ℕ) → (first == line || (nat_le (first + 1) line && nat_lt line (first + 1 + count)))
+first_or_later : (first count line : ℕ)
+    → (first == line || (nat_le (first + 1) line && nat_lt line (first + 1 + count)))
     ≡ (nat_le first line && nat_lt line (first + suc count))
 first_or_later first count line = test_same _ _
     (λ is. grind (arith, nat_tests))
@@ -155,7 +156,8 @@ module _ (sheet top bottom left right row col : ℕ) (high : top < bottom) (wide
   abbrev beside : Bool
   beside = nat_le (left + 1) col && nat_lt col right
 
-  in_column : (other : ℕ) → covers (line_of Columns of_lines other) row col ≡ ((in_rows && not (row == top)) && other == col)
+  in_column : (other : ℕ) → covers (line_of Columns of_lines other) row col
+      ≡ ((in_rows && not (row == top)) && other == col)
   in_column other =
       ap (λ b. (in_rows && b) && not (row == top && col == other)) (one_line other col)
       ∙ turned (other == col) (col == other) in_rows (row == top) (same_turned other col)
@@ -206,7 +208,8 @@ module _ (sheet top bottom left right row col : ℕ) (high : top < bottom) (wide
     where
       all : list_any (λ merge. covers merge row col) (each_line Columns of_lines) ≡ (below && in_cols)
       all =
-          one_among (λ merge. covers merge row col) (line_of Columns of_lines) (in_rows && not (row == top)) col in_column left
+          one_among (λ merge. covers merge row col) (line_of Columns of_lines) (in_rows && not (row == top)) col
+          in_column left
           (right - left)
           ∙ ap (λ b. b && (nat_le left col && nat_lt col (left + (right - left)))) (later_line top bottom row)
           ∙ ap (λ past. below && (nat_le left col && nat_lt col past)) (omega (arith, wide))
@@ -229,7 +232,8 @@ module _ (sheet top bottom left right row col : ℕ) (high : top < bottom) (wide
 
       all : list_any (λ merge. covers merge row col) (each_line Rows of_lines) ≡ (in_rows && beside)
       all =
-          one_among (λ merge. covers merge row col) (line_of Rows of_lines) (in_cols && not (col == left)) row in_row top
+          one_among (λ merge. covers merge row col) (line_of Rows of_lines) (in_cols && not (col == left))
+          row in_row top
           (bottom - top)
           ∙ ap (λ b. b && (nat_le top row && nat_lt row (top + (bottom - top)))) (later_line left right col)
           ∙ ap (λ past. beside && (nat_le top row && nat_lt row past)) (omega (arith, high))
@@ -240,7 +244,8 @@ module _ (sheet top bottom left right row col : ℕ) (high : top < bottom) (wide
       go true is = all
       go false is = sym (ap (λ b. in_rows && b) (few_beside (sym is)) ∙ and_false in_rows)
 
-  pub whole_covers : is_covered (filter has_many_cells (of_lines ∷ [])) row col ≡ (below && in_cols || in_rows && beside)
+  pub whole_covers : is_covered (filter has_many_cells (of_lines ∷ [])) row col
+      ≡ (below && in_cols || in_rows && beside)
   whole_covers = go (nat_lt (top + 1) bottom) (nat_lt (left + 1) right) refl refl
     where
       parted : (rows cols first first' : Bool) → ((rows && cols) && not (first && first'))
@@ -274,7 +279,8 @@ module _ (sheet top bottom left right row col : ℕ) (high : top < bottom) (wide
   rows_cleared = go (nat_lt (top + 1) bottom) refl
     where
       go : (many : Bool) → many ≡ nat_lt (top + 1) bottom
-          → option_map_or cleared (if many then Some (with_band Rows of_lines (Span (top + 1) bottom)) else None) no_updates
+          → option_map_or cleared
+          (if many then Some (with_band Rows of_lines (Span (top + 1) bottom)) else None) no_updates
           row col ≡ emptied_if (below && in_cols)
       go true is = refl
       go false is = ap (λ b. emptied_if (b && in_cols)) (sym (few_below (sym is)))
@@ -283,7 +289,8 @@ module _ (sheet top bottom left right row col : ℕ) (high : top < bottom) (wide
   columns_cleared = go (nat_lt (left + 1) right) refl
     where
       go : (many : Bool) → many ≡ nat_lt (left + 1) right
-          → option_map_or cleared (if many then Some (with_band Columns of_lines (Span (left + 1) right)) else None) no_updates
+          → option_map_or cleared
+          (if many then Some (with_band Columns of_lines (Span (left + 1) right)) else None) no_updates
           row col ≡ emptied_if (in_rows && beside)
       go true is = refl
       go false is = ap emptied_if (sym (ap (λ b. in_rows && b) (few_beside (sym is)) ∙ and_false in_rows))

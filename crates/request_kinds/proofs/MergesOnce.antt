@@ -23,7 +23,8 @@ use Rattle.request_kinds.proofs.RowsOnce.{on_area_once}
 
 -- ---- merges
 
-just_once : ListsAreSame → (Is : Area → Type 0) (one other : List Area) → ListsJust Is one → ListsJust Is other → one ≡ other
+just_once : ListsAreSame → (Is : Area → Type 0) (one other : List Area) → ListsJust Is one → ListsJust Is other
+    → one ≡ other
 just_once lists Is one other just just' = lists one other
     record {
       in_order = just.in_order;
@@ -66,7 +67,8 @@ module _ (lists : ListsAreSame) (area : Area) (past : Option Limit) (IsAfter : L
 
   set_once : IsOne (AreMergesSet area.sheet IsAfter later sheet)
   set_once told told' is is' =
-      is.told_is ∙ ap as_set (just_once lists (IsAfter sheet.merges) is.merges is'.merges is.just is'.just) ∙ sym is'.told_is
+      is.told_is ∙ ap as_set (just_once lists (IsAfter sheet.merges) is.merges is'.merges is.just is'.just)
+      ∙ sym is'.told_is
 
   unless_once : (broken : Option Rule) → IsOne (UnlessBroken broken (AreMergesSet area.sheet IsAfter later sheet))
   unless_once None told told' is is' = set_once told told' is is'
@@ -84,7 +86,8 @@ found_once : (Is : PlaceSheet → Tells) → ((sheet : PlaceSheet) → IsOne (Is
 found_once Is once None told told' is is' = absurd is
 found_once Is once (Some sheet) told told' is is' = once sheet told told' is is'
 
-pub merge_cells_once : ListsAreSame → (book : PlaceBook) (range : Area) (type : MergeType) → IsOne (IsMergeCells range type book)
+pub merge_cells_once : ListsAreSame → (book : PlaceBook) (range : Area) (type : MergeType)
+    → IsOne (IsMergeCells range type book)
 merge_cells_once lists book range type =
     on_area_once (AreMergedOn type book)
     (λ area. found_once (λ sheet. AreCellsMerged type (rectangle_on sheet area) sheet)

@@ -17,9 +17,9 @@ use Rattle.dimension_ops.specs.declared.rule.Limit.TheVariants as limit
 use Rattle.dimension_ops.specs.declared.rule.Rule.{Rule}
 use Rattle.dimension_ops.specs.declared.rule.Rule.TheVariants as rule
 use Rattle.request_kinds.specs.AddProtectedRange.{protection_added_broken}
+use Rattle.request_kinds.specs.AreasWithin.{AreUnbroken, patch_within}
 use Rattle.request_kinds.specs.Protections.{areas_given, broken_by_areas, most_protections, patch_cut}
 use Rattle.request_kinds.specs.UpdateProtectedRange.{keeps_off, protection_updated_broken}
-use Rattle.request_kinds.proofs.PatchWithin.{AreUnbroken, patch_within}
 
 pub none_broken : (found : Option Rule) → ((broken : Rule) → found ≡ Some broken → ⊥) → found ≡ None
 none_broken None none = refl
@@ -29,7 +29,8 @@ none_broken (Some broken) none = absurd (none broken refl)
 abbrev pub first_of : Bool → Bool → Bool → Bool → Option Rule → Option Rule
 first_of bad_shape no_sheet bad_range outside behind =
     cond bad_shape (Some rule.BadShape)
-    (cond no_sheet (Some rule.NoSheet) (cond bad_range (Some rule.BadRange) (cond outside (Some rule.OutsideGrid) behind)))
+    (cond no_sheet (Some rule.NoSheet)
+    (cond bad_range (Some rule.BadRange) (cond outside (Some rule.OutsideGrid) behind)))
 
 none_first : (bad_shape no_sheet bad_range outside : Bool) (behind : Option Rule)
     → first_of bad_shape no_sheet bad_range outside behind ≡ None

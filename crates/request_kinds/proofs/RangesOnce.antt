@@ -87,7 +87,8 @@ module _ (book : PlaceBook) (asked : NewNamedRange) (area : Area) where
   put_once : (told told' : Result (Reply × List BookChange) Rule) → IsRangePut asked book area told
       → IsRangePut asked book area told' → told ≡ told'
   put_once told told' one other =
-      let same = added_once asked.named_range_id asked.name area book one.after other.after one.added other.added one.adds
+      let same =
+      added_once asked.named_range_id asked.name area book one.after other.after one.added other.added one.adds
       other.adds in
       tells_once other.added told told' (subst (Tells told) same one.tells) other.tells
 
@@ -134,7 +135,8 @@ module _ (book : PlaceBook) (id : List ℕ) (name : Option (List ℕ)) (area : O
   set_once : (told told' : Result (Reply × List BookChange) Rule) → IsRangeSet id name book area told
       → IsRangeSet id name book area told' → told ≡ told'
   set_once told told' one other =
-      let same = updated_once id name area book one.after other.after one.updated other.updated one.updates other.updates in
+      let same =
+      updated_once id name area book one.after other.after one.updated other.updated one.updates other.updates in
       tells_set_once other.updated told told' (subst (TellsSet told) same one.tells) other.tells
 
 pub update_named_range_once : (book : PlaceBook) (id : List ℕ) (name : Option (List ℕ)) (area : Option Area)

@@ -99,7 +99,8 @@ module _ (news : NewSheetsOnce) (book : PlaceBook) where
   added_once properties (Some broken) told told' is is' = is ∙ sym is'
   added_once properties None told told' (new, is, tells) (new', is', tells') =
       tells
-      ∙ ap (λ new. Ok (sheet_reply properties book.sheets new, BookChange.SheetAdded (new_place properties book.sheets) new ∷ []))
+      ∙ ap (λ new. Ok
+      (sheet_reply properties book.sheets new, BookChange.SheetAdded (new_place properties book.sheets) new ∷ []))
       (news.once properties book.sheets new new' is is')
       ∙ sym tells'
 

@@ -31,12 +31,12 @@ use Rattle.values_api.specs.Denials.{IsDenial, WriteCells}
 use Rattle.values_api.specs.Laws.{WritesOnce}
 use Rattle.values_api.specs.Ranges.{IsThere}
 use Rattle.values_api.specs.Rows.{IsRowBehind}
-use Rattle.values_api.specs.declared.writing.Written.{Written as WrittenValues}
+use Rattle.values_api.specs.declared.writing.WrittenCells.{WrittenCells as WrittenValues}
 use Rattle.sheets_json.specs.declared.spreadsheet.Reply.{Reply}
 use Rattle.sheets_json.specs.declared.spreadsheet.Reply.TheVariants as reply
 use Rattle.request_kinds.specs.AppendCells.{AreRowsAdded, AreRowsAppended, AreRowsWrittenBy, AreThere, AreWrittenFrom, IsAppendCells, UnlessNone, broken_by_rows, from_row, rows_missing}
 use Rattle.request_kinds.specs.Telling.{IsDoneTo, Tells, UnlessBroken}
-use Rattle.request_kinds.specs.FoundLaws.{sheet_has_id, sheet_sound, some_and}
+use Rattle.values_api.specs.FoundLaws.{sheet_has_id, some_and, sound_sheet}
 use Rattle.request_kinds.proofs.RowsOnce.{rows_by_once}
 use Rattle.request_kinds.proofs.WritingRows.{rows_denied, rows_refused_by, rows_written_by}
 
@@ -79,7 +79,8 @@ module _ (writes : WritesOnce) (apart : ChangesApart) (turns : ChangesInTurn) (u
       (λ found. UnlessNone (rows_needed rows == 0) (AreRowsAppended user sheet rows book found) told))
   on_found_once None told told' is is' = is ∙ sym is'
   on_found_once (Some found) told told' is is' =
-      unless_none_once (rows_needed rows == 0) (AreRowsAppended user sheet rows book found) (appended_once found) told told' is is'
+      unless_none_once (rows_needed rows == 0) (AreRowsAppended user sheet rows book found) (appended_once found) told
+      told' is is'
 
   pub append_cells_once : IsOne (IsAppendCells user sheet rows book)
   append_cells_once = on_found_once (place_sheet_with sheet book.sheets)
@@ -141,7 +142,8 @@ module _ (sheet count : ℕ) (before : PlaceBook) (found : PlaceSheet)
   -- the first limit behind that on rows which is passed
   abbrev behind_rows : ℕ → Option Limit
   behind_rows places =
-      first_of (limit.Columns ∷ limit.Cells ∷ limit.Filled ∷ limit.Formulas ∷ limit.Tokens ∷ limit.References ∷ limit.Depth
+      first_of
+      (limit.Columns ∷ limit.Cells ∷ limit.Filled ∷ limit.Formulas ∷ limit.Tokens ∷ limit.References ∷ limit.Depth
       ∷ limit.Merges ∷ limit.Names ∷ limit.Protections ∷ limit.Metadata ∷ [])
       (passes_size (found.table.rows + count, found.table.cols) places)
 
@@ -188,12 +190,14 @@ module _ (sheet count : ℕ) (before : PlaceBook) (found : PlaceSheet)
       → IsLinesAnswer sheet Rows (Insert found.table.rows count) before after (Ok tt)
       → AreRowsAdded sheet count found before after (Ok tt)
   some_added after some is =
-      let (own, own_there, size) = some_and (λ (own : PlaceSheet). size_of own ≡ (found.table.rows + count, found.table.cols))
+      let (own, own_there, size) =
+      some_and (λ (own : PlaceSheet). size_of own ≡ (found.table.rows + count, found.table.cols))
       (place_sheet_with sheet after.sheets)
       (size_added (place_sheet_with sheet after.sheets)
       (is.sizes sheet ∙ ap (option_map (size_changed sheet Rows (Insert found.table.rows count))) there)) in (
         some_broken some
-            ∙ unbroken_by (first_broken (lines_broken sheet Rows (Insert found.table.rows count) before.sheets)) is.judged,
+            ∙ unbroken_by
+            (first_broken (lines_broken sheet Rows (Insert found.table.rows count) before.sheets)) is.judged,
         record {
           changes = subst (λ (list : List BookChange). AreChanges list before after)
               (ap (λ b. cond b [] (BookChange.LinesChanged sheet Rows (Insert found.table.rows count) ∷ []))
@@ -209,7 +213,8 @@ module _ (sheet count : ℕ) (before : PlaceBook) (found : PlaceSheet)
       → IsUnlessNoMemory (AreRowsAdded sheet count found before after) (Err fault)
   some_refused after (refusal.Rule broken) some is =
       some_broken some
-      ∙ broken_by (first_broken (lines_broken sheet Rows (Insert found.table.rows count) before.sheets)) broken is.judged
+      ∙ broken_by (first_broken (lines_broken sheet Rows (Insert found.table.rows count) before.sheets))
+      broken is.judged
   some_refused after refusal.NoMemory some is = tt
 
 -- ---- rows that are written behind them
@@ -218,8 +223,8 @@ module _ (user : List ℕ) (sheet row : ℕ) (rows : Block) (before : PlaceBook)
   abbrev count : ℕ
   count = rows_missing row rows found
 
-  abbrev Written : Tells
-  Written = AreRowsWrittenBy user (added_on sheet Rows found.table.rows count) rows before (from_row sheet row)
+  abbrev WrittenCells : Tells
+  WrittenCells = AreRowsWrittenBy user (added_on sheet Rows found.table.rows count) rows before (from_row sheet row)
 
   -- with them the first cell is there
   pub cell_there : (between : PlaceBook) → 0 < found.table.cols → 0 < rows_needed rows
@@ -231,25 +236,26 @@ module _ (user : List ℕ) (sheet row : ℕ) (rows : Block) (before : PlaceBook)
       (sym is.there) (omega (arith, last, some), omega (arith, wide, cols))
 
   pub written_told : (after : PlaceBook) (answer : Reply) → broken_by_rows sheet count found before.sheets ≡ None
-      → IsDoneTo Written before after (Ok answer) → IsDoneTo (AreWrittenFrom user sheet row rows before found) before after (Ok answer)
+      → IsDoneTo WrittenCells before after (Ok answer)
+      → IsDoneTo (AreWrittenFrom user sheet row rows before found) before after (Ok answer)
   written_told after answer none (changes, is, made) = (
     changes,
-    subst (λ broken. UnlessBroken broken Written (Ok (answer, changes))) (sym none) is,
+    subst (λ broken. UnlessBroken broken WrittenCells (Ok (answer, changes))) (sym none) is,
     made,
   )
 
   pub written_refused : (after : PlaceBook) (fault : RuleOr) → broken_by_rows sheet count found before.sheets ≡ None
-      → IsUnlessNoMemory (IsDoneTo Written before after) (Err fault)
+      → IsUnlessNoMemory (IsDoneTo WrittenCells before after) (Err fault)
       → IsUnlessNoMemory (IsDoneTo (AreWrittenFrom user sheet row rows before found) before after) (Err fault)
   written_refused after (refusal.Rule broken) none is =
-      subst (λ first. UnlessBroken first Written (Err broken)) (sym none) is
+      subst (λ first. UnlessBroken first WrittenCells (Err broken)) (sym none) is
   written_refused after refusal.NoMemory none is = tt
 
   pub adding_refused : (between after : PlaceBook) (fault : RuleOr)
       → IsUnlessNoMemory (AreRowsAdded sheet count found before between) (Err fault)
       → IsUnlessNoMemory (IsDoneTo (AreWrittenFrom user sheet row rows before found) before after) (Err fault)
   adding_refused between after (refusal.Rule broken) is =
-      subst (λ first. UnlessBroken first Written (Err broken)) (sym is) refl
+      subst (λ first. UnlessBroken first WrittenCells (Err broken)) (sym is) refl
   adding_refused between after refusal.NoMemory is = tt
 
 -- ---- from the sheet that is found
@@ -275,15 +281,18 @@ module _ (sheet count : ℕ) (before : PlaceBook) where
       let (found, is, answer) = some_and (λ (found : PlaceSheet).
       IsLinesAnswer sheet Rows (Insert found.table.rows count) before after (Ok tt))
       (place_sheet_with sheet before.sheets) answers in
-      subst (λ one. IsSomeAnd one (Adds after (Ok tt))) (sym is) (some_added sheet count before found is after some answer)
+      subst (λ one. IsSomeAnd one (Adds after (Ok tt))) (sym is)
+      (some_added sheet count before found is after some answer)
 
 module _ (user : List ℕ) (sheet row : ℕ) (rows : Block) (before : PlaceBook) (missing_rows : ℕ)
     (there : IsSomeAnd (place_sheet_with sheet before.sheets) (λ found. row ≤ found.table.rows))
-    (missing_is : IsSomeAnd (place_sheet_with sheet before.sheets) (λ found. missing_rows ≡ rows_missing row rows found)) where
+    (missing_is : IsSomeAnd (place_sheet_with sheet before.sheets)
+    (λ found. missing_rows ≡ rows_missing row rows found)) where
   -- the sheet, and what is known of it
   found_sheet : (found : PlaceSheet) × (place_sheet_with sheet before.sheets ≡ Some found)
       × (missing_rows ≡ rows_missing row rows found)
-  found_sheet = some_and (λ found. missing_rows ≡ rows_missing row rows found) (place_sheet_with sheet before.sheets) missing_is
+  found_sheet =
+      some_and (λ found. missing_rows ≡ rows_missing row rows found) (place_sheet_with sheet before.sheets) missing_is
 
   abbrev FromFound : PlaceBook → Result Reply RuleOr → PlaceSheet → Type 0
   FromFound after answer found =
@@ -302,7 +311,7 @@ module _ (user : List ℕ) (sheet row : ℕ) (rows : Block) (before : PlaceBook)
     pub found_there : IsSound before → 0 < rows_needed rows → IsThere between.sheets (from_row sheet row)
     found_there sound some =
         let (found, is, same) = found_sheet in
-        cell_there user sheet row rows before found between (sheet_sound before sound sheet found is).cols.0 some
+        cell_there user sheet row rows before found between (sound_sheet before sound sheet found is).cols.0 some
         (added_to found is same).1
 
     module _ (denied : Option ℕ)
@@ -329,7 +338,8 @@ module _ (user : List ℕ) (sheet row : ℕ) (rows : Block) (before : PlaceBook)
             let (none, lines) = added_to found is same in
             subst (λ one. IsSomeAnd one (FromFound after (Ok reply.Empty))) (sym is)
             (written_told user sheet row rows before found after reply.Empty none
-            (rows_written_by user (added_on sheet Rows found.table.rows (rows_missing row rows found)) rows before between
+            (rows_written_by user (added_on sheet Rows found.table.rows (rows_missing row rows found)) rows
+            before between
             after (from_row sheet row) lines.changes denied is_denied turns are wrote written allowed))
 
         pub found_denied : (id : ℕ) → denied ≡ Some id
@@ -349,4 +359,4 @@ pub behind_there : (book : PlaceBook) → IsSound book → (sheet row : ℕ) (fo
     → IsSomeAnd (place_sheet_with sheet book.sheets) (λ found. row ≤ found.table.rows)
 behind_there book sound sheet row found is behind =
     subst (λ one. IsSomeAnd one (λ (found : PlaceSheet). row ≤ found.table.rows)) is
-    (behind.least found.table.rows (λ r c stored. ((sheet_sound book sound sheet found (sym is)).inside r c stored).0))
+    (behind.least found.table.rows (λ r c stored. ((sound_sheet book sound sheet found (sym is)).inside r c stored).0))

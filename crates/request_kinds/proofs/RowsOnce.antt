@@ -13,7 +13,7 @@ use Rattle.dimension_ops.specs.declared.rule.Rule.{Rule}
 use Rattle.values_api.specs.Blocks.{IsWrite, contents_of}
 use Rattle.values_api.specs.Denials.{IsUnlessDenied, WriteCells}
 use Rattle.values_api.specs.Laws.{WritesOnce}
-use Rattle.values_api.specs.declared.writing.Written.{Written}
+use Rattle.values_api.specs.declared.writing.WrittenCells.{WrittenCells}
 use Rattle.sheets_json.specs.declared.spreadsheet.Reply.{Reply}
 use Rattle.sheets_json.specs.declared.spreadsheet.Reply.TheVariants as reply
 use Rattle.request_kinds.specs.AppendCells.{AreRowsWrittenBy}
@@ -32,14 +32,16 @@ pub on_area_once : {A : Type 0} (IsDone : Area → Result A Rule → Type 0)
 on_area_once IsDone once (Ok area) told told' is is' = once area told told' is is'
 on_area_once IsDone once (Err broken) told told' is is' = is ∙ sym is'
 
-module _ (writes_once : WritesOnce) (apart : ChangesApart) (turns : ChangesInTurn) (first : List BookChange) (rows : Block)
+module _ (writes_once : WritesOnce) (apart : ChangesApart) (turns : ChangesInTurn) (first : List BookChange)
+    (rows : Block)
     (one_cell : Bool) (area : Area) where
-  abbrev Tells : Result (Reply × List BookChange) Rule → Updates → Result Written Rule → Type 0
+  abbrev Tells : Result (Reply × List BookChange) Rule → Updates → Result WrittenCells Rule → Type 0
   Tells told updates wrote =
       MatchResult wrote (λ counts. told ≡ Ok (reply.Empty, first ++ cells_updated area.sheet updates))
       (λ broken. told ≡ Err broken)
 
-  tells_once : (updates : Updates) (wrote : Result Written Rule) (told told' : Result (Reply × List BookChange) Rule)
+  tells_once : (updates : Updates) (wrote : Result WrittenCells Rule)
+      (told told' : Result (Reply × List BookChange) Rule)
       → Tells told updates wrote → Tells told' updates wrote → told ≡ told'
   tells_once updates (Ok counts) told told' is is' = is ∙ sym is'
   tells_once updates (Err broken) told told' is is' = is ∙ sym is'
@@ -47,15 +49,17 @@ module _ (writes_once : WritesOnce) (apart : ChangesApart) (turns : ChangesInTur
   -- a write of the rows on the spreadsheet that the first changes leave, and what is told of it
   abbrev ToldOf : Result (Reply × List BookChange) Rule → PlaceBook → PlaceSheet → Type 0
   ToldOf told between sheet =
-      (after : PlaceBook) × (wrote : Result Written Rule)
+      (after : PlaceBook) × (wrote : Result WrittenCells Rule)
       × (writes : IsWrite one_cell area rows sheet between after wrote) × Tells told (contents_of writes.entries) wrote
 
   told_once : (between : PlaceBook) (sheet : PlaceSheet) (told told' : Result (Reply × List BookChange) Rule)
       → IsSound between → ToldOf told between sheet → ToldOf told' between sheet → told ≡ told'
   told_once between sheet told told' sound (after, wrote, writes, tells) (after', wrote', writes', tells') =
-      let (same, same_wrote) = writes_once.once one_cell area rows sheet between after after' wrote wrote' sound writes writes' in
+      let (same, same_wrote) =
+      writes_once.once one_cell area rows sheet between after after' wrote wrote' sound writes writes' in
       tells_once (contents_of writes'.entries) wrote' told told'
-      (subst (Tells told (contents_of writes'.entries)) same_wrote (subst (λ updates. Tells told updates wrote) same tells))
+      (subst (Tells told (contents_of writes'.entries)) same_wrote
+      (subst (λ updates. Tells told updates wrote) same tells))
       tells'
 
   -- on what the first changes leave

@@ -96,7 +96,8 @@ area_is_cut : (found : Option PlaceSheet) (range area : Area) → as_area area �
     → area ≡ cut_on found range
 area_is_cut found range area = go (first_broken (broken_by_area found range))
   where
-    go : (first : Option Rule) → as_area area ≡ option_map_or Err first (Ok (cut_on found range)) → area ≡ cut_on found range
+    go : (first : Option Rule) → as_area area ≡ option_map_or Err first (Ok (cut_on found range)) → area
+        ≡ cut_on found range
     go None e = same_area area (cut_on found range) e
     go (Some broken) e = absurd (not_broken area broken (sym e))
 
@@ -121,7 +122,8 @@ has_order (Span start end) count line (from, before) = reversed (omega (arith, f
     reversed less = grind (arith, nat_tests)
 
 none_broken : (rows cols row_there col_there : Bool) → rows ≡ false → cols ≡ false → row_there ≡ true → col_there ≡ true
-    → first_broken (record unbroken { no_sheet = false; bad_range = rows || cols; outside_grid = not (row_there && col_there) })
+    → first_broken
+    (record unbroken { no_sheet = false; bad_range = rows || cols; outside_grid = not (row_there && col_there) })
     ≡ None
 none_broken rows cols row_there col_there e e' e'' e''' = rw (e, e', e'', e''') refl
 
@@ -132,7 +134,8 @@ no_cell sheet range broken is row col ((row_in, col_in), row_there, col_there) =
     let none = none_broken (is_reversed range.rows) (is_reversed range.cols)
     (nat_lt (first_line range.rows) sheet.table.rows) (nat_lt (first_line range.cols) sheet.table.cols)
     (has_order range.rows sheet.table.rows row row_in) (has_order range.cols sheet.table.cols col col_in)
-    (has_start range.rows sheet.table.rows row row_in row_there) (has_start range.cols sheet.table.cols col col_in col_there) in
+    (has_start range.rows sheet.table.rows row row_in row_there)
+    (has_start range.cols sheet.table.cols col col_in col_there) in
     not_broken (cut_on (Some sheet) range) broken
     (is ∙ ap (λ first. option_map_or Err first (Ok (cut_on (Some sheet) range))) none)
 
@@ -142,7 +145,8 @@ line_in : (band : Band) (count line : ℕ)
     → HasLine (cut_band band count) line × (line < count)
 line_in Whole count line is = (tt, grind (arith, nat_tests))
 line_in (From start) count line is = (grind (arith, nat_tests), grind (arith, nat_tests))
-line_in (Span start end) count line is = ((grind (arith, nat_tests), grind (arith, nat_tests)), grind (arith, nat_tests))
+line_in (Span start end) count line is =
+    ((grind (arith, nat_tests), grind (arith, nat_tests)), grind (arith, nat_tests))
 
 -- what is written to a place lies in the lines that are written
 lies_so : (rows cols uncovered : Bool) (value : Option Input)
@@ -157,8 +161,10 @@ write_in : (sheet : PlaceSheet) (range : Area) (rows : Block) (row col : ℕ)
     → HasCellOf (cut_area range sheet.table.rows sheet.table.cols) sheet row col
 write_in sheet range rows row col some =
     let (row_lies, col_lies) = lies_so
-    (lies_in (first_line (cut_band range.rows sheet.table.rows)) (end_line (cut_band range.rows sheet.table.rows) sheet.table.rows) row)
-    (lies_in (first_line (cut_band range.cols sheet.table.cols)) (end_line (cut_band range.cols sheet.table.cols) sheet.table.cols) col)
+    (lies_in (first_line (cut_band range.rows sheet.table.rows))
+    (end_line (cut_band range.rows sheet.table.rows) sheet.table.rows) row)
+    (lies_in (first_line (cut_band range.cols sheet.table.cols))
+    (end_line (cut_band range.cols sheet.table.cols) sheet.table.cols) col)
     (not (is_covered sheet.merges row col))
     (given_value (input_at rows (row - first_line (cut_band range.rows sheet.table.rows))
     (col - first_line (cut_band range.cols sheet.table.cols)))) some in

@@ -15,24 +15,25 @@ use Rattle.dimension_ops.specs.declared.rule.RuleOr.{RuleOr}
 use Rattle.dimension_ops.specs.declared.rule.RuleOr.TheVariants as refusal
 use Rattle.values_api.specs.Blocks.{IsWrite, contents_of}
 use Rattle.values_api.specs.Denials.{IsDenial, WriteCells, unless_denied}
-use Rattle.values_api.specs.declared.writing.Written.{Written}
+use Rattle.values_api.specs.declared.writing.WrittenCells.{WrittenCells}
 use Rattle.sheets_json.specs.declared.spreadsheet.Reply.{Reply}
 use Rattle.sheets_json.specs.declared.spreadsheet.Reply.TheVariants as reply
 use Rattle.request_kinds.specs.AppendCells.{AreRowsWrittenBy}
 use Rattle.request_kinds.specs.Telling.{IsDoneTo, cells_updated}
 use Rattle.request_kinds.specs.Rows.{AreRowsPut, AreRowsWritten}
-use Rattle.request_kinds.specs.FoundLaws.{some_and}
+use Rattle.values_api.specs.FoundLaws.{some_and}
 use Rattle.request_kinds.specs.TellingLaws.{update_made}
 
 module _ (first : List BookChange) (rows : Block) (one_cell : Bool) (before between after : PlaceBook) (area : Area)
     (changed : AreChanges first before between) where
   -- on what the first changes leave
-  pub rows_put : ChangesInTurn → UpdatesAreChanges → (wrote : Written)
+  pub rows_put : ChangesInTurn → UpdatesAreChanges → (wrote : WrittenCells)
       → IsSomeAnd (place_sheet_with area.sheet between.sheets)
       (λ sheet. IsUnlessNoMemory (IsWrite one_cell area rows sheet between after) (Ok wrote))
       → IsDoneTo (AreRowsPut first rows one_cell between area) before after (Ok reply.Empty)
   rows_put turns are wrote there =
-      let (sheet, is, writes) = some_and (λ (sheet : PlaceSheet). IsWrite one_cell area rows sheet between after (Ok wrote))
+      let (sheet, is, writes) =
+      some_and (λ (sheet : PlaceSheet). IsWrite one_cell area rows sheet between after (Ok wrote))
       (place_sheet_with area.sheet between.sheets) there in
       let updates = contents_of writes.entries in (
         first ++ cells_updated area.sheet updates,
@@ -45,12 +46,13 @@ module _ (first : List BookChange) (rows : Block) (one_cell : Bool) (before betw
       (λ sheet. IsUnlessNoMemory (IsWrite one_cell area rows sheet between after) (Err (refusal.Rule broken)))
       → AreRowsPut first rows one_cell between area (Err broken)
   put_refused broken there =
-      let (sheet, is, writes) = some_and (λ (sheet : PlaceSheet). IsWrite one_cell area rows sheet between after (Err broken))
+      let (sheet, is, writes) =
+      some_and (λ (sheet : PlaceSheet). IsWrite one_cell area rows sheet between after (Err broken))
       (place_sheet_with area.sheet between.sheets) there in
       record { after = after; sheet = sheet; there = is; wrote = Err broken; writes = writes; tells = refl }
 
   -- behind the first changes
-  pub rows_written : ChangesInTurn → UpdatesAreChanges → (wrote : Written)
+  pub rows_written : ChangesInTurn → UpdatesAreChanges → (wrote : WrittenCells)
       → IsSomeAnd (place_sheet_with area.sheet between.sheets)
       (λ sheet. IsUnlessNoMemory (IsWrite one_cell area rows sheet between after) (Ok wrote))
       → IsDoneTo (AreRowsWritten first rows one_cell before area) before after (Ok reply.Empty)
@@ -79,7 +81,7 @@ module _ (user : List ℕ) (first : List BookChange) (rows : Block) (before betw
     put = record { denied = denied; is_denied = is_denied; done = put; is = is; told_is = tells };
   }
 
-  module _ (turns : ChangesInTurn) (are : UpdatesAreChanges) (wrote : Written)
+  module _ (turns : ChangesInTurn) (are : UpdatesAreChanges) (wrote : WrittenCells)
       (there : IsSomeAnd (place_sheet_with area.sheet between.sheets)
       (λ sheet. IsUnlessNoMemory (IsWrite true area rows sheet between after) (Ok wrote))) where
     pub rows_written_by : denied ≡ None

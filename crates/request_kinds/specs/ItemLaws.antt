@@ -64,7 +64,8 @@ pub ids_once : (items : List Item) (one other : List ℕ) → AreIdsInOrder item
     → one ≡ other
 ids_once items one other is is' =
     in_order_once one other is.ascending is'.ascending
-    (λ f. sum_by-IsPermutation f (ids_of items) one is.same ∙ sym (sum_by-IsPermutation f (ids_of items) other is'.same))
+    (λ f. sum_by-IsPermutation f (ids_of items) one is.same
+    ∙ sym (sum_by-IsPermutation f (ids_of items) other is'.same))
 
 -- ---- an item among others
 

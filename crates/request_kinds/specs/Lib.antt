@@ -1,8 +1,10 @@
 pub mod Telling
 pub mod TellingLaws
-pub mod FoundLaws
 pub mod ListingLaws
 pub mod ItemLaws
+pub mod AreasWithin
+pub mod LocationsWithin
+pub mod FilterLaws
 pub mod Shown
 pub mod Rows
 pub mod Protections

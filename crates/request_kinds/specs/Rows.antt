@@ -16,7 +16,7 @@ use Rattle.world_model.specs.Sound.{place_sheet_with}
 use Rattle.dimension_ops.specs.Broken.{Broken, judged_by, unbroken}
 use Rattle.dimension_ops.specs.declared.rule.Rule.{Rule}
 use Rattle.values_api.specs.Blocks.{IsWrite, contents_of}
-use Rattle.values_api.specs.declared.writing.Written.{Written}
+use Rattle.values_api.specs.declared.writing.WrittenCells.{WrittenCells}
 use Rattle.sheets_json.specs.declared.spreadsheet.Reply.{Reply}
 use Rattle.sheets_json.specs.declared.spreadsheet.Reply.TheVariants as reply
 use Rattle.request_kinds.specs.Telling.{cells_updated}
@@ -65,7 +65,7 @@ pub record AreRowsPut (first : List BookChange) (rows : Block) (one_cell : Bool)
   pub after : PlaceBook
   pub sheet : PlaceSheet
   pub there : place_sheet_with area.sheet between.sheets ≡ Some sheet
-  pub wrote : Result Written Rule
+  pub wrote : Result WrittenCells Rule
   pub writes : IsWrite one_cell area rows sheet between after wrote
   pub tells : MatchResult wrote
       (λ counts. told ≡ Ok (reply.Empty, first ++ cells_updated area.sheet (contents_of writes.entries)))

@@ -25,7 +25,8 @@ pub(crate) fn add_protected_range(
     id: Option<u32>,
     patch: &ProtectionPatch,
 ) -> Result<Reply, RuleOr>
-    ensures { IsUnlessNoMemory (IsDoneTo (IsAddProtectedRange user.now id patch.now book.old) book.old book.new) result }
+    ensures { IsUnlessNoMemory
+        (IsDoneTo (IsAddProtectedRange user.now id patch.now book.old) book.old book.new) result }
 {
     if let Some(rule) = broken(alloc, book, id, patch)? {
         return Err(RuleOr::Rule(rule));

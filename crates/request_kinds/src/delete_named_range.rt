@@ -8,7 +8,8 @@ use sheets_json::Reply;
 
 /// Deletes a named range.
 pub(crate) fn delete_named_range(book: &mut Book, id: &str) -> Result<Reply, RuleOr>
-    ensures { IsUnlessNoMemory (IsDoneTo (λ told. told ≡ range_deleted id.now book.old.ranges) book.old book.new) result }
+    ensures { IsUnlessNoMemory
+        (IsDoneTo (λ told. told ≡ range_deleted id.now book.old.ranges) book.old book.new) result }
 {
     match drop_range(book, id) {
         Ok(()) => Ok(Reply::Empty),

@@ -12,7 +12,8 @@ use sheets_json::Reply;
 
 /// Deletes a protected range.
 pub(crate) fn delete_protected_range(book: &mut Book, user: &str, id: u32) -> Result<Reply, RuleOr>
-    ensures { IsUnlessNoMemory (IsDoneTo (λ told. told ≡ protection_deleted user.now id book.old) book.old book.new) result }
+    ensures { IsUnlessNoMemory
+        (IsDoneTo (λ told. told ≡ protection_deleted user.now id book.old) book.old book.new) result }
 {
     let owner = book.owner().duplicate()?;
     match book.drop_protection(user, owner.as_str(), id) {

@@ -24,7 +24,8 @@ pub(crate) fn insert_dimension(
     range: DimensionRange,
     inherits: bool,
 ) -> Result<Reply, RuleOr>
-    ensures { IsUnlessNoMemory (IsDoneTo (λ told. told ≡ dimension_inserted range inherits book.old.sheets) book.old book.new) result }
+    ensures { IsUnlessNoMemory
+        (IsDoneTo (λ told. told ≡ dimension_inserted range inherits book.old.sheets) book.old book.new) result }
 {
     match inserted(book, range, inherits) {
         Ok(end) => {
@@ -43,7 +44,8 @@ pub(crate) fn insert_dimension(
 
 /// Deletes the lines of the range.
 pub(crate) fn delete_dimension(book: &mut Book, range: DimensionRange) -> Result<Reply, RuleOr>
-    ensures { IsUnlessNoMemory (IsDoneTo (λ told. told ≡ dimension_deleted range book.old.sheets) book.old book.new) result }
+    ensures { IsUnlessNoMemory
+        (IsDoneTo (λ told. told ≡ dimension_deleted range book.old.sheets) book.old book.new) result }
 {
     match deleted(book, range) {
         Ok(end) => {
@@ -65,7 +67,8 @@ pub(crate) fn move_dimension(
     range: DimensionRange,
     to: u32,
 ) -> Result<Reply, RuleOr>
-    ensures { IsUnlessNoMemory (IsDoneTo (λ told. told ≡ dimension_moved range to book.old.sheets) book.old book.new) result }
+    ensures { IsUnlessNoMemory
+        (IsDoneTo (λ told. told ≡ dimension_moved range to book.old.sheets) book.old book.new) result }
 {
     match moved(book, range, to) {
         Ok(end) => {
@@ -88,7 +91,8 @@ pub(crate) fn append_dimension(
     axis: Axis,
     length: u32,
 ) -> Result<Reply, RuleOr>
-    ensures { IsUnlessNoMemory (IsDoneTo (λ told. told ≡ dimension_appended sheet axis length book.old.sheets) book.old book.new) result }
+    ensures { IsUnlessNoMemory
+        (IsDoneTo (λ told. told ≡ dimension_appended sheet axis length book.old.sheets) book.old book.new) result }
 {
     match appended(book, sheet, axis, length) {
         Ok(at) => insert(book, sheet, axis, at, length),
@@ -180,7 +184,8 @@ fn appended(book: &Book, sheet: u32, axis: Axis, length: u32) -> Result<u32, Rul
     ensures broken { IfErr result (λ rule. first_broken (append_broken sheet length book.now.sheets) ≡ Some rule) }
     ensures unbroken { IfOk result (λ _. first_broken (append_broken sheet length book.now.sheets) ≡ None) }
     ensures some { IfOk result (λ _. 0 < length) }
-    ensures there { IfOk result (λ at. IsSomeAnd (place_sheet_with sheet book.now.sheets) (λ found. at ≡ lines_of_sheet axis found)) }
+    ensures there { IfOk result
+        (λ at. IsSomeAnd (place_sheet_with sheet book.now.sheets) (λ found. at ≡ lines_of_sheet axis found)) }
 {
     let Some(found) = book.sheet(sheet) else {
         return Err(Rule::NoSheet);
@@ -205,7 +210,8 @@ pub(crate) fn lines_of(sheet: &Sheet, axis: Axis) -> u32
 fn insert(book: &mut Book, sheet: u32, axis: Axis, at: u32, count: u32) -> Result<Reply, RuleOr>
     requires some { 0 < count }
     requires there { IsSomeAnd (place_sheet_with sheet book.old.sheets) (λ found. at ≤ lines_of_sheet axis found) }
-    ensures { IsUnlessNoMemory (IsDoneTo (λ told. told ≡ judged_by (lines_broken sheet axis (Insert at count) book.old.sheets)
+    ensures { IsUnlessNoMemory
+        (IsDoneTo (λ told. told ≡ judged_by (lines_broken sheet axis (Insert at count) book.old.sheets)
         (Empty, LinesChanged sheet axis (Insert at count) ∷ [])) book.old book.new) result }
 {
     match insert_lines(book, sheet, axis, at, count) {
@@ -216,7 +222,8 @@ fn insert(book: &mut Book, sheet: u32, axis: Axis, at: u32, count: u32) -> Resul
 
 /// Makes the change of lines.
 fn change(book: &mut Book, sheet: u32, axis: Axis, change: &Change) -> Result<Reply, RuleOr>
-    requires { IsSomeAnd (place_sheet_with sheet book.old.sheets) (λ found. Fits change.now (lines_of_sheet axis found)) }
+    requires { IsSomeAnd (place_sheet_with sheet book.old.sheets)
+        (λ found. Fits change.now (lines_of_sheet axis found)) }
     ensures { IsUnlessNoMemory (IsDoneTo (λ told. told ≡ judged_by (lines_broken sheet axis change.now book.old.sheets)
         (Empty, LinesChanged sheet axis change.now ∷ [])) book.old book.new) result }
 {

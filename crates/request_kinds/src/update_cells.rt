@@ -61,7 +61,8 @@ fn write_from(alloc: Global, book: &mut Book, area: &Area, rows: &Block) -> Resu
 /// Writes rows to the area, and empties those of its cells that they don't reach.
 fn fill(alloc: Global, book: &mut Book, area: &Area, rows: &Block) -> Result<Reply, RuleOr>
     requires { IsThere book.old.sheets area.now }
-    ensures { IsUnlessNoMemory (IsDoneTo (AreRowsWritten (rest_emptied area.now rows.now) rows.now false book.old area.now)
+    ensures { IsUnlessNoMemory
+        (IsDoneTo (AreRowsWritten (rest_emptied area.now rows.now) rows.now false book.old area.now)
         book.old book.new) result }
 {
     changes_in_turn();

@@ -266,7 +266,8 @@ module _ {E K W A : Type 0} (answers : AnswersAt E K W A) (begun : Begun E K W A
   pub recounts : (threads : List (Waiting E K W A)) (accepted : ℕ) (end : Served) (shown : Option Shown)
       (pass pass' : Pass Noted) → IsPass begun.desk pass' → number_of pass' ≡ number_of pass → HasRecounted pass pass'
       → (drawing_of pass ≡ Alone → count_of pass' ≡ count_of pass)
-      → AcceptsSo answers begun pass threads accepted end shown → AcceptsSo answers begun pass' threads accepted end shown
+      → AcceptsSo answers begun pass threads accepted end shown
+      → AcceptsSo answers begun pass' threads accepted end shown
   recounts threads accepted end shown pass pass' is number recounted none s = record {
     courses = s.courses;
     pass_is = is;
@@ -582,7 +583,8 @@ module _ {E K W A : Type 0} (answers : AnswersAt E K W A) where
       (sym b)
       (subst (λ (x : Pass Noted). AcceptsSo answers begun x acceptor.threads acceptor.accepted acceptor.end shown)
       (sym p)
-      (subst (λ (x : List (Waiting E K W A)). AcceptsSo answers begun pass x acceptor.accepted acceptor.end shown) (sym t)
+      (subst (λ (x : List (Waiting E K W A)). AcceptsSo answers begun pass x acceptor.accepted acceptor.end
+      shown) (sym t)
       (subst (λ (x : ℕ). AcceptsSo answers begun pass threads x acceptor.end shown) (sym a)
       (subst (λ (x : Served). AcceptsSo answers begun pass threads accepted x shown) (sym e) s))))
 

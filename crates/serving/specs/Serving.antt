@@ -77,7 +77,8 @@ pub record HasArrived (first : List Noted) (arrival : Arrival) : Type 0 where
 
 -- another's only visit: since the opening none of its items is among those that it had seen before the visit, and none
 -- of the list's behind those that it had seen at the end
-pub record IsOnlyVisit {E K W A : Type 0} (desk : Desk E K W A) (number : ℕ) (told : List Noted) (visit : Visit) : Type 0
+pub record IsOnlyVisit {E K W A : Type 0} (desk : Desk E K W A) (number : ℕ) (told : List Noted)
+    (visit : Visit) : Type 0
   where
     pub another : IsAnother desk number visit.arrival
     pub done : NoneOf caller_of visit.arrival.caller (drop (length visit.after) told)
@@ -141,7 +142,8 @@ showing calls connections shown = record {
 -- What was served at a desk, whose list is told, by a caller with this number that had seen the first items, and by
 -- others: the connections, in the order of accepting, and what the doors showed before and show. Behind the first items
 -- the caller's own are those that it added in its visits, one visit after another.
-pub record HaveTalked {E K W A : Type 0} (answers : AnswersAt E K W A) (desk : Desk E K W A) (users : UserTable) (number : ℕ)
+pub record HaveTalked {E K W A : Type 0} (answers : AnswersAt E K W A) (desk : Desk E K W A) (users : UserTable)
+    (number : ℕ)
     (first told : List Noted) (limit : ℕ) (end : Served) (shown shown' : Option Shown) : Type 0 where
   pub visits : List Visit
   pub each : All (WasServed answers desk users number first told) visits

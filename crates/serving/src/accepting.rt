@@ -56,7 +56,8 @@ impl<D: Doors, E: Engine, K: Keeper> Promise<Talked<D::Rest>> for Talking<D, E, 
     ghost kept_by = { λ promise talked. IsTalked (IsAnswer E.plain K.failures K.steady)
         promise.desk.value promise.users.value
         (arrival_of promise.pass.value (link_seen D.Link.left D.Link.written D.Link.faults D.Link.sink_faults
-        D.Link.sink_shortages D.Link.steady D.Link.sink_steady D.Link.references promise.link.value)) (count_of promise.pass.value)
+        D.Link.sink_shortages D.Link.steady D.Link.sink_steady D.Link.references promise.link.value))
+        (count_of promise.pass.value)
         (record { ended = talked.ended; link = D.rest_seen talked.rest }) talked.pass };
 }
 
@@ -78,7 +79,8 @@ impl<D: Doors, E: Engine, K: Keeper> Model for Started<D, E, K> {
     ghost view = { λ s. record {
       number = s.number;
       arrival = arrival_of s.thread.promise.pass.value (link_seen D.Link.left D.Link.written D.Link.faults
-          D.Link.sink_faults D.Link.sink_shortages D.Link.steady D.Link.sink_steady D.Link.references s.thread.promise.link.value);
+          D.Link.sink_faults D.Link.sink_shortages D.Link.steady D.Link.sink_steady D.Link.references
+          s.thread.promise.link.value);
       count = count_of s.thread.promise.pass.value;
       desk = s.thread.promise.desk.value;
       users = s.thread.promise.users.value;
@@ -123,7 +125,9 @@ fn talk<R: Wait, D: Doors, E: Engine, K: Keeper>(
 ) -> Talked<D::Rest>
     requires { IsPass desk.now pass }
     ensures talked { IsTalked (IsAnswer E.plain K.failures K.steady) desk.now users.now
-        (arrival_of pass (link_seen D.Link.left D.Link.written D.Link.faults D.Link.sink_faults D.Link.sink_shortages D.Link.steady D.Link.sink_steady D.Link.references
+        (arrival_of pass
+        (link_seen D.Link.left D.Link.written D.Link.faults D.Link.sink_faults D.Link.sink_shortages D.Link.steady
+        D.Link.sink_steady D.Link.references
         link)) (count_of pass) (record { ended = result.ended; link = D.rest_seen result.rest }) result.pass }
     ensures drawing { drawing_of result.pass ≡ drawing_of pass }
     ensures met { met_by result.pass ≡ met_by pass }
@@ -176,7 +180,9 @@ where
       users = users.now;
     }) }
     ensures talked { IfErr result (λ talked. IsTalked (IsAnswer E.plain K.failures K.steady) desk.now users.now
-        (arrival_of pass (link_seen D.Link.left D.Link.written D.Link.faults D.Link.sink_faults D.Link.sink_shortages D.Link.steady D.Link.sink_steady D.Link.references
+        (arrival_of pass
+        (link_seen D.Link.left D.Link.written D.Link.faults D.Link.sink_faults D.Link.sink_shortages D.Link.steady
+        D.Link.sink_steady D.Link.references
         link)) (count_of pass) (record { ended = talked.ended; link = D.rest_seen talked.rest }) talked.pass) }
 {
     let (ended, there) = signal;
@@ -364,7 +370,8 @@ impl<'s, D: Doors, E: Engine, K: Keeper> Acceptor<'s, D, E, K> {
     // Serves the connection that was accepted last, with its own pass.
     fn serve_here<R: Wait>(self, rt: &R, doors: &mut D, link: D::Link) -> Acceptor<'s, D, E, K>
         requires asked { HasAsked (IsAnswer E.plain K.failures K.steady) self
-            (link_seen D.Link.left D.Link.written D.Link.faults D.Link.sink_faults D.Link.sink_shortages D.Link.steady D.Link.sink_steady D.Link.references link)
+            (link_seen D.Link.left D.Link.written D.Link.faults D.Link.sink_faults D.Link.sink_shortages D.Link.steady
+            D.Link.sink_steady D.Link.references link)
             (D.shown doors.old) }
         requires room { self.accepted < 4294967295 }
         ensures stands { Stands (IsAnswer E.plain K.failures K.steady) result (D.shown doors.new) }
@@ -449,7 +456,8 @@ where
     E::World: Send,
     E::Asked: Send,
     requires asked { HasAsked (IsAnswer E.plain K.failures K.steady) acceptor
-        (link_seen D.Link.left D.Link.written D.Link.faults D.Link.sink_faults D.Link.sink_shortages D.Link.steady D.Link.sink_steady D.Link.references link)
+        (link_seen D.Link.left D.Link.written D.Link.faults D.Link.sink_faults D.Link.sink_shortages D.Link.steady
+        D.Link.sink_steady D.Link.references link)
         (D.shown doors.old) }
     requires room { acceptor.accepted < 4294967295 }
     ensures stands { Stands (IsAnswer E.plain K.failures K.steady) result (D.shown doors.new) }

@@ -261,8 +261,8 @@ impl Doors for TurnDoors {
 
     ghost shown = { λ _. None };
 
-    ghost rest_seen = { link_seen (λ _. None) (λ _. None) (λ link. link.faults) (λ _. 0) (λ link. link.shortages) (λ _. false)
-        (λ _. false) (λ _. []) };
+    ghost rest_seen = { link_seen (λ _. None) (λ _. None) (λ link. link.faults) (λ _. 0)
+        (λ link. link.shortages) (λ _. false) (λ _. false) (λ _. []) };
 
     fn open(&mut self, _port: u16) -> Result<(), Failed> {
         Ok(())

@@ -128,7 +128,8 @@ module _ (apart : PlacesStayApart) (below : PlacesStayBelow) where
       → (parts : ℕ × ℕ × ℕ) → parts ≡ parts_of change count
       → Turns change count parts.0 parts.1 parts.2
   turns (Insert at inserted) count fits parts is =
-      subst (λ (p : ℕ × ℕ × ℕ). Turns (Insert at inserted) count p.0 p.1 p.2) (sym is) (turns_insert at inserted count fits)
+      subst (λ (p : ℕ × ℕ × ℕ). Turns (Insert at inserted) count p.0 p.1 p.2) (sym is)
+      (turns_insert at inserted count fits)
   turns (Delete start end) count fits parts is =
       subst (λ (p : ℕ × ℕ × ℕ). Turns (Delete start end) count p.0 p.1 p.2) (sym is)
       (turns_old (Delete start end) count start end count fits (omega arith) fits.1 (omega arith) (λ p there. (
@@ -138,7 +139,8 @@ module _ (apart : PlacesStayApart) (below : PlacesStayBelow) where
   turns (Move start end to) count fits parts is = turns_move start end to count fits parts is
 
 -- the lines with these numbers, of which those of the first part and of the second changed places
-module _ (change : Change) (before after : LineOrder) (numbers : List ℕ) (start middle end : ℕ) (are : AreNumbers numbers)
+module _ (change : Change) (before after : LineOrder) (numbers : List ℕ) (start middle end : ℕ)
+    (are : AreNumbers numbers)
     (is : IsOrder before) (turned : Turns change before.count start middle end)
     (long : length before.numbers ≤ length numbers)
     (first : (index : ℕ) → index < length before.numbers → get_or numbers index 0 ≡ number_of before index)

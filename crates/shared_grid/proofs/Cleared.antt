@@ -26,7 +26,8 @@ use Rattle.shared_grid.proofs.Numbers.{same_key, key_itself, line-key, across-ke
 
 -- the keys of a row
 pub keys_on_row : {T : Type 0} (items : map.FinMap nat_cmp T) (row first last : ℕ) (keys : List ℕ)
-    → first ≡ key_of row 0 → last ≡ key_of row 4294967295 → AreKeysWithin first last items keys → AreKeysOnRow row items keys
+    → first ≡ key_of row 0 → last ≡ key_of row 4294967295 → AreKeysWithin first last items keys
+    → AreKeysOnRow row items keys
 keys_on_row items row first last keys first_is last_is within = record {
   in_order = within.in_order;
   exactly = λ key. (
@@ -42,7 +43,8 @@ keys_on_row items row first last keys first_is last_is within = record {
 }
 
 -- the marks of a column whose items are there
-pub marks_on_column : {T M : Type 0} (items : map.FinMap nat_cmp T) (marks : map.FinMap nat_cmp M) → HasMarks items marks
+pub marks_on_column : {T M : Type 0} (items : map.FinMap nat_cmp T) (marks : map.FinMap nat_cmp M)
+    → HasMarks items marks
     → (column first last : ℕ) (keys held : List ℕ) → column < numbers
     → first ≡ key_of column 0 → last ≡ key_of column 4294967295 → AreKeysWithin first last marks keys
     → held ≡ filter (λ (mark : ℕ). is_some (map.get items (key_of (across_in mark) column))) keys
@@ -50,7 +52,8 @@ pub marks_on_column : {T M : Type 0} (items : map.FinMap nat_cmp T) (marks : map
 marks_on_column items marks are column first last keys held fits first_is last_is within is =
     let there : ℕ → Bool = λ mark. is_some (map.get items (key_of (across_in mark) column)) in
     record {
-      in_order = subst (IsStrictlySortedBy nat_cmp) (sym is) (IsStrictlySortedBy-filter nat_cmp there keys within.in_order);
+      in_order =
+          subst (IsStrictlySortedBy nat_cmp) (sym is) (IsStrictlySortedBy-filter nat_cmp there keys within.in_order);
       exactly = λ mark. (
         (λ has.
             let found = Contains-filter_from there keys mark (subst (λ (xs : List ℕ). Contains xs mark) is has) in
@@ -72,7 +75,8 @@ marks_on_column items marks are column first last keys held fits first_is last_i
     }
 
 -- each of them, where there are no other marks
-pub all_marks_on_column : {T M : Type 0} (items : map.FinMap nat_cmp T) (marks : map.FinMap nat_cmp M) → HasMarks items marks
+pub all_marks_on_column : {T M : Type 0} (items : map.FinMap nat_cmp T) (marks : map.FinMap nat_cmp M)
+    → HasMarks items marks
     → HasItems items marks → (column first last : ℕ) (keys : List ℕ) → column < numbers
     → first ≡ key_of column 0 → last ≡ key_of column 4294967295 → AreKeysWithin first last marks keys
     → AreMarksOnColumn column items keys
@@ -125,7 +129,8 @@ module _ {T : Type 0} where
   still_none false found none = none
 
   module _ (old mid : map.FinMap nat_cmp T) (at : ℕ → ℕ) (count : ℕ) (taken : AreTaken old at count mid) where
-    left : (key : ℕ) → map.get (map.remove mid (at count)) key ≡ cond (eq_by_cmp nat_cmp key (at count)) None (map.get mid key)
+    left : (key : ℕ) → map.get (map.remove mid (at count)) key
+        ≡ cond (eq_by_cmp nat_cmp key (at count)) None (map.get mid key)
     left key = map.get-remove nat_cmp_total mid (at count) key
 
     fewer_left : HasFewer old (map.remove mid (at count))
@@ -144,7 +149,8 @@ module _ {T : Type 0} where
     one_left = record {
       fewer = fewer_left;
       gone = λ index less. elim (cases_lt index count) [
-        | inl earlier ↦ left (at index) ∙ still_none (eq_by_cmp nat_cmp (at index) (at count)) (map.get mid (at index)) (taken.gone index earlier)
+        | inl earlier ↦ left (at index)
+            ∙ still_none (eq_by_cmp nat_cmp (at index) (at count)) (map.get mid (at index)) (taken.gone index earlier)
         | inr last ↦
             let here : index ≡ count = omega arith in
             subst (λ (i : ℕ). map.get (map.remove mid (at count)) (at i) ≡ None) (sym here)
@@ -156,12 +162,14 @@ module _ {T : Type 0} where
           ∙ taken.kept key (λ index less. apart index (omega arith));
     }
 
-    pub one_taken : (key : ℕ) (new : map.FinMap nat_cmp T) → key ≡ at count → new ≡ map.remove mid key → AreTaken old at (count + 1) new
+    pub one_taken : (key : ℕ) (new : map.FinMap nat_cmp T) → key ≡ at count → new ≡ map.remove mid key
+        → AreTaken old at (count + 1) new
     one_taken key new here is = subst (AreTaken old at (count + 1)) (sym (is ∙ ap (map.remove mid) here)) one_left
 
   module _ (old new : map.FinMap nat_cmp T) where
     -- where each item that was there at a key would be gone, nothing is
-    none_left : HasFewer old new → (key : ℕ) → (IsSome (map.get old key) → map.get new key ≡ None) → map.get new key ≡ None
+    none_left : HasFewer old new → (key : ℕ) → (IsSome (map.get old key) → map.get new key ≡ None)
+        → map.get new key ≡ None
     none_left fewer key gone = elim (fewer.each key) [
       | inl none ↦ none
       | inr same ↦ elim (map.get old key) as (λ (was : Option T). map.get old key ≡ was → map.get new key ≡ None) [
@@ -170,7 +178,8 @@ module _ {T : Type 0} where
       ] refl
     ]
 
-    pub row_cleared : (row : ℕ) (keys : List ℕ) (count : ℕ) → row < numbers → length keys ≤ count → AreKeysOnRow row old keys
+    pub row_cleared : (row : ℕ) (keys : List ℕ) (count : ℕ) → row < numbers → length keys ≤ count
+        → AreKeysOnRow row old keys
         → AreTaken old (at_row row keys) count new → IsCleared Rows row old new
     row_cleared row keys count fits all listed taken = record {
       fewer = taken.fewer;
@@ -196,12 +205,14 @@ module _ {T : Type 0} where
           let line : across_in key ≡ column = on in
           let row_fits : line_in key < numbers = omega (arith, small) in
           let is : key_of (line_in key) column ≡ key = omega (arith, line) in
-          let mark = are.each (line_in key) column row_fits fits (subst (λ (k : ℕ). IsSome (map.get old k)) (sym is) some) in
+          let mark =
+          are.each (line_in key) column row_fits fits (subst (λ (k : ℕ). IsSome (map.get old k)) (sym is) some) in
           let has = (within.exactly (key_of column (line_in key))).1
           (omega (arith, first_is), omega (arith, last_is, row_fits), mark) in
           let item : get_or keys has.0 0 ≡ key_of column (line_in key) =
           sym (get_or_default_zero keys has.0 (key_of column (line_in key)) has.1) ∙ has.2 in
-          let row : across_in (get_or keys has.0 0) ≡ line_in key = ap across_in item ∙ across-key column (line_in key) row_fits in
+          let row : across_in (get_or keys has.0 0) ≡ line_in key = ap across_in item
+          ∙ across-key column (line_in key) row_fits in
           subst (λ (k : ℕ). map.get new k ≡ None) (ap (λ (n : ℕ). key_of n column) row ∙ is)
           (taken.gone has.0 (omega (arith, has.1, all))));
       kept = λ key off. taken.kept key (λ index less same.
@@ -209,7 +220,8 @@ module _ {T : Type 0} where
     }
 
   -- the lines so far, and one more
-  pub no_lines : (axis : Axis) (order : LineOrder) (first : ℕ) (old : map.FinMap nat_cmp T) → AreCleared axis order first first old old
+  pub no_lines : (axis : Axis) (order : LineOrder) (first : ℕ) (old : map.FinMap nat_cmp T)
+      → AreCleared axis order first first old old
   no_lines axis order first old = record {
     fewer = none_fewer old;
     gone = λ line key low high small on. absurd (omega arith);
@@ -266,19 +278,21 @@ module _ {T : Type 0} (items : map.FinMap nat_cmp T) (key : ℕ) where
 
 -- where all lines are deleted, no item is left
 pub all_cleared : {T : Type 0} (axis : Axis) (order : LineOrder) (first end : ℕ) (old new : map.FinMap nat_cmp T)
-    → AreOnAxis axis order old → first ≡ 0 → end ≡ order.count → new ≡ map.empty → AreCleared axis order first end old new
+    → AreOnAxis axis order old → first ≡ 0 → end ≡ order.count → new ≡ map.empty
+    → AreCleared axis order first end old new
 all_cleared {T} axis order first end old new are low high is = record {
   fewer = record {
     each = λ key. inl (none key);
     count = omega (arith, ap map.len is ∙ map.len-empty nat_cmp T);
   };
   gone = λ line key _ _ _ _. none key;
-  kept = λ key off. elim (map.get old key) as (λ (was : Option T). map.get old key ≡ was → map.get new key ≡ map.get old key) [
-    | None ↦ λ was. none key ∙ sym was
-    | Some item ↦ λ was.
-        let on = are.each key (ap is_some was) in
-        absurd (off on.line (omega (arith, low)) (omega (arith, high, on.there)) on.is)
-  ] refl;
+  kept = λ key off.
+      elim (map.get old key) as (λ (was : Option T). map.get old key ≡ was → map.get new key ≡ map.get old key) [
+        | None ↦ λ was. none key ∙ sym was
+        | Some item ↦ λ was.
+            let on = are.each key (ap is_some was) in
+            absurd (off on.line (omega (arith, low)) (omega (arith, high, on.there)) on.is)
+      ] refl;
 }
   where
     none : (key : ℕ) → map.get new key ≡ None

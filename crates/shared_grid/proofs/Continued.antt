@@ -61,7 +61,8 @@ numbers_on xs ys are more first behind = record {
 -- of the longer list the first are those of the shorter one
 module _ (xs : List ℕ) (kept long : ℕ) (within : length xs ≤ kept) (more : kept ≤ long) where
   pub same_entry : (i : ℕ) → i < kept → get_or (continued xs long) i 0 ≡ get_or (continued xs kept) i 0
-  same_entry i there = continued-entry xs long (omega arith) i (omega arith) ∙ sym (continued-entry xs kept within i there)
+  same_entry i there = continued-entry xs long (omega arith) i (omega arith)
+      ∙ sym (continued-entry xs kept within i there)
 
   own_entry : (i : ℕ) → kept ≤ i → i < long → get_or (continued xs long) i 0 ≡ i
   own_entry i past there = continued-entry xs long (omega arith) i there ∙ entry_behind xs i (omega arith)

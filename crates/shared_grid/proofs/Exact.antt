@@ -48,18 +48,22 @@ module _ {T M : Type 0} where
       let fewer = one_less items key one.1 in
       let fewer_marks = one_less marks turn mark in
       let left = no_other_marks count (map.remove items key) (map.remove marks turn)
-      (taken_both items marks are (line_in key) (across_in key) row_fits column_fits key turn is refl (map.remove items key) refl)
+      (taken_both items marks are (line_in key) (across_in key) row_fits column_fits key turn is refl
+      (map.remove items key) refl)
       (λ k some. small k (taken_before items key k some).1) (omega (arith, fewer, items_are))
       (omega (arith, fewer_marks, marks_are)) in
       record {
         each = λ row column row_small column_small some.
             elim (eq_by_cmp nat_cmp (key_of row column) key) as (λ b. eq_by_cmp nat_cmp (key_of row column) key ≡ b
             → IsSome (map.get items (key_of row column))) [
-              | true ↦ λ same. subst (λ (k : ℕ). IsSome (map.get items k)) (sym (same_key (key_of row column) key same)) one.1
-              | false ↦ λ differs. (taken_before items key (key_of row column) (left.each row column row_small column_small
+              | true ↦ λ same. subst (λ (k : ℕ). IsSome (map.get items k))
+                  (sym (same_key (key_of row column) key same)) one.1
+              | false ↦
+                  λ differs. (taken_before items key (key_of row column) (left.each row column row_small column_small
                   (taken_other marks turn (key_of column row)
                   (λ same. false≢true (sym differs ∙ ap (λ k. eq_by_cmp nat_cmp k key)
-                  (turned (across_in key) (line_in key) column row column_fits row_fits column_small row_small same ∙ sym is)
+                  (turned (across_in key) (line_in key) column row column_fits row_fits column_small row_small
+                  same ∙ sym is)
                   ∙ key_itself key)) some))).1
             ] refl;
       }

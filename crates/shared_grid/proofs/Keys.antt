@@ -24,7 +24,8 @@ map_alike f g (x ∷ xs) same = λ i.
     same x (Contains-head x xs) i ∷ map_alike f g xs (λ y has. same y (Contains-cons x y xs has)) i
 
 -- where each passes, all are left
-pub all_pass : {X : Type 0} (test : X → Bool) (xs : List X) → ((x : X) → Contains xs x → test x ≡ true) → xs ≡ filter test xs
+pub all_pass : {X : Type 0} (test : X → Bool) (xs : List X) → ((x : X) → Contains xs x → test x ≡ true) → xs
+    ≡ filter test xs
 all_pass test [] passes = refl
 all_pass test (x ∷ xs) passes =
     ap (λ ys. x ∷ ys) (all_pass test xs (λ y has. passes y (Contains-cons x y xs has)))

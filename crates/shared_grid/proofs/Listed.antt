@@ -16,6 +16,7 @@ use Rattle.grid_range.specs.declared.area.Area.{Area}
 use Rattle.grid_range.specs.declared.band.Band.{Band}
 use Rattle.grid_range.specs.declared.band.Band.TheVariants.{Whole, From, Span}
 use Rattle.grid_range.specs.Area.{by_rows, Holds}
+use Rattle.grid_range.specs.ByRows.{same_cell}
 use Rattle.grid_range.specs.Band.{HasLine, first_line, end_line}
 use Rattle.cell_store.specs.Table.{Table, item_at, HasItemsInside}
 use Rattle.cell_store.specs.Places.{AreFilledPlaces}
@@ -26,15 +27,15 @@ use Rattle.shared_grid.specs.Orders.{LineOrder}
 use Rattle.shared_grid.specs.Orders.{number_of, place_noted, IsPlain}
 use Rattle.shared_grid.specs.Cells.{numbers, key_of, line_in, across_in, AreKeysOnRow, AreMarksOnColumn}
 use Rattle.cell_store.specs.Kept.{KeptTable}
-use Rattle.shared_grid.specs.Sheets.{key_at, place_in, place_of, numbered_table, AreNumbered, IsOnLines, IsSheet, AreOnColumns, AreOnRows}
-use Rattle.shared_grid.proofs.Numbers.{same_place, line-key, across-key, noted-line, small, place-key, place-line}
+use Rattle.shared_grid.specs.Sheets.{key_at, place_in, pair_place, numbered_table, AreNumbered, IsOnLines, IsSheet, AreOnColumns, AreOnRows}
+use Rattle.shared_grid.proofs.Numbers.{line-key, across-key, noted-line, small, place-key, place-line}
 use Rattle.shared_grid.proofs.Keys.{map_alike}
 use Rattle.shared_grid.proofs.Views.{item-view, inside-view}
 
 -- places that aren't one differ by the test
 differ : (one other : ℕ × ℕ) → one ≢ other → eq_by_cmp by_rows one other ≡ false
 differ one other apart = elim (eq_by_cmp by_rows one other) as (λ b. eq_by_cmp by_rows one other ≡ b → b ≡ false) [
-  | true ↦ λ same. absurd (apart (same_place one other same))
+  | true ↦ λ same. absurd (apart (same_cell one other same))
   | false ↦ λ _. refl
 ] refl
 
@@ -57,7 +58,8 @@ module _ {X Y : Type 0} (f : X → Y) where
   mapped (x ∷ xs) = ap (λ ys. f x ∷ ys) (mapped xs)
 
   in_map : (xs : List X) (x : X) → Contains xs x → Contains (map f xs) (f x)
-  in_map xs x has = subst (λ ys. Contains ys (f x)) (mapped xs) (Contains-filter_map (λ z. Some (f z)) xs x (f x) has refl)
+  in_map xs x has =
+      subst (λ ys. Contains ys (f x)) (mapped xs) (Contains-filter_map (λ z. Some (f z)) xs x (f x) has refl)
 
   from_map : (xs : List X) (y : Y) → Contains (map f xs) y → (x : X) × Contains xs x × (f x ≡ y)
   from_map xs y has =
@@ -147,7 +149,8 @@ module _ {X : Type 0} (laws : TablesByItems X) (rows columns : LineOrder) (items
   row_halves plain_rows plain_columns = map_alike halves_of place keys (λ key has.
       let line : line_in key ≡ row = ((listed.exactly key).0 has).0 ∙ number_is
       ∙ plain_rows.numbers row (omega (arith, row_there, is.rows_are.count)) in
-      let across : place_noted columns (across_in key) ≡ across_in key = plain_columns.places (across_in key) (column_there key has) in
+      let across : place_noted columns (across_in key) ≡ across_in key =
+      plain_columns.places (across_in key) (column_there key has) in
       λ i. (line i, sym across i))
 
   pub row_more : (first : ℕ) (before after : List (ℕ × ℕ)) → after ≡ before ++ map place keys
@@ -234,7 +237,8 @@ module _ {X : Type 0} (laws : TablesByItems X) (rows columns : LineOrder) (items
       ∙ noted-line columns is.columns_are column column_there in
       λ i. (sym row i, sym col i)
 
-  marked_stands : (mark : ℕ) (has : Contains marks mark) → marked mark ≡ ((item_on mark has).row, (item_on mark has).column)
+  marked_stands : (mark : ℕ) (has : Contains marks mark) → marked mark
+      ≡ ((item_on mark has).row, (item_on mark has).column)
   marked_stands mark has = marked_is mark has
       ∙ place-line rows columns is.rows_are is.columns_are (key mark) (item_on mark has)
 
@@ -256,7 +260,8 @@ module _ {X : Type 0} (laws : TablesByItems X) (rows columns : LineOrder) (items
       let line = item_on mark has in
       let fits = small columns is.columns_are line.column line.there.1 in
       let same : across_in mark ≡ number_of rows line.row =
-      sym (row_of_key mark) ∙ ap line_in line.is ∙ line-key (number_of rows line.row) (number_of columns line.column) fits in
+      sym (row_of_key mark) ∙ ap line_in line.is
+      ∙ line-key (number_of rows line.row) (number_of columns line.column) fits in
       omega (
         arith,
         same,
@@ -369,8 +374,8 @@ module _ {X : Type 0} (laws : TablesByItems X) (rows columns : LineOrder) (items
         subst (λ (p : ℕ × ℕ). (p.0 < length rows.places) × (p.1 < length columns.places)) found.2 (low, across);
   }
 
-  pub halves_placed : map (place_of rows columns) (map halves_of keys) ≡ map (place_in rows columns) keys
-  halves_placed = map-map (place_of rows columns) halves_of keys
+  pub halves_placed : map (pair_place rows columns) (map halves_of keys) ≡ map (place_in rows columns) keys
+  halves_placed = map-map (pair_place rows columns) halves_of keys
 
   pub all_rows : AreOnRows 0 rows.count sheet.table (map (place_in rows columns) keys)
   all_rows = record {
@@ -412,7 +417,8 @@ has_ends (From start) count line there has = (has, omega arith)
 has_ends (Span start end) count line there has = let less = has.1 in (has.0, omega arith)
 
 pub are_places : {X : Type 0} (area : Area) (table : Table X) (count first end : ℕ) (places held : List (ℕ × ℕ))
-    → HasItemsInside table → count ≡ table.rows → first ≤ first_line area.rows → min (end_line area.rows count) count ≤ end
+    → HasItemsInside table → count ≡ table.rows → first ≤ first_line area.rows
+    → min (end_line area.rows count) count ≤ end
     → AreOnRows first end table places → IsStrictlySortedBy by_rows held
     → ((row col : ℕ) → Contains held (row, col) ↔ (Holds area row col × Contains places (row, col)))
     → AreFilledPlaces area table held
@@ -431,7 +437,8 @@ are_places area table count first end places held inside count_is low high are s
 }
 
 pub are_column_places : {X : Type 0} (area : Area) (table : Table X) (count first end : ℕ) (places held : List (ℕ × ℕ))
-    → HasItemsInside table → count ≡ table.cols → first ≤ first_line area.cols → min (end_line area.cols count) count ≤ end
+    → HasItemsInside table → count ≡ table.cols → first ≤ first_line area.cols
+    → min (end_line area.cols count) count ≤ end
     → AreOnColumns first end table places → IsStrictlySortedBy by_rows held
     → ((row col : ℕ) → Contains held (row, col) ↔ (Holds area row col × Contains places (row, col)))
     → AreFilledPlaces area table held

@@ -21,7 +21,8 @@ lent_is_some None = refl
 
 pub no_items : {T M : Type 0} (marks : map.FinMap nat_cmp M) → HasMarks (map.empty {X = T}) marks
 no_items marks = record {
-  each = λ row column _ _ some. absurd (false≢true (ap is_some (sym (map.get-empty nat_cmp (key_of row column))) ∙ some));
+  each = λ row column _ _ some.
+      absurd (false≢true (ap is_some (sym (map.get-empty nat_cmp (key_of row column))) ∙ some));
 }
 
 module _ {X : Type 0} (held : map.FinMap nat_cmp X) (at : ℕ) where
@@ -37,9 +38,11 @@ module _ {X : Type 0} (held : map.FinMap nat_cmp X) (at : ℕ) where
         | false ↦ some
       ])
 
-  put_other : (item : X) (key : ℕ) → key ≢ at → IsSome (map.get (map.insert held at item) key) → IsSome (map.get held key)
+  put_other : (item : X) (key : ℕ) → key ≢ at → IsSome (map.get (map.insert held at item) key)
+      → IsSome (map.get held key)
   put_other item key other some =
-      elim (eq_by_cmp nat_cmp key at) as (λ b. eq_by_cmp nat_cmp key at ≡ b → IsSome (cond b (Some item) (map.get held key))
+      elim (eq_by_cmp nat_cmp key at) as (λ b. eq_by_cmp nat_cmp key at ≡ b
+      → IsSome (cond b (Some item) (map.get held key))
       → IsSome (map.get held key)) [
         | true ↦ λ same _. absurd (other (same_key key at same))
         | false ↦ λ _ held. held
@@ -58,7 +61,8 @@ module _ {X : Type 0} (held : map.FinMap nat_cmp X) (at : ℕ) where
 
   pub taken_other : (key : ℕ) → key ≢ at → IsSome (map.get held key) → IsSome (map.get (map.remove held at) key)
   taken_other key other some = subst IsSome (sym (map.get-remove nat_cmp_total held at key))
-      (elim (eq_by_cmp nat_cmp key at) as (λ b. eq_by_cmp nat_cmp key at ≡ b → IsSome (cond b None (map.get held key))) [
+      (elim (eq_by_cmp nat_cmp key at) as (λ b. eq_by_cmp nat_cmp key at ≡ b
+      → IsSome (cond b None (map.get held key))) [
         | true ↦ λ same. absurd (other (same_key key at same))
         | false ↦ λ _. some
       ] refl)
@@ -82,27 +86,31 @@ module _ {T M : Type 0} (items : map.FinMap nat_cmp T) (marks : map.FinMap nat_c
     pub put_both : (key turn : ℕ) → key ≡ key_of row column → turn ≡ key_of column row → (item : T)
         → (after : map.FinMap nat_cmp M) (mark : M) → after ≡ map.insert marks turn mark
         → HasMarks (map.insert items key item) after
-    put_both key turn key_is turn_is item after mark put = subst (HasMarks (map.insert items key item)) (sym put) (record {
-      each = λ r c small fits some.
-          elim (eq_by_cmp nat_cmp (key_of r c) key) as (λ b. eq_by_cmp nat_cmp (key_of r c) key ≡ b
-          → IsSome (map.get (map.insert marks turn mark) (key_of c r))) [
-            | true ↦ λ same. put_there marks turn mark (key_of c r)
-                (turned row column r c row_fits column_fits small fits (same_key (key_of r c) key same ∙ key_is) ∙ sym turn_is)
-            | false ↦ λ differs. put_more marks turn mark (key_of c r) (are.each r c small fits
-                (put_other items key item (key_of r c)
-                (λ same. false≢true (sym differs ∙ ap (λ k. eq_by_cmp nat_cmp k key) same ∙ key_itself key)) some))
-          ] refl;
-    })
+    put_both key turn key_is turn_is item after mark put =
+        subst (HasMarks (map.insert items key item)) (sym put) (record {
+          each = λ r c small fits some.
+              elim (eq_by_cmp nat_cmp (key_of r c) key) as (λ b. eq_by_cmp nat_cmp (key_of r c) key ≡ b
+              → IsSome (map.get (map.insert marks turn mark) (key_of c r))) [
+                | true ↦ λ same. put_there marks turn mark (key_of c r)
+                    (turned row column r c row_fits column_fits small fits (same_key (key_of r c) key same ∙ key_is)
+                    ∙ sym turn_is)
+                | false ↦ λ differs. put_more marks turn mark (key_of c r) (are.each r c small fits
+                    (put_other items key item (key_of r c)
+                    (λ same. false≢true (sym differs ∙ ap (λ k. eq_by_cmp nat_cmp k key) same ∙ key_itself key)) some))
+              ] refl;
+        })
 
-    pub taken_both : (key turn : ℕ) → key ≡ key_of row column → turn ≡ key_of column row → (after : map.FinMap nat_cmp T)
+    pub taken_both : (key turn : ℕ) → key ≡ key_of row column → turn ≡ key_of column row
+        → (after : map.FinMap nat_cmp T)
         → after ≡ map.remove items key → HasMarks after (map.remove marks turn)
-    taken_both key turn key_is turn_is after taken = subst (λ left. HasMarks left (map.remove marks turn)) (sym taken) (record {
-      each = λ r c small fits some.
-          let before = taken_before items key (key_of r c) some in
-          taken_other marks turn (key_of c r)
-          (λ same. before.0 (turned column row c r column_fits row_fits fits small (same ∙ turn_is) ∙ sym key_is))
-          (are.each r c small fits before.1);
-    })
+    taken_both key turn key_is turn_is after taken =
+        subst (λ left. HasMarks left (map.remove marks turn)) (sym taken) (record {
+          each = λ r c small fits some.
+              let before = taken_before items key (key_of r c) some in
+              taken_other marks turn (key_of c r)
+              (λ same. before.0 (turned column row c r column_fits row_fits fits small (same ∙ turn_is) ∙ sym key_is))
+              (are.each r c small fits before.1);
+        })
 
   pub taken_item : (key : ℕ) (after : map.FinMap nat_cmp T) → after ≡ map.remove items key → HasMarks after marks
   taken_item key after taken = subst (λ left. HasMarks left marks) (sym taken) (record {

@@ -29,10 +29,12 @@ use Rattle.shared_grid.proofs.Views.{item-view, inside-view, filled-view}
 same_end : (start end line : ℕ) → start ≤ line → line < end → closed_up start end (line + 1) ≤ closed_up start end line
 same_end start end line low high = grind (arith, nat_tests)
 
-grows_before : (start end line : ℕ) → start < end → line < start → closed_up start end line < closed_up start end (line + 1)
+grows_before : (start end line : ℕ) → start < end → line < start → closed_up start end line
+    < closed_up start end (line + 1)
 grows_before start end line some before = grind (arith, nat_tests)
 
-grows_behind : (start end line : ℕ) → start < end → end ≤ line → closed_up start end line < closed_up start end (line + 1)
+grows_behind : (start end line : ℕ) → start < end → end ≤ line → closed_up start end line
+    < closed_up start end (line + 1)
 grows_behind start end line some behind = grind (arith, nat_tests)
 
 lost : (a b place : ℕ) → b ≤ a → option_map (λ (s : ℕ × ℕ). s.0) (cond (nat_lt a b) (Some (a, b)) None) ≡ Some place → ⊥
@@ -80,9 +82,11 @@ module _ {X : Type 0} (change : Change) (before after : LineOrder) (moved : AreM
     (old new : ℕ → Option X) where
   -- the item of a line after the change was that of a line that went there
   came : ((number : ℕ) → (new number ≡ None) ⊎ (new number ≡ old number)) → (place : ℕ) (item : X) → place < after.count
-      → (IsSome (old (number_of after place)) → (line : ℕ) × (line < before.count) × (number_of after place ≡ number_of before line))
+      → (IsSome (old (number_of after place)) → (line : ℕ) × (line < before.count)
+      × (number_of after place ≡ number_of before line))
       → new (number_of after place) ≡ Some item
-      → (line : ℕ) × (line < before.count) × (place_of change line ≡ Some place) × (old (number_of before line) ≡ Some item)
+      → (line : ℕ) × (line < before.count) × (place_of change line ≡ Some place)
+      × (old (number_of before line) ≡ Some item)
   came fewer place item there on held =
       let was : old (number_of after place) ≡ Some item = elim (fewer (number_of after place)) [
         | inl none ↦ absurd (false≢true (ap is_some (sym none ∙ held)))
@@ -102,14 +106,16 @@ module _ {X : Type 0} (change : Change) (before after : LineOrder) (moved : AreM
   went line place item there goes kept held = ap new (moved.going line place there goes) ∙ kept ∙ held
 
 -- where the places of a line are, that of one of its items is
-row_goes : (line : Option ℕ) (across row col : ℕ) → option_map {U = ℕ × ℕ} (λ (l : ℕ). (l, across)) line ≡ Some (row, col)
+row_goes : (line : Option ℕ) (across row col : ℕ) → option_map {U = ℕ × ℕ} (λ (l : ℕ). (l, across)) line
+    ≡ Some (row, col)
     → (line ≡ Some row) × (across ≡ col)
 row_goes None across row col same = absurd (false≢true (ap is_some same))
 row_goes (Some line) across row col same =
     let pair : (line, across) ≡ (row, col) = ap (λ (o : Option (ℕ × ℕ)). unwrap_or o (row, col)) same in
     (ap (λ (p : ℕ × ℕ). Some p.0) pair, ap (λ (p : ℕ × ℕ). p.1) pair)
 
-column_goes : (line : Option ℕ) (across row col : ℕ) → option_map {U = ℕ × ℕ} (λ (l : ℕ). (across, l)) line ≡ Some (row, col)
+column_goes : (line : Option ℕ) (across row col : ℕ) → option_map {U = ℕ × ℕ} (λ (l : ℕ). (across, l)) line
+    ≡ Some (row, col)
     → (line ≡ Some col) × (across ≡ row)
 column_goes None across row col same = absurd (false≢true (ap is_some same))
 column_goes (Some line) across row col same =
@@ -155,7 +161,8 @@ module _ {X : Type 0} (rows columns : LineOrder) (items : fin.FinMap nat_cmp X) 
         };
   }
 
-module _ {X : Type 0} (laws : TablesByItems X) (below : PlacesStayBelow) (change : Change) (rows columns after : LineOrder)
+module _ {X : Type 0} (laws : TablesByItems X) (below : PlacesStayBelow) (change : Change)
+    (rows columns after : LineOrder)
     (items left : fin.FinMap nat_cmp X) (is : IsSheet rows columns items) (sheet : KeptTable X)
     (view : numbered_table rows columns items ≡ sheet) (after_is : IsOrder after) where
   rows_same : rows.count ≡ sheet.table.rows
@@ -171,7 +178,8 @@ module _ {X : Type 0} (laws : TablesByItems X) (below : PlacesStayBelow) (change
   col_small col there = small columns is.columns_are col there
 
   -- no item is left on a deleted line
-  none_deleted : (axis : Axis) (order : LineOrder) → AreCleared axis order (deleted change).0 (deleted change).1 items left
+  none_deleted : (axis : Axis) (order : LineOrder)
+      → AreCleared axis order (deleted change).0 (deleted change).1 items left
       → (key : ℕ) → IsOnLines rows columns key → (line : ℕ) → (deleted change).0 ≤ line → line < (deleted change).1
       → number_on axis key ≡ number_of order line → IsSome (fin.get left key) → ⊥
   none_deleted axis order cleared key on line low high same =
@@ -179,7 +187,8 @@ module _ {X : Type 0} (laws : TablesByItems X) (below : PlacesStayBelow) (change
       (fits_key key (number_of rows on.row) (number_of columns on.column)
       (row_small on.row on.there.0) (col_small on.column on.there.1) on.is) same)
 
-  on_row : (col : ℕ) → col < columns.count → (number : ℕ) → IsSome (fin.get items (key_of number (number_of columns col)))
+  on_row : (col : ℕ) → col < columns.count → (number : ℕ)
+      → IsSome (fin.get items (key_of number (number_of columns col)))
       → (line : ℕ) × (line < rows.count) × (number ≡ number_of rows line)
   on_row col there number some =
       let on = is.lines.each (key_of number (number_of columns col)) some in (
@@ -217,11 +226,13 @@ module _ {X : Type 0} (laws : TablesByItems X) (below : PlacesStayBelow) (change
                   omega (arith, goes_below below change rows.count on.row goes.0 fits on.there.0 goes.1, moved.count),
                   on.there.1,
                 );
-                is = on.is ∙ ap (λ (n : ℕ). key_of n (number_of columns on.column)) (sym (moved.going on.row goes.0 on.there.0 goes.1));
+                is = on.is ∙ ap (λ (n : ℕ). key_of n (number_of columns on.column))
+                    (sym (moved.going on.row goes.0 on.there.0 goes.1));
               }
               | inr gone ↦ absurd (none_deleted Rows rows cleared key on on.row gone.0 gone.1
                   (ap line_in on.is
-                  ∙ line-key (number_of rows on.row) (number_of columns on.column) (col_small on.column on.there.1)) some)
+                  ∙ line-key (number_of rows on.row) (number_of columns on.column)
+                  (col_small on.column on.there.1)) some)
             ];
       };
       size = omega (arith, moved.count, room);
@@ -232,11 +243,14 @@ module _ {X : Type 0} (laws : TablesByItems X) (below : PlacesStayBelow) (change
       size = λ i. ((moved.count ∙ ap (count_after change) rows_same) i, cols_same i);
       items = λ row col item. (
         (λ held.
-            let there = inside laws after columns after_is is.columns_are left rows_sheet.lines row col (ap is_some held) in
+            let there =
+            inside laws after columns after_is is.columns_are left rows_sheet.lines row col (ap is_some held) in
             let found = came change rows after moved (λ n. fin.get items (key_of n (number_of columns col)))
             (λ n. fin.get left (key_of n (number_of columns col)))
             (λ n. cleared.fewer.each (key_of n (number_of columns col)))
-            row item there.0 (on_row col there.1 (number_of after row)) (sym (item-place laws after columns after_is is.columns_are left rows_sheet.lines row col there.0 there.1) ∙ held) in
+            row item there.0 (on_row col there.1 (number_of after row))
+            (sym (item-place laws after columns after_is is.columns_are left rows_sheet.lines row col there.0
+            there.1) ∙ held) in
             record {
               old_row = found.0;
               old_col = col;
@@ -245,21 +259,29 @@ module _ {X : Type 0} (laws : TablesByItems X) (below : PlacesStayBelow) (change
             }),
         (λ (from : CameFrom Rows change sheet.table row col item).
             let to = row_goes (place_of change from.old_row) from.old_col row col from.goes in
-            let place = inside-view laws rows columns items is sheet view from.old_row from.old_col (ap is_some from.held) in
+            let place =
+            inside-view laws rows columns items is sheet view from.old_row from.old_col (ap is_some from.held) in
             let row_there : from.old_row < rows.count = omega (arith, place.0, rows_same) in
             let col_there : from.old_col < columns.count = omega (arith, place.1, cols_same) in
             let kept = cleared.kept (key_of (number_of rows from.old_row) (number_of columns from.old_col))
             (λ line low high same.
-            let one : from.old_row ≡ line = is.rows_are.each.apart from.old_row line (omega (arith, row_there, is.rows_are.count))
+            let one : from.old_row ≡ line =
+            is.rows_are.each.apart from.old_row line (omega (arith, row_there, is.rows_are.count))
             (omega (arith, deleted_there change rows.count line fits high, is.rows_are.count))
-            (sym (line-key (number_of rows from.old_row) (number_of columns from.old_col) (col_small from.old_col col_there)) ∙ same) in
+            (sym (line-key (number_of rows from.old_row) (number_of columns from.old_col)
+            (col_small from.old_col col_there)) ∙ same) in
             stays change from.old_row row to.0 (omega (arith, one, low)) (omega (arith, one, high))) in
             let held = went change rows after moved (λ n. fin.get items (key_of n (number_of columns from.old_col)))
             (λ n. fin.get left (key_of n (number_of columns from.old_col))) from.old_row row item row_there to.0 kept
-            (item-view laws rows columns items is sheet view from.old_row from.old_col row_there col_there ∙ from.held) in
+            (item-view laws rows columns items is sheet view from.old_row from.old_col row_there col_there
+            ∙ from.held) in
             subst (λ (c : ℕ). item_at (sheet_of after columns left) row c ≡ Some item) to.1
             (item-place laws after columns after_is is.columns_are left rows_sheet.lines row from.old_col
-            (omega (arith, goes_below below change rows.count from.old_row row fits row_there to.0, moved.count)) col_there
+            (omega (
+              arith,
+              goes_below below change rows.count from.old_row row fits row_there to.0,
+              moved.count,
+            )) col_there
             ∙ held)),
       );
     }
@@ -303,13 +325,18 @@ module _ {X : Type 0} (laws : TablesByItems X) (below : PlacesStayBelow) (change
                 column = goes.0;
                 there = (
                   on.there.0,
-                  omega (arith, goes_below below change columns.count on.column goes.0 fits on.there.1 goes.1, moved.count),
+                  omega (
+                    arith,
+                    goes_below below change columns.count on.column goes.0 fits on.there.1 goes.1,
+                    moved.count,
+                  ),
                 );
                 is = on.is ∙ ap (key_of (number_of rows on.row)) (sym (moved.going on.column goes.0 on.there.1 goes.1));
               }
               | inr gone ↦ absurd (none_deleted Columns columns cleared key on on.column gone.0 gone.1
                   (ap across_in on.is
-                  ∙ across-key (number_of rows on.row) (number_of columns on.column) (col_small on.column on.there.1)) some)
+                  ∙ across-key (number_of rows on.row) (number_of columns on.column)
+                  (col_small on.column on.there.1)) some)
             ];
       };
       size = omega (arith, moved.count, room);
@@ -320,12 +347,14 @@ module _ {X : Type 0} (laws : TablesByItems X) (below : PlacesStayBelow) (change
       size = λ i. (rows_same i, (moved.count ∙ ap (count_after change) cols_same) i);
       items = λ row col item. (
         (λ held.
-            let there = inside laws rows after is.rows_are after_is left columns_sheet.lines row col (ap is_some held) in
+            let there =
+            inside laws rows after is.rows_are after_is left columns_sheet.lines row col (ap is_some held) in
             let found = came change columns after moved (λ n. fin.get items (key_of (number_of rows row) n))
             (λ n. fin.get left (key_of (number_of rows row) n))
             (λ n. cleared.fewer.each (key_of (number_of rows row) n))
             col item there.1 (on_column row (number_of after col) (small after after_is col there.1))
-            (sym (item-place laws rows after is.rows_are after_is left columns_sheet.lines row col there.0 there.1) ∙ held) in
+            (sym (item-place laws rows after is.rows_are after_is left columns_sheet.lines row col there.0
+            there.1) ∙ held) in
             record {
               old_row = row;
               old_col = found.0;
@@ -334,18 +363,22 @@ module _ {X : Type 0} (laws : TablesByItems X) (below : PlacesStayBelow) (change
             }),
         (λ (from : CameFrom Columns change sheet.table row col item).
             let to = column_goes (place_of change from.old_col) from.old_row row col from.goes in
-            let place = inside-view laws rows columns items is sheet view from.old_row from.old_col (ap is_some from.held) in
+            let place =
+            inside-view laws rows columns items is sheet view from.old_row from.old_col (ap is_some from.held) in
             let row_there : from.old_row < rows.count = omega (arith, place.0, rows_same) in
             let col_there : from.old_col < columns.count = omega (arith, place.1, cols_same) in
             let kept = cleared.kept (key_of (number_of rows from.old_row) (number_of columns from.old_col))
             (λ line low high same.
-            let one : from.old_col ≡ line = is.columns_are.each.apart from.old_col line (omega (arith, col_there, is.columns_are.count))
+            let one : from.old_col ≡ line =
+            is.columns_are.each.apart from.old_col line (omega (arith, col_there, is.columns_are.count))
             (omega (arith, deleted_there change columns.count line fits high, is.columns_are.count))
-            (sym (across-key (number_of rows from.old_row) (number_of columns from.old_col) (col_small from.old_col col_there)) ∙ same) in
+            (sym (across-key (number_of rows from.old_row) (number_of columns from.old_col)
+            (col_small from.old_col col_there)) ∙ same) in
             stays change from.old_col col to.0 (omega (arith, one, low)) (omega (arith, one, high))) in
             let held = went change columns after moved (λ n. fin.get items (key_of (number_of rows from.old_row) n))
             (λ n. fin.get left (key_of (number_of rows from.old_row) n)) from.old_col col item col_there to.0 kept
-            (item-view laws rows columns items is sheet view from.old_row from.old_col row_there col_there ∙ from.held) in
+            (item-view laws rows columns items is sheet view from.old_row from.old_col row_there col_there
+            ∙ from.held) in
             subst (λ (r : ℕ). item_at (sheet_of rows after left) r col ≡ Some item) to.1
             (item-place laws rows after is.rows_are after_is left columns_sheet.lines from.old_row col row_there
             (omega (arith, goes_below below change columns.count from.old_col col fits col_there to.0, moved.count))
@@ -394,7 +427,8 @@ module _ {X : Type 0} (change : Change) (rows columns : LineOrder) (items : fin.
       (sym (ap (λ s. s.table.rows + count_after change s.table.cols) view)) room
 
   -- the numbers that there were, or those that the lines need
-  pub rows_reused : (after : LineOrder) (left : fin.FinMap nat_cmp X) → length after.numbers ≤ max (length rows.numbers) (count_after change rows.count)
+  pub rows_reused : (after : LineOrder) (left : fin.FinMap nat_cmp X) → length after.numbers
+      ≤ max (length rows.numbers) (count_after change rows.count)
       → ReusesLines Rows change sheet (numbered_table after columns left)
   rows_reused after left few = record {
     rows = subst (λ (n : ℕ). length after.numbers ≤ n)

@@ -1,29 +1,20 @@
 -- The numbers of lines, the keys that are made of them, and the places that are noted.
 use native.Mathlib.Omega.{arith}
 use Rattle.std.proofs.Common.{◌≡◌, inl, inr, ℕ, ◌+◌, ◌<◌, ◌-◌, Bool, true, false, List, [], ◌∷◌, ◌++◌, get_or, length, refl, sym, ap, subst, ◌∙◌}
-use Rattle.std.specs.Cmp.{IsTotalOrder, nat_cmp_total}
+use Rattle.std.specs.Cmp.{nat_cmp_total}
 use Rattle.std.specs.Ordering.{nat_cmp, eq_by_cmp}
-use Rattle.std.specs.declared.cmp.Ordering.TheVariants.{Equal}
 use Rattle.std.proofs.lemmas.Bool.{cases_lt}
 use Rattle.std.proofs.lemmas.List.{length-append, get_or_append_left, get_or-append_right}
-use Rattle.std.proofs.lemmas.Cmp.{then_total, on_total, eq_by_cmp_equiv}
-use Rattle.std.proofs.lemmas.Map.Lookups.{exact_pairs, exact_unsigned}
+use Rattle.std.proofs.lemmas.Cmp.{eq_by_cmp_equiv}
+use Rattle.std.proofs.lemmas.Map.Lookups.{exact_unsigned}
 use Rattle.std.proofs.lemmas.Map.Views.{tells_apart}
 use Rattle.std.proofs.lemmas.Nat.{div-mul-add, mod-mul-add}
 use Rattle.grid_range.specs.Area.{by_rows}
+use Rattle.grid_range.specs.ByRows.{by_rows_total, same_cell}
 use Rattle.shared_grid.specs.Orders.{LineOrder}
 use Rattle.shared_grid.specs.Cells.{numbers, key_of, line_in, across_in}
 use Rattle.shared_grid.specs.Orders.{AreNumbers, IsOrder, number_of, place_noted}
 use Rattle.shared_grid.specs.Sheets.{key_at, place_in, IsOnLines}
-
-by_rows_total : IsTotalOrder by_rows
-by_rows_total = then_total (on_total (λ (p : ℕ × ℕ). p.0) nat_cmp_total) (on_total (λ (p : ℕ × ℕ). p.1) nat_cmp_total)
-
-by_rows_exact : (one other : ℕ × ℕ) → by_rows one other ≡ Equal → one ≡ other
-by_rows_exact = exact_pairs nat_cmp nat_cmp exact_unsigned exact_unsigned
-
-pub same_place : (one other : ℕ × ℕ) → eq_by_cmp by_rows one other ≡ true → one ≡ other
-same_place one other e = tells_apart by_rows_exact one other e
 
 pub place_itself : (place : ℕ × ℕ) → eq_by_cmp by_rows place place ≡ true
 place_itself place = (eq_by_cmp_equiv by_rows_total).refl place
@@ -79,10 +70,12 @@ module _ (rows columns : LineOrder) (rows_are : IsOrder rows) (columns_are : IsO
       → eq_by_cmp by_rows (row, col) (place_in rows columns key) ≡ eq_by_cmp nat_cmp (key_at rows columns row col) key
   place_or_key row col key row_there col_there on = alike _ _
       (λ places.
-      let same : (row, col) ≡ (on.row, on.column) = same_place (row, col) (place_in rows columns key) places
+      let same : (row, col) ≡ (on.row, on.column) = same_cell (row, col) (place_in rows columns key) places
       ∙ place-line key on in
-      let keys : key_at rows columns row col ≡ key = ap (λ (place : ℕ × ℕ). key_at rows columns place.0 place.1) same ∙ sym on.is in
-      subst (λ other. eq_by_cmp nat_cmp (key_at rows columns row col) other ≡ true) keys (key_itself (key_at rows columns row col)))
+      let keys : key_at rows columns row col ≡ key = ap (λ (place : ℕ × ℕ). key_at rows columns place.0 place.1) same
+      ∙ sym on.is in
+      subst (λ other. eq_by_cmp nat_cmp (key_at rows columns row col) other ≡ true) keys
+      (key_itself (key_at rows columns row col)))
       (λ keys.
       let same : (row, col) ≡ place_in rows columns key = sym (place-key row col row_there col_there)
       ∙ ap (place_in rows columns) (same_key (key_at rows columns row col) key keys) in
@@ -97,7 +90,8 @@ module _ (rows columns : LineOrder) (rows_are : IsOrder rows) (columns_are : IsO
       ∙ ap (λ key. eq_by_cmp nat_cmp key other) (sym on_one.is)
 
 -- the next number behind the others
-module _ (xs ys : List ℕ) (number : ℕ) (are : AreNumbers xs) (is : ys ≡ xs ++ number ∷ []) (next : number ≡ length xs) where
+module _ (xs ys : List ℕ) (number : ℕ) (are : AreNumbers xs) (is : ys ≡ xs ++ number ∷ [])
+    (next : number ≡ length xs) where
   longer : length ys ≡ length xs + 1
   longer = omega (arith, ap length is, length-append xs (number ∷ []))
 

@@ -14,6 +14,7 @@ use Rattle.std.proofs.lemmas.Bool.{false≢true, cases_lt}
 use Rattle.std.proofs.lemmas.List.{length-map}
 use Rattle.std.proofs.lemmas.Map.Keys.{IsDistinct-cons}
 use Rattle.grid_range.specs.Area.{by_rows}
+use Rattle.grid_range.specs.ByRows.{same_cell}
 use Rattle.cell_store.specs.Table.{Table, item_at, filled_places, HasItemsInside}
 use Rattle.cell_store.specs.Entries.{entry_at}
 use Rattle.cell_store.specs.Laws.{TablesByItems}
@@ -21,7 +22,7 @@ use Rattle.cell_value.specs.Elements.{IsDistinct-none}
 use Rattle.shared_grid.specs.Orders.{LineOrder}
 use Rattle.shared_grid.specs.Orders.{IsOrder}
 use Rattle.shared_grid.specs.Sheets.{key_at, place_in, placed, sheet_of, IsOnLines, AreOnLines}
-use Rattle.shared_grid.proofs.Numbers.{key_itself, same_place, place-line, place_or_key, places_or_keys}
+use Rattle.shared_grid.proofs.Numbers.{key_itself, place-line, place_or_key, places_or_keys}
 
 apart : (o : Ordering) → T (is_lt o) → is_eq o ≡ false
 apart Less h = refl
@@ -45,13 +46,13 @@ module _ {X : Type 0} where
   first_some true item rest is = refl
   first_some false item rest is = absurd (false≢true is)
 
-  module _ (place_of : ℕ → ℕ × ℕ) where
+  module _ (pair_place : ℕ → ℕ × ℕ) where
     abbrev moved : List (ℕ × X) → List ((ℕ × ℕ) × X)
-    moved es = map (λ (entry : ℕ × X). (place_of entry.0, entry.1)) es
+    moved es = map (λ (entry : ℕ × X). (pair_place entry.0, entry.1)) es
 
     -- an item is found at a place as it is at a key, where the two tell the keys of the items apart alike
     found_as : (place : ℕ × ℕ) (key : ℕ) (es : List (ℕ × X))
-        → ((k : ℕ) → IsSome (map.find nat_cmp k es) → eq_by_cmp by_rows place (place_of k) ≡ eq_by_cmp nat_cmp key k)
+        → ((k : ℕ) → IsSome (map.find nat_cmp k es) → eq_by_cmp by_rows place (pair_place k) ≡ eq_by_cmp nat_cmp key k)
         → entry_at (moved es) place ≡ map.find nat_cmp key es
     found_as place key [] tests = refl
     found_as place key (e ∷ es) tests =
@@ -62,12 +63,12 @@ module _ {X : Type 0} where
 
     -- what is found at a place has a key
     has_key : (place : ℕ × ℕ) (es : List (ℕ × X)) → IsSome (entry_at (moved es) place)
-        → (key : ℕ) × IsSome (map.find nat_cmp key es) × (eq_by_cmp by_rows place (place_of key) ≡ true)
+        → (key : ℕ) × IsSome (map.find nat_cmp key es) × (eq_by_cmp by_rows place (pair_place key) ≡ true)
     has_key place [] some = absurd (false≢true some)
     has_key place (e ∷ es) some =
-        elim (eq_by_cmp by_rows place (place_of e.0)) as (λ b. eq_by_cmp by_rows place (place_of e.0) ≡ b
+        elim (eq_by_cmp by_rows place (pair_place e.0)) as (λ b. eq_by_cmp by_rows place (pair_place e.0) ≡ b
         → IsSome (cond b (Some e.1) (entry_at (moved es) place))
-        → (key : ℕ) × IsSome (map.find nat_cmp key (e ∷ es)) × (eq_by_cmp by_rows place (place_of key) ≡ true)) [
+        → (key : ℕ) × IsSome (map.find nat_cmp key (e ∷ es)) × (eq_by_cmp by_rows place (pair_place key) ≡ true)) [
           | true ↦ λ is _. (
             e.0,
             first_some (eq_by_cmp nat_cmp e.0 e.0) e.1 (map.find nat_cmp e.0 es) (key_itself e.0),
@@ -80,8 +81,8 @@ module _ {X : Type 0} where
 
     all_apart : (key : ℕ) (es : List (ℕ × X)) → T (entries.below_all nat_cmp key es)
         → ((k : ℕ) → IsSome (map.find nat_cmp k es)
-        → eq_by_cmp by_rows (place_of key) (place_of k) ≡ eq_by_cmp nat_cmp key k)
-        → AllByRecursion (λ place. eq_by_cmp by_rows (place_of key) place ≡ false) (keys_of (moved es))
+        → eq_by_cmp by_rows (pair_place key) (pair_place k) ≡ eq_by_cmp nat_cmp key k)
+        → AllByRecursion (λ place. eq_by_cmp by_rows (pair_place key) place ≡ false) (keys_of (moved es))
     all_apart key [] below tests = tt
     all_apart key (e ∷ es) below tests = (
       tests e.0 (first_some (eq_by_cmp nat_cmp e.0 e.0) e.1 (map.find nat_cmp e.0 es) (key_itself e.0))
@@ -93,13 +94,13 @@ module _ {X : Type 0} where
     -- the places of different keys differ
     places_apart : (es : List (ℕ × X)) → T (entries.is_sorted nat_cmp es)
         → ((one other : ℕ) → IsSome (map.find nat_cmp one es) → IsSome (map.find nat_cmp other es)
-        → eq_by_cmp by_rows (place_of one) (place_of other) ≡ eq_by_cmp nat_cmp one other)
+        → eq_by_cmp by_rows (pair_place one) (pair_place other) ≡ eq_by_cmp nat_cmp one other)
         → IsDistinct (eq_by_cmp by_rows) (keys_of (moved es))
     places_apart [] sorted tests = IsDistinct-none (eq_by_cmp by_rows)
     places_apart (e ∷ es) sorted tests =
         let later = λ (k : ℕ) (some : IsSome (map.find nat_cmp k es)).
         still_some (eq_by_cmp nat_cmp k e.0) e.1 (map.find nat_cmp k es) some in
-        IsDistinct-cons (eq_by_cmp by_rows) (place_of e.0) (keys_of (moved es))
+        IsDistinct-cons (eq_by_cmp by_rows) (pair_place e.0) (keys_of (moved es))
         (all_apart e.0 es (first_of _ _ sorted) (λ k some. tests e.0 k
         (first_some (eq_by_cmp nat_cmp e.0 e.0) e.1 (map.find nat_cmp e.0 es) (key_itself e.0)) (later k some)))
         (places_apart es (second_of (entries.below_all nat_cmp e.0 es) _ sorted)
@@ -137,11 +138,12 @@ module _ {X : Type 0} (laws : TablesByItems X) (rows columns : LineOrder) (rows_
       let found = has_key (place_in rows columns) (row, col) (map.entries items)
       (subst IsSome (laws.entries rows.count columns.count (placed rows columns items) row col) some) in
       let line = on found.0 found.1 in
-      let same : (row, col) ≡ (line.row, line.column) = same_place (row, col) (place_in rows columns found.0) found.2
+      let same : (row, col) ≡ (line.row, line.column) = same_cell (row, col) (place_in rows columns found.0) found.2
       ∙ place-line rows columns rows_are columns_are found.0 line in
       subst (λ (place : ℕ × ℕ). (place.0 < rows.count) × (place.1 < columns.count)) (sym same) line.there
 
-  pub none_outside : (row col : ℕ) → ((row < rows.count) × (col < columns.count) → ⊥) → item_at (sheet_of rows columns items) row col ≡ None
+  pub none_outside : (row col : ℕ) → ((row < rows.count) × (col < columns.count) → ⊥)
+      → item_at (sheet_of rows columns items) row col ≡ None
   none_outside row col out = none_or (item_at (sheet_of rows columns items) row col) (λ some. out (inside row col some))
 
   pub filled : filled_places (sheet_of rows columns items) ≡ map.len items

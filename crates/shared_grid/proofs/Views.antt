@@ -41,7 +41,8 @@ module _ {X : Type 0} (laws : TablesByItems X) (rows columns : LineOrder) (items
 
   -- a place that holds an item is of the sheet
   pub held-view : (row col : ℕ) → IsSome (item_at sheet.table row col) → (row < rows.count) × (col < columns.count)
-  held-view row col some = subst (λ s. (row < s.table.rows) × (col < s.table.cols)) (sym view) (inside-view row col some)
+  held-view row col some =
+      subst (λ s. (row < s.table.rows) × (col < s.table.cols)) (sym view) (inside-view row col some)
 
   pub filled-view : map.len items ≡ filled_places sheet.table
   filled-view = sym (filled laws rows columns is.rows_are is.columns_are items is.lines)

@@ -7,18 +7,20 @@ use Rattle.std.specs.Ordering.{nat_cmp, eq_by_cmp}
 use Rattle.std.specs.FinMap as map
 use Rattle.std.proofs.lemmas.Bool.{false≢true}
 use Rattle.grid_range.specs.Area.{by_rows}
+use Rattle.grid_range.specs.ByRows.{same_cell}
 use Rattle.cell_store.specs.Table.{item_at, empty_table, with_item, without_item}
 use Rattle.cell_store.specs.Laws.{TablesByItems}
 use Rattle.shared_grid.specs.Orders.{LineOrder}
 use Rattle.shared_grid.specs.Orders.{IsOrder}
 use Rattle.shared_grid.specs.Sheets.{key_at, sheet_of, IsOnLines, AreOnLines}
-use Rattle.shared_grid.proofs.Numbers.{same_key, same_place, keys_turned, place-key, place_or_key}
+use Rattle.shared_grid.proofs.Numbers.{same_key, keys_turned, place-key, place_or_key}
 use Rattle.shared_grid.proofs.Placed.{item-place, none_outside, is_table}
 
 module _ {X : Type 0} (rows columns : LineOrder) where
   -- no items are on lines
   pub none_on_lines : AreOnLines rows columns (map.empty {X = X} {R = nat_cmp})
-  none_on_lines = record { each = λ key some. absurd (false≢true (ap is_some (sym (map.get-empty nat_cmp key)) ∙ some)) }
+  none_on_lines =
+      record { each = λ key some. absurd (false≢true (ap is_some (sym (map.get-empty nat_cmp key)) ∙ some)) }
 
   module _ (items : map.FinMap nat_cmp X) (lines : AreOnLines rows columns items) where
     pub put_on_lines : (row col : ℕ) (item : X) → row < rows.count → col < columns.count
@@ -53,14 +55,16 @@ module _ {X : Type 0} (laws : TablesByItems X) (rows columns : LineOrder) (rows_
   pub empty_sheet : sheet_of rows columns (map.empty {X = X} {R = nat_cmp}) ≡ empty_table rows.count columns.count
   empty_sheet = is_table laws rows columns rows_are columns_are map.empty (none_on_lines rows columns)
       (empty_table rows.count columns.count) refl refl
-      (λ row col _ _. map.get-empty nat_cmp (key_at rows columns row col) ∙ sym (laws.empty rows.count columns.count row col))
+      (λ row col _ _. map.get-empty nat_cmp (key_at rows columns row col)
+      ∙ sym (laws.empty rows.count columns.count row col))
       (λ row col _. laws.empty rows.count columns.count row col)
 
   module _ (items : map.FinMap nat_cmp X) (lines : AreOnLines rows columns items) (row col : ℕ)
       (row_there : row < rows.count) (col_there : col < columns.count) where
     -- the key of another place differs where the place does
     tests : (r c : ℕ) → r < rows.count → c < columns.count
-        → eq_by_cmp nat_cmp (key_at rows columns r c) (key_at rows columns row col) ≡ eq_by_cmp by_rows (row, col) (r, c)
+        → eq_by_cmp nat_cmp (key_at rows columns r c) (key_at rows columns row col)
+        ≡ eq_by_cmp by_rows (row, col) (r, c)
     tests r c r_there c_there =
         keys_turned (key_at rows columns r c) (key_at rows columns row col)
         ∙ sym (place_or_key rows columns rows_are columns_are row col (key_at rows columns r c) row_there col_there
@@ -72,7 +76,7 @@ module _ {X : Type 0} (laws : TablesByItems X) (rows columns : LineOrder) (rows_
     other_place r c out = elim (eq_by_cmp by_rows (row, col) (r, c)) as (λ b. eq_by_cmp by_rows (row, col) (r, c) ≡ b
         → b ≡ false) [
           | true ↦ λ same. absurd (out (subst (λ (place : ℕ × ℕ). (place.0 < rows.count) × (place.1 < columns.count))
-              (same_place (row, col) (r, c) same) (row_there, col_there)))
+              (same_cell (row, col) (r, c) same) (row_there, col_there)))
           | false ↦ λ _. refl
         ] refl
 
@@ -119,7 +123,7 @@ module _ {X : Type 0} (laws : TablesByItems X) (rows columns : LineOrder) (rows_
       laws.same is (without_item is row col) refl refl (λ r c.
       elim (eq_by_cmp by_rows (row, col) (r, c)) as (λ b. eq_by_cmp by_rows (row, col) (r, c) ≡ b
       → item_at is r c ≡ cond b None (item_at is r c)) [
-        | true ↦ λ same. ap (λ (place : ℕ × ℕ). item_at is place.0 place.1) (sym (same_place (row, col) (r, c) same))
+        | true ↦ λ same. ap (λ (place : ℕ × ℕ). item_at is place.0 place.1) (sym (same_cell (row, col) (r, c) same))
             ∙ none_outside laws rows columns rows_are columns_are items lines row col out
         | false ↦ λ _. refl
       ] refl ∙ sym (laws.taken is (row, col) r c))

@@ -19,8 +19,8 @@ abbrev pub place_in : LineOrder → LineOrder → ℕ → ℕ × ℕ
 place_in rows columns key = (place_noted rows (line_in key), place_noted columns (across_in key))
 
 -- the place of the lines with these numbers
-abbrev pub place_of : LineOrder → LineOrder → ℕ × ℕ → ℕ × ℕ
-place_of rows columns pair = (place_noted rows pair.0, place_noted columns pair.1)
+abbrev pub pair_place : LineOrder → LineOrder → ℕ × ℕ → ℕ × ℕ
+pair_place rows columns pair = (place_noted rows pair.0, place_noted columns pair.1)
 
 -- the pairs have the numbers of rows and of columns
 pub record AreNumbered (rows columns : LineOrder) (pairs : List (ℕ × ℕ)) : Type 0 where
@@ -88,7 +88,8 @@ pub record AreOnColumns {T : Type 0} (first end : ℕ) (table : Table T) (places
   pub all : (row col : ℕ) → first ≤ col → col < end → IsSome (item_at table row col) → Contains places (row, col)
 
 -- the items on the lines of the axis from `first` on below `end` are gone, and no others
-pub record AreCleared {T : Type 0} (axis : Axis) (order : LineOrder) (first end : ℕ) (before after : fin.FinMap nat_cmp T) : Type 0 where
+pub record AreCleared {T : Type 0} (axis : Axis) (order : LineOrder) (first end : ℕ)
+    (before after : fin.FinMap nat_cmp T) : Type 0 where
   pub fewer : HasFewer before after
   pub gone : (line key : ℕ) → first ≤ line → line < end → key < 2 ^ 64 → number_on axis key ≡ number_of order line
       → fin.get after key ≡ None

@@ -12,12 +12,12 @@ ghost use Rattle.grid_range.specs.Change.{Fits, count_after};
 ghost use Rattle.grid_range.specs.declared.axis.Axis.TheVariants.{Rows, Columns};
 ghost use Rattle.shared_grid.specs.Cells.{across_in};
 ghost use Rattle.shared_grid.specs.Orders.{AreMoved, IsOrder, number_of, place_noted};
-ghost use Rattle.shared_grid.specs.Sheets.{AreCleared, AreNumbered, AreOnAxis, AreOnColumns, AreOnRows, deleted, place_of};
+ghost use Rattle.shared_grid.specs.Sheets.{AreCleared, AreNumbered, AreOnAxis, AreOnColumns, AreOnRows, deleted, pair_place};
 ghost use Rattle.shared_grid.specs.contracts.grid.SharedGrid.{the_row};
 
 use crate::cells::{Cells, across};
-use crate::held::Held;
 use crate::order::Order;
+use crate::shared::Shared;
 use cell_store::{CellStore, held_by_rows, tables_by_items};
 use cell_value::{Duplicate, Items, NoMemory, Steps};
 use grid_range::{Area, Axis, Band, Change, places_stay_below};
@@ -31,8 +31,8 @@ use std::sync::ledger::{Blank, Ledger};
 #[derive(Drop)]
 pub struct SharedGrid<T: Duplicate + Drop> {
     alloc: Global,
-    rows: Held<Order>,
-    columns: Held<Order>,
+    rows: Shared<Order>,
+    columns: Shared<Order>,
     cells: Cells<T>,
 }
 
@@ -65,8 +65,8 @@ impl<T: Duplicate + Drop> SharedGrid<T> {
         tables_by_items::<T>();
         let row_order = Order::new(alloc, rows)?;
         let column_order = Order::new(alloc, cols)?;
-        let held_rows = Held::new(alloc, row_order)?;
-        let held_columns = Held::new(alloc, column_order)?;
+        let held_rows = Shared::new(alloc, row_order)?;
+        let held_columns = Shared::new(alloc, column_order)?;
         let cells = Cells::new(alloc)?;
         Ok(SharedGrid {
             alloc,
@@ -443,14 +443,14 @@ impl<T: Duplicate + Drop> CellStore<T> for SharedGrid<T> {
 }
 
 /// How many lines there are.
-fn count(lines: &Held<Order>) -> u32
+fn count(lines: &Shared<Order>) -> u32
     ensures { result ≡ lines.now.count }
 {
     lines.value().count()
 }
 
 /// The number of the line.
-fn number(lines: &Held<Order>, line: u32) -> u32
+fn number(lines: &Shared<Order>, line: u32) -> u32
     requires order { IsOrder lines.now }
     requires there { line < lines.now.count }
     ensures { result ≡ number_of lines.now line }
@@ -477,10 +477,10 @@ fn lines_in(band: Band, count: u32) -> u32 {
 /// The lines after the change, with a step for each line before and one for each line after.
 fn lines_after<L: Ledger>(
     alloc: Global,
-    lines: &Held<Order>,
+    lines: &Shared<Order>,
     change: &Change,
     steps: &mut Steps<L>,
-) -> Result<Held<Order>, NoMemory>
+) -> Result<Shared<Order>, NoMemory>
     requires order { IsOrder lines.now }
     requires fits { Fits change.now lines.now.count }
     requires room { count_after change.now lines.now.count ≤ most_lines }
@@ -491,7 +491,7 @@ fn lines_after<L: Ledger>(
     ensures steps { steps.new ≡ steps.old + lines.now.count + count_after change.now lines.now.count }
 {
     let order = lines.value().changed_counted(alloc, change, steps)?;
-    Held::new(alloc, order)
+    Shared::new(alloc, order)
 }
 
 /// Drops the items of the lines that the change deletes, in no more steps than there are lines before
@@ -500,7 +500,7 @@ fn drop_deleted<T: Duplicate + Drop, L: Ledger>(
     cells: &mut Cells<T>,
     alloc: Global,
     axis: Axis,
-    lines: &Held<Order>,
+    lines: &Shared<Order>,
     change: &Change,
     steps: &mut Steps<L>,
 ) -> Result<(), NoMemory>
@@ -542,7 +542,7 @@ fn placed(
     keys: Vec<(u32, u32)>,
 ) -> Result<Vec<(u32, u32)>, NoMemory>
     requires { AreNumbered rows.now columns.now keys.items }
-    ensures { IfOk result (λ places. places.items ≡ map (place_of rows.now columns.now) keys.items) }
+    ensures { IfOk result (λ places. places.items ≡ map (pair_place rows.now columns.now) keys.items) }
 {
     if rows.is_plain() && columns.is_plain() {
         return Ok(keys);
@@ -558,7 +558,7 @@ fn places_of(
     keys: &[(u32, u32)],
 ) -> Result<Vec<(u32, u32)>, NoMemory>
     requires { AreNumbered rows.now columns.now keys.now }
-    ensures { IfOk result (λ places. places.items ≡ map (place_of rows.now columns.now) keys.now) }
+    ensures { IfOk result (λ places. places.items ≡ map (pair_place rows.now columns.now) keys.now) }
 {
     let mut places = Vec::with_capacity(alloc, keys.len())?;
     for key in keys {

@@ -3,8 +3,8 @@
 
 mod cells;
 mod grid;
-mod held;
 mod order;
+mod shared;
 
 pub use cells::Mark;
 pub use grid::SharedGrid;

@@ -4,7 +4,7 @@ ghost use Rattle.cell_store.specs.Table.{most_lines};
 ghost use Rattle.shared_grid.specs.Orders.{AreMoved, AreNumbers, IsOrder, IsPlain};
 ghost use Rattle.shared_grid.specs.Orders.{entry, number_of, parts_of, place_noted};
 
-use crate::held::Held;
+use crate::shared::Shared;
 use cell_store::turn;
 use cell_value::{NoMemory, Steps};
 use grid_range::{Change, places_stay_apart, places_stay_below};
@@ -17,7 +17,7 @@ use std::sync::ledger::Ledger;
 /// the order share them, and each line behind them has its place as its number.
 #[derive(Drop)]
 pub(crate) struct Order {
-    lists: Held<Lists>,
+    lists: Shared<Lists>,
     /// How many numbers there are, those of no line among them.
     kept: u32,
     count: u32,
@@ -64,7 +64,7 @@ impl Order {
     {
         let numbers = Vec::new(alloc);
         let places = Vec::new(alloc);
-        let lists = Held::new(alloc, Lists { numbers, places })?;
+        let lists = Shared::new(alloc, Lists { numbers, places })?;
         Ok(Order {
             lists,
             kept: count,
@@ -90,7 +90,7 @@ impl Order {
         for index in 0..kept {
             note(&mut places, numbers[index as usize], index);
         }
-        let lists = Held::new(alloc, Lists { numbers, places })?;
+        let lists = Shared::new(alloc, Lists { numbers, places })?;
         Ok(Order { lists, kept, count })
     }
 

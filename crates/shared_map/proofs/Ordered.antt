@@ -24,11 +24,13 @@ record Ascends (keys : List ℕ) (end : ℕ) : Type 0 where
 less : (a b : ℕ) → a < b → nat_cmp a b ≡ Less
 less a b lt = grind (arith, nat_tests)
 
-push_all : (P : ℕ → Type 0) (keys : List ℕ) (key : ℕ) → AllByRecursion P keys → P key → AllByRecursion P (keys ++ key ∷ [])
+push_all : (P : ℕ → Type 0) (keys : List ℕ) (key : ℕ) → AllByRecursion P keys → P key
+    → AllByRecursion P (keys ++ key ∷ [])
 push_all P [] key all p = (p, tt)
 push_all P (k ∷ keys) key all p = (all.0, push_all P keys key all.1 p)
 
-below_more : (keys : List ℕ) (end : ℕ) → AllByRecursion (λ key. key < end) keys → AllByRecursion (λ key. key < suc end) keys
+below_more : (keys : List ℕ) (end : ℕ) → AllByRecursion (λ key. key < end) keys
+    → AllByRecursion (λ key. key < suc end) keys
 below_more [] end below = tt
 below_more (k ∷ keys) end below = let lt = below.0 in (omega arith, below_more keys end below.1)
 
@@ -36,14 +38,17 @@ push_sorted : (keys : List ℕ) (key : ℕ) → IsStrictlySortedBy nat_cmp keys 
     → IsStrictlySortedBy nat_cmp (keys ++ key ∷ [])
 unfolding IsStrictlySortedBy
 push_sorted [] key sorted below = (tt, tt)
-push_sorted (k ∷ keys) key sorted below =
-    (push_all (λ other. nat_cmp k other ≡ Less) keys key sorted.0 (less k key below.0), push_sorted keys key sorted.1 below.1)
+push_sorted (k ∷ keys) key sorted below = (
+  push_all (λ other. nat_cmp k other ≡ Less) keys key sorted.0 (less k key below.0),
+  push_sorted keys key sorted.1 below.1,
+)
 
 nothing_ascends : (end : ℕ) → Ascends [] end
 unfolding IsStrictlySortedBy
 nothing_ascends end = record { sorted = tt; below = tt }
 
-one_more : (kept : Bool) (keys : List ℕ) (key : ℕ) → Ascends keys key → Ascends (keys ++ cond kept (key ∷ []) []) (suc key)
+one_more : (kept : Bool) (keys : List ℕ) (key : ℕ) → Ascends keys key
+    → Ascends (keys ++ cond kept (key ∷ []) []) (suc key)
 one_more true keys key ascends = record {
   sorted = push_sorted keys key ascends.sorted ascends.below;
   below = push_all (λ k. k < suc key) keys key (below_more keys key ascends.below) (omega arith);
@@ -55,7 +60,8 @@ one_more false keys key ascends = subst (λ ks. Ascends ks (suc key)) (sym (appe
 
 one_of : (kept : Bool) (keys : List ℕ) (last key : ℕ) → Contains (keys ++ cond kept (last ∷ []) []) key
     → Contains keys key ⊎ ((kept ≡ true) × (last ≡ key))
-one_of true keys last key listed = elim (Contains-push_cases keys last key listed) [ inl old ↦ inl old | inr e ↦ inr (refl, e) ]
+one_of true keys last key listed =
+    elim (Contains-push_cases keys last key listed) [ inl old ↦ inl old | inr e ↦ inr (refl, e) ]
 one_of false keys last key listed = inl (subst (λ ks. Contains ks key) (append-nil keys) listed)
 
 both : (a b : Bool) → (a && b) ≡ true → (a ≡ true) × (b ≡ true)
@@ -74,7 +80,8 @@ module _ {T : Type 0} (find : ℕ → Option T) (first : ℕ) where
   unfolding keys_found
   ascends zero = nothing_ascends 0
   ascends (suc key) =
-      subst (λ k. Ascends (keys_found find 0 first key ++ cond (nat_le first key && is_some (find key)) (k ∷ []) []) (suc key)) (sym (zero-add key))
+      subst (λ k. Ascends (keys_found find 0 first key ++ cond (nat_le first key && is_some (find key)) (k ∷ []) [])
+      (suc key)) (sym (zero-add key))
       (one_more _ (keys_found find 0 first key) key (ascends key))
 
   holds : (end key : ℕ) → Contains (keys_found find 0 first end) key → (first ≤ key) × (key < end) × IsSome (find key)
@@ -83,7 +90,8 @@ module _ {T : Type 0} (find : ℕ → Option T) (first : ℕ) where
   holds (suc last) key listed = elim (one_of _ (keys_found find 0 first last) (0 + last) key listed) [
     | inl old ↦ let held = holds last key old in let lt = held.1 in (held.0, omega arith, held.2)
     | inr new ↦ let kept = both (nat_le first last) (is_some (find last)) new.0 in
-        subst (λ k. (first ≤ k) × (k < suc last) × IsSome (find k)) (sym (zero-add last) ∙ new.1) (leb-true first last kept.0, omega arith, kept.1)
+        subst (λ k. (first ≤ k) × (k < suc last) × IsSome (find k)) (sym (zero-add last) ∙ new.1)
+        (leb-true first last kept.0, omega arith, kept.1)
   ]
 
   lists : (end key : ℕ) → first ≤ key → key < end → IsSome (find key) → Contains (keys_found find 0 first end) key
@@ -91,13 +99,16 @@ module _ {T : Type 0} (find : ℕ → Option T) (first : ℕ) where
   lists zero key from lt some = absurd (omega arith)
   lists (suc last) key from lt some = elim (last_or key last lt) [
     | inl e ↦
-        let kept = both_true (nat_le first last) (is_some (find last)) (le-leb first last (subst (λ k. first ≤ k) e from)) (subst (λ k. IsSome (find k)) e some) in
+        let kept = both_true (nat_le first last) (is_some (find last))
+        (le-leb first last (subst (λ k. first ≤ k) e from)) (subst (λ k. IsSome (find k)) e some) in
         subst (λ b. Contains (keys_found find 0 first last ++ cond b ((0 + last) ∷ []) []) key) (sym kept)
-        (subst (λ k. Contains (keys_found find 0 first last ++ (0 + last) ∷ []) k) (zero-add last ∙ sym e) (Contains-push (keys_found find 0 first last) (0 + last)))
+        (subst (λ k. Contains (keys_found find 0 first last ++ (0 + last) ∷ []) k) (zero-add last ∙ sym e)
+        (Contains-push (keys_found find 0 first last) (0 + last)))
     | inr l ↦ Contains-append_left (keys_found find 0 first last) _ key (lists last key from l some)
   ]
 
-  pub are_keys : (last : ℕ) → last < 2 ^ 64 → AreKeysWithin first last (map_of find) (keys_found find 0 first (last + 1))
+  pub are_keys : (last : ℕ) → last < 2 ^ 64
+      → AreKeysWithin first last (map_of find) (keys_found find 0 first (last + 1))
   are_keys last fits = record {
     in_order = (ascends (last + 1)).sorted;
     exactly = λ key. (

@@ -20,4 +20,5 @@ positive n = cond (n == 0) 1 n
 
 -- what is found at the key where the first keys stand in a part of their own
 abbrev pub in_headed : {H R T : Type 0} → (H → ℕ → Option T) → (R → ℕ → Option T) → (span : ℕ) → H → R → ℕ → Option T
-in_headed find_head find_rest span head rest key = cond (nat_lt key span) (find_head head key) (find_rest rest (key - span))
+in_headed find_head find_rest span head rest key =
+    cond (nat_lt key span) (find_head head key) (find_rest rest (key - span))

@@ -12,7 +12,8 @@ in_leaf leaf = place_at leaf.places.items
 abbrev pub in_branch : {C T : Type 0} → (C → ℕ → Option T) → (span : ℕ) → Branch C span → ℕ → Option T
 in_branch find span branch = in_parts find (positive span) branch.parts.items
 
-abbrev pub in_heads : {H R T : Type 0} → (H → ℕ → Option T) → (R → ℕ → Option T) → (span : ℕ) → Headed H R span → ℕ → Option T
+abbrev pub in_heads : {H R T : Type 0} → (H → ℕ → Option T) → (R → ℕ → Option T) → (span : ℕ) → Headed H R span
+    → ℕ → Option T
 in_heads find_head find_rest span headed = in_headed find_head find_rest span headed.head headed.rest
 
 -- the parts of a line
@@ -20,7 +21,8 @@ abbrev pub LineParts : Type 0 → Type 0
 LineParts T = Headed (Leaf T) (Headed (Branch (Leaf T) 64) (Branch (Branch (Branch (Leaf T) 64) 4096) 262144) 4096) 64
 
 abbrev pub in_line_parts : {T : Type 0} → LineParts T → ℕ → Option T
-in_line_parts = in_heads in_leaf (in_heads (in_branch in_leaf 64) (in_branch (in_branch (in_branch in_leaf 64) 4096) 262144) 4096) 64
+in_line_parts = in_heads in_leaf
+    (in_heads (in_branch in_leaf 64) (in_branch (in_branch (in_branch in_leaf 64) 4096) 262144) 4096) 64
 
 abbrev pub in_line : {T : Type 0} → Line T → ℕ → Option T
 in_line line = in_line_parts line.parts
@@ -32,4 +34,5 @@ Root T = Headed (Branch (Branch (Line T) 4294967296) 274877906944)
 
 abbrev pub in_root : {T : Type 0} → Root T → ℕ → Option T
 in_root = in_heads (in_branch (in_branch in_line 4294967296) 274877906944)
-    (in_branch (in_branch (in_branch (in_branch in_line 4294967296) 274877906944) 17592186044416) 1125899906842624) 17592186044416
+    (in_branch (in_branch (in_branch (in_branch in_line 4294967296) 274877906944) 17592186044416) 1125899906842624)
+    17592186044416

@@ -20,7 +20,8 @@ impl<T: Duplicate + Drop> Leaf<T> {
     /// [`Part::take`], which leaves the places.
     fn take_out(&mut self, key: u64) -> Result<Option<T>, NoMemory>
         ensures item { IfOk result (λ item. item ≡ place_at self.old.places.items key) }
-        ensures taken { OnOk result (Updates (place_at self.old.places.items) (place_at self.new.places.items) key None) }
+        ensures taken { OnOk result
+            (Updates (place_at self.old.places.items) (place_at self.new.places.items) key None) }
         ensures unchanged { OnErr result (FindsSame (place_at self.old.places.items) (place_at self.new.places.items)) }
     {
         match self.places.get_mut(key as usize) {

@@ -1,10 +1,10 @@
-use grid_range::{Band, Change};
+use grid_range::{Axis, Band, Change};
 
 /// A call of a grid, or calls for all its places, that are timed.
 #[derive(Clone, Copy)]
 pub enum Call {
-    /// An item is put at each place, row by row.
-    Fill,
+    /// An item is put at each place, line by line of the axis.
+    Fill(Axis),
     /// Each place is looked up.
     Read,
     /// The sheet is copied, and an item is put over another one. The copy is kept, in place of the one
@@ -40,15 +40,26 @@ const ROW: Band = Band::Span(500, 501);
 
 const COLUMN: Band = Band::Span(0, 1);
 
-/// The calls on a sheet that the first of them fills.
-pub static CALLS: [Case; 6] = [
-    Case {
-        name: "put, an item",
-        call: Call::Fill,
-        times: 1,
-        other_times: 1,
-        each: Each::Item,
-    },
+/// A sheet is filled by rows.
+pub static BY_ROWS: [Case; 1] = [Case {
+    name: "put by rows, an item",
+    call: Call::Fill(Axis::Rows),
+    times: 1,
+    other_times: 1,
+    each: Each::Item,
+}];
+
+/// A sheet is filled by columns.
+pub static BY_COLUMNS: [Case; 1] = [Case {
+    name: "put by columns, an item",
+    call: Call::Fill(Axis::Columns),
+    times: 1,
+    other_times: 1,
+    each: Each::Item,
+}];
+
+/// The calls on a full sheet.
+pub static CALLS: [Case; 5] = [
     Case {
         name: "get, an item",
         call: Call::Read,

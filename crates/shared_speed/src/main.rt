@@ -4,17 +4,18 @@
 //! It writes the sums of the items before the write and after it. With the argument `time` it also writes
 //! how many nanoseconds the calls of both grids take, on the average, with what they found, and their
 //! ratios: put, get, a copy and one write, places, and changes of rows, in sheets of 1,000, 100,000 and
-//! 1,000,000 items; and the changes of rows beside those of a linked grid. With `rows` it makes a sheet of
-//! 1,000,000 rows without a cell, and with `cells` one of 1,000,000 items, so that the memory that the
-//! process takes can be read.
+//! 1,000,000 items that are filled by rows; the same calls in sheets that are filled by columns; and the
+//! changes of rows beside those of a linked grid. With `rows` it makes a sheet of 1,000,000 rows without a
+//! cell, and with `cells` one of 1,000,000 items, so that the memory that the process takes can be read.
 #![tactic(auto)]
 
 mod cases;
 mod sheets;
 mod times;
 
-use cases::{CALLS, CHANGES, Call, SIZES};
+use cases::{BY_COLUMNS, BY_ROWS, CALLS, CHANGES, Call, SIZES};
 use cell_store::CellStore;
+use grid_range::Axis;
 use sheets::{Sheet, linked, shared, tree};
 use std::alloc::Global;
 use std::time::Clock;
@@ -28,7 +29,7 @@ fn main(rt: HostRuntime) -> anyhow::Result<()> {
         shared(rt.alloc(), 1_000_000, 26)?;
     }
     if is_told(&rt, "cells")? {
-        shared(rt.alloc(), 1_000, 1_000)?.make(&Call::Fill)?;
+        shared(rt.alloc(), 1_000, 1_000)?.make(&Call::Fill(Axis::Rows))?;
     }
     if is_told(&rt, "time")? {
         time(&rt, rt.alloc())?;
@@ -47,7 +48,7 @@ fn is_told(rt: &HostRuntime, expected: &str) -> io::Result<bool> {
 
 /// Fills the sheet, writes to it once, and prints the sum of its items and that of the older version's.
 fn write<G: CellStore<u64> + Drop, R: Print>(rt: &R, sheet: &mut Sheet<G>) -> anyhow::Result<()> {
-    sheet.make(&Call::Fill)?;
+    sheet.make(&Call::Fill(Axis::Rows))?;
     sheet.make(&Call::Write)?;
     let (name, before, after) = (sheet.name, sheet.sum_before(), sheet.sum());
     println!(rt; "{name}: the items' sum is {before} before a write, and {after} after it")?;
@@ -57,11 +58,26 @@ fn write<G: CellStore<u64> + Drop, R: Print>(rt: &R, sheet: &mut Sheet<G>) -> an
 fn time<R: Clock + Print>(rt: &R, alloc: Global) -> anyhow::Result<()> {
     for (rows, columns) in &SIZES {
         time_calls(rt, alloc, *rows, *columns)?;
+        time_columns(rt, alloc, *rows, *columns)?;
     }
     Ok(())
 }
 
-/// Times the calls on sheets of that size, which the first of them fills, and changes of their rows.
+/// Times the calls on sheets of that size that are filled by columns.
+fn time_columns<R: Clock + Print>(
+    rt: &R,
+    alloc: Global,
+    rows: u32,
+    columns: u32,
+) -> anyhow::Result<()> {
+    println!(rt; "{rows} rows, {columns} columns, by columns:")?;
+    let mut shared = shared(alloc, rows, columns)?;
+    let mut tree = tree(alloc, rows, columns);
+    compare(rt, &BY_COLUMNS, &mut shared, &mut tree)?;
+    compare(rt, &CALLS, &mut shared, &mut tree)
+}
+
+/// Times the calls on sheets of that size that are filled by rows, and changes of their rows.
 fn time_calls<R: Clock + Print>(
     rt: &R,
     alloc: Global,
@@ -71,9 +87,10 @@ fn time_calls<R: Clock + Print>(
     println!(rt; "{rows} rows, {columns} columns:")?;
     let mut shared = shared(alloc, rows, columns)?;
     let mut tree = tree(alloc, rows, columns);
+    compare(rt, &BY_ROWS, &mut shared, &mut tree)?;
     compare(rt, &CALLS, &mut shared, &mut tree)?;
     compare(rt, &CHANGES, &mut shared, &mut tree)?;
     let mut linked = linked(alloc, rows, columns)?;
-    linked.make(&Call::Fill)?;
+    linked.make(&Call::Fill(Axis::Rows))?;
     compare(rt, &CHANGES, &mut shared, &mut linked)
 }

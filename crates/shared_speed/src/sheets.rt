@@ -53,7 +53,8 @@ impl<G: CellStore<u64> + Drop> Sheet<G> {
     /// places were listed; 0 for a write.
     pub fn make(&mut self, call: &Call) -> Result<u64, NoMemory> {
         match *call {
-            Call::Fill => self.fill().map(|_| 0),
+            Call::Fill(Axis::Rows) => self.fill().map(|_| 0),
+            Call::Fill(Axis::Columns) => self.fill_by_columns().map(|_| 0),
             Call::Read => Ok(self.sum()),
             Call::Write => self.write().map(|_| 0),
             Call::Places(rows, columns) => self.list(rows, columns),
@@ -90,6 +91,21 @@ impl<G: CellStore<u64>> Sheet<G> {
 
     fn fill_row(&mut self, row: u32) -> Result<(), NoMemory> {
         for column in 0..self.grid.cols() {
+            self.put(row, column, 1)?;
+        }
+        Ok(())
+    }
+
+    /// Puts a 1 at each place, column by column.
+    fn fill_by_columns(&mut self) -> Result<(), NoMemory> {
+        for column in 0..self.grid.cols() {
+            self.fill_column(column)?;
+        }
+        Ok(())
+    }
+
+    fn fill_column(&mut self, column: u32) -> Result<(), NoMemory> {
+        for row in 0..self.grid.rows() {
             self.put(row, column, 1)?;
         }
         Ok(())

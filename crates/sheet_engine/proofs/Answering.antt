@@ -1,5 +1,5 @@
 -- What is answered on spreadsheets that stand for what a history made is what one thread answers behind it.
-use Rattle.std.proofs.Common.{◌≡◌, ℕ, Bool, true, false, List, [], ◌∷◌, ◌++◌, Option, Some, None, MatchOption, Result}
+use Rattle.std.proofs.Common.{◌≡◌, ℕ, true, false, List, [], ◌∷◌, ◌++◌, Option, Some, None, MatchOption, Result}
 use Rattle.std.proofs.Common.{refl, sym, ap, subst, ◌∙◌}
 use Rattle.std.specs.Prelude.{is_some, IfOk}
 use Rattle.world_model.specs.Book.{PlaceBook}
@@ -77,7 +77,8 @@ module _ (books : List PlaceBook) (ask : Ask) (entries : List Entry) (stands : S
             (record {
               outcome = outcome;
               effect = makes.effect;
-              answered = subst (λ a. IsAnsweredOn stands.world a outcome makes.effect) (asks_again caller ask w.known w.coded_is)
+              answered = subst (λ a. IsAnsweredOn stands.world a outcome makes.effect)
+                  (asks_again caller ask w.known w.coded_is)
                   answered_on;
               world_is = refl;
             });

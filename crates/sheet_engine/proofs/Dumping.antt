@@ -1,7 +1,7 @@
 -- Lines of calls that are put one behind the other.
 use Rattle.std.proofs.Common.{◌≡◌, ℕ, zero, suc, ◌+◌, ◌<◌, Bool, true, false, List, [], ◌∷◌, ◌++◌, length, map, take, get_or}
 use Rattle.std.proofs.Common.{refl, sym, ap, subst, ◌∙◌, arith, append_assoc, if◌then◌else◌, Bor, Option, Some, None}
-use Rattle.std.specs.List.{AllZip, concat, flat_map}
+use Rattle.std.specs.List.{AllZip, concat}
 use Rattle.std.specs.Option.{IsSome, option_copied}
 use Rattle.std.specs.Str.{bytes_eq}
 use Rattle.std.proofs.lemmas.Grind.{flat_map-append}
@@ -35,11 +35,13 @@ found_there (book ∷ books) (suc at) d there =
 -- so is a sheet
 pub sheet_there : (book : PlaceBook) → IdsFind → IsSound book → (at : ℕ) → at < length book.sheets
     → (found : Option (Bor PlaceSheet))
-    → option_copied found ≡ place_sheet_with (get_or (map (λ sheet. sheet.id) book.sheets) at 0) book.sheets → IsSome found
+    → option_copied found ≡ place_sheet_with (get_or (map (λ sheet. sheet.id) book.sheets) at 0) book.sheets
+    → IsSome found
 sheet_there book law sound at there found is =
     let d = some_sheet book.sheets at there in
     is_there found (get_or book.sheets at d)
-    (is ∙ ap (λ id. place_sheet_with id book.sheets) (get_or-map (λ (sheet : PlaceSheet). sheet.id) book.sheets at d 0 there)
+    (is ∙ ap (λ id. place_sheet_with id book.sheets)
+    (get_or-map (λ (sheet : PlaceSheet). sheet.id) book.sheets at d 0 there)
     ∙ law.finds book sound at d there)
   where
     some_sheet : (sheets : List PlaceSheet) (at : ℕ) → at < length sheets → PlaceSheet
@@ -103,11 +105,14 @@ module _ (books : List PlaceBook) where
   next_sheet book sheets at d start before after line there is next more =
       let by_owner : Call → Caller × Call = λ call. (owner_of book, call) in
       let last = get_or sheets at d in
-      let reads : map (read_of book) (take (at + 1) sheets) ≡ map (read_of book) (take at sheets) ++ read_of book last ∷ [] =
+      let reads : map (read_of book) (take (at + 1) sheets) ≡ map (read_of book) (take at sheets)
+      ++ read_of book last ∷ [] =
       ap (map (read_of book)) (take_more sheets at d there) ∙ map-append (read_of book) (take at sheets) (last ∷ []) in
-      let same : calls_on book (take (at + 1) sheets) ≡ calls_on book (take at sheets) ++ by_owner (read_of book last) ∷ [] =
+      let same : calls_on book (take (at + 1) sheets) ≡ calls_on book (take at sheets)
+      ++ by_owner (read_of book last) ∷ [] =
       ap (λ calls. by_owner (look_at book) ∷ map by_owner calls) reads
-      ∙ ap (λ calls. by_owner (look_at book) ∷ calls) (map-append by_owner (map (read_of book) (take at sheets)) (read_of book last ∷ [])) in
+      ∙ ap (λ calls. by_owner (look_at book) ∷ calls)
+      (map-append by_owner (map (read_of book) (take at sheets)) (read_of book last ∷ [])) in
       subst (λ calls. Grows books calls start after) (sym same)
       (more_lines (calls_on book (take at sheets)) (by_owner (read_of book last) ∷ []) start before after is
       (one_line (by_owner (read_of book last)) line before after next more))

@@ -19,13 +19,14 @@ use Rattle.batch_engine.specs.Answered.{LooksAnswered, looks_or_clears}
 use Rattle.batch_engine.specs.Calls.{HasItsBook}
 use Rattle.batch_engine.specs.Effects.{Effect}
 use Rattle.batch_engine.specs.declared.calls.Caller.{Caller}
+use Rattle.desk.specs.Steps.{Outcome}
 use Rattle.desk.specs.declared.entry.Ask.{Ask}
 use Rattle.desk.specs.declared.entry.Entry.{Entry}
-use Rattle.sheet_engine.specs.Answered.{AsksAnswered, LooksOrFails}
+use Rattle.sheet_engine.specs.Answered.{AsksAnswered, HasAnswer, LooksOrFails}
 use Rattle.sheet_engine.specs.Answers.{Ends, as_fault, body_of, outcome_of}
 use Rattle.sheet_engine.specs.Asks.{IsAsked, IsAskedBy, IsRead, IsReadBy, asked_for, asked_on, caller_of, lacks_its_book, made_by, method_of, read_for, said_on, target_of}
 use Rattle.sheet_engine.specs.Dump.{Dump, IsLine, calls_on, dump_calls, owner_of, read_of}
-use Rattle.sheet_engine.specs.Replay.{Stands}
+use Rattle.sheet_engine.specs.Replay.{Plain, Stands}
 use Rattle.sheet_engine.specs.declared.asking.Reading.{Reading}
 use Rattle.sheet_engine.specs.declared.asking.Reading.TheVariants as reading
 use Rattle.sheet_engine.specs.declared.fault.Fault.{Fault}
@@ -103,13 +104,34 @@ module _ (books : List PlaceBook) (ask : Ask) where
 
 -- ---- outcomes
 
-some_end : LooksAnswered → (books : List PlaceBook) → All IsSound books → (asked : Result (Caller × Call) Fault)
-    → IfOk asked (λ made. HasItsBook made.1 books) → LooksOrFails asked
+some_end : (books : List PlaceBook) (asked : Result (Caller × Call) Fault) → HasAnswer books asked
     → ¬ ((told : Result Answer Fault) (effect : Effect) → ¬ (Ends books asked told effect))
-some_end looks books sound (Ok (caller, call)) on is none =
-    looks.answered caller call books sound is on (λ answer effect answered.
+some_end books (Ok (caller, call)) has none = has (λ answer effect answered.
     none (as_fault answer) effect (record { answer = answer; answered = answered; told_is = refl }))
-some_end looks books sound (Err found) on is none = none (Err found) Effect.Nothing (refl, refl)
+some_end books (Err found) has none = none (Err found) Effect.Nothing (refl, refl)
+
+has_answer : LooksAnswered → (books : List PlaceBook) → All IsSound books → (asked : Result (Caller × Call) Fault)
+    → IfOk asked (λ made. HasItsBook made.1 books) → LooksOrFails asked → HasAnswer books asked
+has_answer looks books sound (Ok (caller, call)) on is = looks.answered caller call books sound is on
+has_answer looks books sound (Err found) on is = tt
+
+some_outcome : (entries : List Entry) (books : List PlaceBook) (ask : Ask) (asked : Result (Caller × Call) Fault)
+    → Stands books entries → IsAsked books ask asked → HasAnswer books asked
+    → ¬ ((outcome : Outcome) → ¬ (Plain entries ask outcome))
+some_outcome entries books ask asked stands is_asked has none = some_end books asked has (λ told effect ends.
+    none (outcome_of asked told) (record {
+      world = stands.world;
+      replays = stands.replays;
+      effect = effect;
+      answered = record {
+        books = books;
+        seen = stands.seen;
+        asked = asked;
+        told = told;
+        is_step = record { is_asked = is_asked; ends = ends };
+        outcome_is = refl;
+      };
+    }))
 
 -- ---- dumps
 
@@ -194,21 +216,12 @@ pub asks_answered : HasRoute → LooksAnswered → AsksAnswered
 asks_answered has_route looks = record {
   read = λ ask. some_read has_route ask;
   asked = λ books ask. some_asked has_route ask books;
-  outcome = λ entries books ask asked stands is_asked is none.
-      some_end looks books (books_sound books stands.world.books stands.seen.each) asked
-      (asked_on_its_book books ask asked is_asked) is (λ told effect ends.
-      none (outcome_of asked told) (record {
-        world = stands.world;
-        replays = stands.replays;
-        effect = effect;
-        answered = record {
-          books = books;
-          seen = stands.seen;
-          asked = asked;
-          told = told;
-          is_step = record { is_asked = is_asked; ends = ends };
-          outcome_is = refl;
-        };
-      }));
+  on_its_book = asked_on_its_book;
+  sound = λ entries books stands. books_sound books stands.world.books stands.seen.each;
+  where_answered = some_outcome;
+  outcome = λ entries books ask asked stands is_asked is.
+      some_outcome entries books ask asked stands is_asked
+      (has_answer looks books (books_sound books stands.world.books stands.seen.each) asked
+      (asked_on_its_book books ask asked is_asked) is);
   dumped = some_dump looks;
 }

@@ -107,7 +107,8 @@ books_once apart (book ∷ books) (another ∷ others) (name ∷ names) is is' =
     ap (λ first. first ∷ books) (apart.same book another name is.0 is'.0)
     ∙ ap (λ rest. another ∷ rest) (books_once apart books others names is.1 is'.1)
 
-pub books_sound : (books : List PlaceBook) (names : List NameBook) → AllZip BookStandsFor books names → All IsSound books
+pub books_sound : (books : List PlaceBook) (names : List NameBook) → AllZip BookStandsFor books names
+    → All IsSound books
 books_sound [] names is = All-nil IsSound
 books_sound (book ∷ books) [] is = absurd is
 books_sound (book ∷ books) (name ∷ names) is = All-cons IsSound book books is.0.sound (books_sound books names is.1)

@@ -1,6 +1,6 @@
 -- A text in which each quote is replaced by two.
 use Rattle.std.proofs.Common.{◌≡◌, ℕ, zero, suc, ◌<◌, List, [], ◌∷◌, ◌++◌, length, get_or, take, drop, refl, sym, ap}
-use Rattle.std.proofs.Common.{subst, ◌∙◌, arith, lit<, inl, inr, append_assoc}
+use Rattle.std.proofs.Common.{subst, ◌∙◌, arith, lit<, inl, inr}
 use Rattle.std.specs.Prelude.{◌≢◌, Some}
 use Rattle.std.specs.List.{flat_map}
 use Rattle.std.specs.Str.Pattern.{FindsChar}
@@ -13,7 +13,8 @@ use Rattle.std.proofs.lemmas.Str.Pattern.{NoCharPasses-char, drop_at_char}
 use Rattle.a1_notation.specs.Quoted.{doubled, quoted}
 
 -- bytes that are no quotes stand as they are
-undoubled : (bytes : List ℕ) → ((i : ℕ) → i < length bytes → get_or bytes i 0 ≢ 39) → flat_map (doubled 39) bytes ≡ bytes
+undoubled : (bytes : List ℕ) → ((i : ℕ) → i < length bytes → get_or bytes i 0 ≢ 39)
+    → flat_map (doubled 39) bytes ≡ bytes
 undoubled [] none = refl
 undoubled (byte ∷ bytes) none =
     let first : doubled 39 byte ≡ byte ∷ [] = rw (ne_eqb byte 39 (none 0 (omega arith))) refl in
@@ -33,7 +34,8 @@ at_quote : (text : List ℕ) (from to : ℕ) → FindsChar 39 text (Some (from, 
     × ((i : ℕ) → i < length (take from text) → get_or (take from text) i 0 ≢ 39)
 at_quote text from to (none, here) = (
   omega (arith, here.ends, len_utf8_bounds 39),
-  sym (take-append-drop from text) ∙ ap (λ behind. take from text ++ behind) (drop_at_char 39 text from to here (lit< tt)),
+  sym (take-append-drop from text)
+      ∙ ap (λ behind. take from text ++ behind) (drop_at_char 39 text from to here (lit< tt)),
   λ i h. NoCharPasses-char 39 (take from text) i none (lit< tt) h,
 )
 
@@ -47,7 +49,8 @@ all_doubled (suc count) text replaced (from, to, next, rest, finds, keeps, goes_
     elim goes_on [
       | inl (further, on) ↦
           let again = all_doubled count (drop to text) rest
-          (subst (λ q. ReplacesMatches FindsChar (λ one other. other ≡ one) (39 ∷ 39 ∷ []) count q (drop to text) rest) keeps
+          (subst (λ q. ReplacesMatches FindsChar (λ one other. other ≡ one) (39 ∷ 39 ∷ []) count q
+          (drop to text) rest) keeps
           on) in
           same ∙ ap (λ r. take from text ++ (39 ∷ 39 ∷ r)) again
           ∙ sym (doubled_at text (take from text) (drop to text) here.1 here.2)

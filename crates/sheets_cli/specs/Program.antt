@@ -13,7 +13,8 @@ ReadsAsRun words = (users : Option (List ℕ)) × ReadsAs (run users) words
 
 -- the words are the command `serve`
 abbrev pub ReadsAsServe : List (List ℕ) → Type 0
-ReadsAsServe words = (port limit : ℕ) × (users journal : Option (List ℕ)) × ReadsAs (serve port limit users journal) words
+ReadsAsServe words = (port limit : ℕ) × (users journal : Option (List ℕ))
+    × ReadsAs (serve port limit users journal) words
 
 -- the words are the command `replay`
 abbrev pub ReadsAsReplay : List (List ℕ) → Type 0
@@ -22,7 +23,8 @@ ReadsAsReplay words = (journal : List ℕ) × ReadsAs (replay journal) words
 -- the words are a command that names a journal
 abbrev pub NamesJournal : List (List ℕ) → Type 0
 NamesJournal words =
-    ((port limit : ℕ) × (users : Option (List ℕ)) × (name : List ℕ) × ReadsAs (serve port limit users (Some name)) words)
+    ((port limit : ℕ) × (users : Option (List ℕ)) × (name : List ℕ)
+    × ReadsAs (serve port limit users (Some name)) words)
     ⊎ ReadsAsReplay words
 
 -- memory ran out before the words were read: three devices are as they were

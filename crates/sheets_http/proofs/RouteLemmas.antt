@@ -159,7 +159,8 @@ ended segments place None there none all =
 
 -- the first segment of a path, and those behind it
 pub cut_is : (raws : List (List ℕ)) (raw : List ℕ) (behind : Option (Bor (List ℕ)))
-    → MatchOption behind (raws ≡ raw ∷ []) (λ rest. raws ≡ raw ∷ raw_segments rest.now) → raws ≡ raw ∷ segments_left behind
+    → MatchOption behind (raws ≡ raw ∷ []) (λ rest. raws ≡ raw ∷ raw_segments rest.now) → raws ≡ raw
+    ∷ segments_left behind
 cut_is raws raw None cut = cut
 cut_is raws raw (Some rest) cut = cut
 
@@ -251,7 +252,8 @@ pub call_found : (verbs : List Verb) (method path : List ℕ) (result : Result (
     (verb : Verb) (fitted : Fitted) → IfOk result (λ found. FindsCall verbs method path found)
     → result ≡ Ok (Some (verb, fitted)) → IsCallWith verb fitted method path
 call_found verbs method path result verb fitted finds is =
-    subst (λ (r : Result (Option (Verb × Fitted)) NoMemory). IfOk r (λ found. FindsCall verbs method path found)) is finds
+    subst (λ (r : Result (Option (Verb × Fitted)) NoMemory). IfOk r
+    (λ found. FindsCall verbs method path found)) is finds
 
 -- the segments that the caller gives are UTF-8 where they are decoded, and plain where the path is
 pub book_is_utf8 : (verb : Verb) (fitted : Fitted) (method path : List ℕ) → IsCallWith verb fitted method path

@@ -116,7 +116,8 @@ pub(crate) fn sole_value<'a>(name: &str, fields: &[Header<'a>]) -> Option<&'a [u
 
 /// The value of a field of that name, where no other stands behind it.
 fn only_value<'a>(name: &str, value: &'a [u8], behind: &[Header<'_>]) -> Option<&'a [u8]>
-    ensures { option_copied result ≡ (if has_field name.now (map header_parts behind.now) then None else Some value.now) }
+    ensures { option_copied result
+        ≡ (if has_field name.now (map header_parts behind.now) then None else Some value.now) }
 {
     if has_field(name, behind) {
         None

@@ -68,14 +68,16 @@ pub id_again : (id : ℕ) → id ≤ greatest_index → index (count_data id) �
 id_again id small = simp (is_index id small) refl
 
 -- what is read of the parts of an item
-abbrev read_of : Reading ℕ → Reading (List ℕ) → Option (List ℕ) → Reading Location → VisibilityKind → Reading NewMetadata
+abbrev read_of : Reading ℕ → Reading (List ℕ) → Option (List ℕ) → Reading Location → VisibilityKind
+    → Reading NewMetadata
 read_of id key value lies visibility =
     made first_part (both
     (made new_metadata_of (both (both (both (both (made Some id) key) (Ok value)) lies) (Ok visibility)))
     (nothing_left no_members))
 
 parts_read : (id : ℕ) (key value : List ℕ) (lies : Spot) (visibility : Visibility)
-    → object_of new_metadata (item_data (record { id = id; key = key; value = value; spot = lies; visibility = visibility }))
+    → object_of new_metadata
+    (item_data (record { id = id; key = key; value = value; spot = lies; visibility = visibility }))
     ≡ read_of (index (count_data id)) (metadata_key (text_data key)) (if_filled value)
     (object_of metadata_location (spot_data lies)) (visibility_of visibility)
 parts_read id key [] lies seen.Document = refl

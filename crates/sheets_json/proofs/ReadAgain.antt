@@ -37,14 +37,16 @@ bands_again sheet (Span a d) (Span b e) s r c =
     simp (s, is_index a r.0, is_index d r.1, is_index b c.0, is_index e c.1) refl
 
 pub areas_again : AreasAreReadAgain
-areas_again area indexed = bands_again area.sheet area.rows area.cols (is_index area.sheet indexed.sheet) indexed.rows indexed.cols
+areas_again area indexed =
+    bands_again area.sheet area.rows area.cols (is_index area.sheet indexed.sheet) indexed.rows indexed.cols
 
 id_again : (id : List ℕ) → IsTrue (is_range_id id) → named_range_id (text_data id) ≡ Ok id
 id_again id holds = ap (λ b. cond b (Ok id) (Err BadShape)) holds
 
 -- what is read of the parts of a named range
 abbrev read_of : List ℕ → Reading (List ℕ) → Reading Area → Reading NewNamedRange
-read_of name id area = made first_part (both (made new_range_of (both (both (made Some id) (Ok name)) area)) (nothing_left no_members))
+read_of name id area =
+    made first_part (both (made new_range_of (both (both (made Some id) (Ok name)) area)) (nothing_left no_members))
 
 pub named_ranges_again : NamedRangesAreReadAgain
 named_ranges_again named holds indexed =

@@ -29,7 +29,7 @@ use Rattle.dimension_ops.specs.declared.rule.RuleOr.TheVariants as refusal
 use Rattle.values_api.specs.declared.appending.Added.{Added}
 use Rattle.values_api.specs.Appends.{added_on, size_added}
 use Rattle.values_api.specs.Appending.{AreAdded, CanAdd, HasSizeAdded, IsAddedOn, IsRoom}
-use Rattle.values_api.proofs.Finding.{some_and}
+use Rattle.values_api.specs.FoundLaws.{some_and}
 use Rattle.values_api.proofs.Sizes.{AreWithin, cols_both, found_id, none_passed, rows_fewer, zip_found}
 
 -- ---- a change that keeps the limits
@@ -54,7 +54,8 @@ some_left : (axis : Axis) (at count lines : ℕ) → 0 < count → (count_after 
 some_left axis at count lines some = ne_eqb (lines + count) 0 (λ e. omega arith)
 
 -- with the sheet's lines on the axis the size is within the limits
-size_within : (axis : Axis) (at count : ℕ) (own : PlaceSheet) (places : ℕ) → lines_of_sheet axis own + count ≤ most_on axis
+size_within : (axis : Axis) (at count : ℕ) (own : PlaceSheet) (places : ℕ) → lines_of_sheet axis own + count
+    ≤ most_on axis
     → own.table.rows ≤ most_on Rows → own.table.cols ≤ most_on Columns → places ≤ most_places
     → AreWithin (size_after axis (Insert at count) own.table.rows own.table.cols) places
 size_within Rows at count own places lines rows cols few = record { rows = lines; cols = cols; cells = few }
@@ -96,10 +97,12 @@ module _ (id : ℕ) (axis : Axis) (at count : ℕ) where
   size_is lines before after changed = by_test (before.id == id) refl
     where
       follows : size_of after ≡ (changed.moved.rows, changed.moved.cols)
-      follows = ap (λ n. (n, after.table.cols)) changed.followed.rows ∙ ap (λ n. (changed.moved.rows, n)) changed.followed.cols
+      follows = ap (λ n. (n, after.table.cols)) changed.followed.rows
+          ∙ ap (λ n. (changed.moved.rows, n)) changed.followed.cols
 
       by_test : (b : Bool) → (before.id == id) ≡ b
-          → size_of after ≡ cond b (size_after axis (Insert at count) before.table.rows before.table.cols) (size_of before)
+          → size_of after
+          ≡ cond b (size_after axis (Insert at count) before.table.rows before.table.cols) (size_of before)
       by_test true is = follows ∙ (changed.goes (eqb-true before.id id is)).size
       by_test false is =
           follows ∙ ap (λ (table : _). (table.rows, table.cols))
@@ -151,7 +154,8 @@ module _ (id : ℕ) (axis : Axis) (at count : ℕ) where
 
 -- ---- both axes
 
-module _ (id : ℕ) (added : Added) (own : PlaceSheet) (sheets : List PlaceSheet) (there : place_sheet_with id sheets ≡ Some own)
+module _ (id : ℕ) (added : Added) (own : PlaceSheet) (sheets : List PlaceSheet)
+    (there : place_sheet_with id sheets ≡ Some own)
     (can : CanAdd id added own sheets) where
   pub rows_room : own.table.cols ≤ most_on Columns → IsRoom id Rows added.row added.rows sheets
   rows_room few =
@@ -168,7 +172,8 @@ module _ (id : ℕ) (added : Added) (own : PlaceSheet) (sheets : List PlaceSheet
 
   own_size : (other : PlaceSheet) → HasSizeAdded id Rows added.row added.rows own other
       → size_of other ≡ (own.table.rows + added.rows, own.table.cols)
-  own_size other has = has.1 ∙ ap (λ b. cond b (size_after Rows (Insert added.row added.rows) own.table.rows own.table.cols)
+  own_size other has = has.1
+      ∙ ap (λ b. cond b (size_after Rows (Insert added.row added.rows) own.table.rows own.table.cols)
       (size_of own)) (eq-eqb own.id id (found_id id sheets own there))
 
   pub cols_room : (afters : List PlaceSheet) → AllZip (HasSizeAdded id Rows added.row added.rows) sheets afters
@@ -194,15 +199,19 @@ module _ (id : ℕ) (added : Added) (own : PlaceSheet) (sheets : List PlaceSheet
       → IsAddedOn id Columns added.col added.cols between after → AreAdded id added own before after
   all_added turn before between after same rows cols =
       let (other, is, has) = zip_found id Rows added.row added.rows id sheets between.sheets
-      (subst (λ (list : List PlaceSheet). AllZip (HasSizeAdded id Rows added.row added.rows) list between.sheets) same rows.sizes)
+      (subst (λ (list : List PlaceSheet). AllZip (HasSizeAdded id Rows added.row added.rows) list between.sheets)
+      same rows.sizes)
       own there in
-      let (last, found, had) = zip_found id Columns added.col added.cols id between.sheets after.sheets cols.sizes other is in
+      let (last, found, had) =
+      zip_found id Columns added.col added.cols id between.sheets after.sheets cols.sizes other is in
       let first = own_size other has in
       record {
-        changes = turn.both (added_on id Rows added.row added.rows) (added_on id Columns added.col added.cols) before between
+        changes =
+            turn.both (added_on id Rows added.row added.rows) (added_on id Columns added.col added.cols) before between
             after rows.changes cols.changes;
         size = subst (λ o. IsSomeAnd o (λ (sheet : PlaceSheet). size_of sheet ≡ size_added added own)) (sym found)
-            (had.1 ∙ ap (λ b. cond b (size_after Columns (Insert added.col added.cols) other.table.rows other.table.cols)
+            (had.1 ∙ ap (λ b. cond b
+            (size_after Columns (Insert added.col added.cols) other.table.rows other.table.cols)
             (size_of other)) (eq-eqb other.id id (found_id id between.sheets other is))
             ∙ ap (λ (s : ℕ × ℕ). (s.0, s.1 + added.cols)) first);
       }

@@ -20,7 +20,7 @@ use Rattle.values_api.specs.Laws.{AppendsOnce, WritesOnce}
 use Rattle.values_api.specs.Tables.{IsLastOf, IsStored, IsTable, IsTableIn, LiesWithin}
 use Rattle.values_api.specs.declared.appending.Added.{Added}
 use Rattle.values_api.specs.declared.table.Rectangle.{Rectangle}
-use Rattle.values_api.specs.declared.writing.Written.{Written}
+use Rattle.values_api.specs.declared.writing.WrittenCells.{WrittenCells}
 
 some_same : {A : Type 0} (one other : A) → Some one ≡ Some other → one ≡ other
 some_same one other e = cc
@@ -38,7 +38,8 @@ within_both one other in_other in_one =
     ap (λ top. rectangle top one.bottom one.left one.right) (same_line one.top other.top in_one.top in_other.top)
     ∙ ap (λ bottom. rectangle other.top bottom one.left one.right)
     (same_line one.bottom other.bottom in_other.bottom in_one.bottom)
-    ∙ ap (λ left. rectangle other.top other.bottom left one.right) (same_line one.left other.left in_one.left in_other.left)
+    ∙ ap (λ left. rectangle other.top other.bottom left one.right)
+    (same_line one.left other.left in_one.left in_other.left)
     ∙ ap (λ right. rectangle other.top other.bottom other.left right)
     (same_line one.right other.right in_other.right in_one.right)
 
@@ -93,7 +94,7 @@ module _ {T : Type 0} (area : Area) (table : Table T) where
 module _ (writes_once : WritesOnce) (apart : ChangesApart) (turns : ChangesInTurn) where
   -- a user's write is told in one way, and makes one thing of the cells
   writes_by_once : (user : List ℕ) (one_cell : Bool) (area : Area) (block : Block) (sheet : PlaceSheet)
-      (before after after' : PlaceBook) (told told' : Result Written Rule) → IsSound before
+      (before after after' : PlaceBook) (told told' : Result WrittenCells Rule) → IsSound before
       → (one : IsWriteBy user one_cell area block sheet before after told)
       → (other : IsWriteBy user one_cell area block sheet before after' told')
       → (contents_of one.is.entries ≡ contents_of other.is.entries) × (told ≡ told')
@@ -108,11 +109,11 @@ module _ (writes_once : WritesOnce) (apart : ChangesApart) (turns : ChangesInTur
       )
 
   module _ (user : List ℕ) (sheet : ℕ) (added : Added) (start : ℕ × ℕ) (block : Block) (table : Option Rectangle) where
-    abbrev Answers : Result Written Rule → Result (Option Area × Written) Rule → Type 0
+    abbrev Answers : Result WrittenCells Rule → Result (Option Area × WrittenCells) Rule → Type 0
     Answers told answer =
         MatchResult told (λ written. answer ≡ Ok (answer_with sheet table written)) (λ rule. answer ≡ Err rule)
 
-    answers_once : (told : Result Written Rule) (answer answer' : Result (Option Area × Written) Rule)
+    answers_once : (told : Result WrittenCells Rule) (answer answer' : Result (Option Area × WrittenCells) Rule)
         → Answers told answer → Answers told answer' → answer ≡ answer'
     answers_once (Ok written) answer answer' is is' = is ∙ sym is'
     answers_once (Err rule) answer answer' is is' = is ∙ sym is'
@@ -121,24 +122,27 @@ module _ (writes_once : WritesOnce) (apart : ChangesApart) (turns : ChangesInTur
     changes_with updates = changes_of sheet added ++ BookChange.CellsUpdated sheet updates ∷ []
 
     -- a write on the spreadsheet that has the lines, and what is told of it
-    abbrev ToldOf : List BookChange → Result (Option Area × Written) Rule → PlaceBook → PlaceSheet → Type 0
+    abbrev ToldOf : List BookChange → Result (Option Area × WrittenCells) Rule → PlaceBook → PlaceSheet → Type 0
     ToldOf changes answer between own =
-        (after : PlaceBook) × (told : Result Written Rule)
+        (after : PlaceBook) × (told : Result WrittenCells Rule)
         × (write : IsWriteBy user true (cell_area sheet start) block own between after told)
         × (changes ≡ changes_with (contents_of write.is.entries)) × Answers told answer
 
     told_once : (between : PlaceBook) (own : PlaceSheet) (changes changes' : List BookChange)
-        (answer answer' : Result (Option Area × Written) Rule) → IsSound between → ToldOf changes answer between own
+        (answer answer' : Result (Option Area × WrittenCells) Rule) → IsSound between
+        → ToldOf changes answer between own
         → ToldOf changes' answer' between own → (changes ≡ changes') × (answer ≡ answer')
-    told_once between own changes changes' answer answer' sound (after, told, write, is, answered) (after', told', write', is', answered') =
-        let (same, same_told) = writes_by_once user true (cell_area sheet start) block own between after after' told told' sound
+    told_once between own changes changes' answer answer' sound (after, told, write, is, answered)
+        (after', told', write', is', answered') =
+        let (same, same_told) =
+        writes_by_once user true (cell_area sheet start) block own between after after' told told' sound
         write write' in (
           is ∙ ap changes_with same ∙ sym is',
           answers_once told' answer answer' (subst (λ one. Answers one answer) same_told answered) answered',
         )
 
     appended_once : (changes changes' : List BookChange) (before after after' : PlaceBook)
-        (answer answer' : Result (Option Area × Written) Rule) → IsSound before
+        (answer answer' : Result (Option Area × WrittenCells) Rule) → IsSound before
         → IsAppended user sheet added start block table changes before after answer
         → IsAppended user sheet added start block table changes' before after' answer'
         → (changes ≡ changes') × (answer ≡ answer')
@@ -149,11 +153,12 @@ module _ (writes_once : WritesOnce) (apart : ChangesApart) (turns : ChangesInTur
         told_once other.between other.own changes changes' answer answer'
         (turns.sound (changes_of sheet added) before other.between sound other.lines)
         (subst (λ between. ToldOf changes answer between other.own) same
-        (subst (ToldOf changes answer one.between) same_own (after, one.told, one.write, one.changes_are, one.answered)))
+        (subst (ToldOf changes answer one.between) same_own
+        (after, one.told, one.write, one.changes_are, one.answered)))
         (after', other.told, other.write, other.changes_are, other.answered)
 
   unless_once : (IsDone IsDone' : Type 0) (limit : Option Limit) (changes changes' : List BookChange)
-      (answer answer' : Result (Option Area × Written) Rule)
+      (answer answer' : Result (Option Area × WrittenCells) Rule)
       → (IsDone → IsDone' → (changes ≡ changes') × (answer ≡ answer')) → IsAppendUnless limit IsDone changes answer
       → IsAppendUnless limit IsDone' changes' answer' → (changes ≡ changes') × (answer ≡ answer')
   unless_once IsDone IsDone' None changes changes' answer answer' once is is' = once is is'
@@ -165,12 +170,14 @@ module _ (writes_once : WritesOnce) (apart : ChangesApart) (turns : ChangesInTur
     lines_to table = lines_added insert (start_of table area) block sheet
 
     -- the append to that table
-    abbrev IsTo : List BookChange → PlaceBook → Result (Option Area × Written) Rule → Option Rectangle → Type 0
+    abbrev IsTo : List BookChange → PlaceBook → Result (Option Area × WrittenCells) Rule → Option Rectangle → Type 0
     IsTo changes after answer table =
         IsAppendUnless (limit_passed (lines_to table) sheet before.sheets)
-        (IsAppended user area.sheet (lines_to table) (start_of table area) block table changes before after answer) changes answer
+        (IsAppended user area.sheet (lines_to table) (start_of table area) block table changes before after answer)
+        changes answer
 
-    append_once : (after after' : PlaceBook) (answer answer' : Result (Option Area × Written) Rule) → IsSound before
+    append_once : (after after' : PlaceBook) (answer answer' : Result (Option Area × WrittenCells) Rule)
+        → IsSound before
         → (one : IsAppend user insert area block sheet before after answer)
         → (other : IsAppend user insert area block sheet before after' answer')
         → (one.changes ≡ other.changes) × (answer ≡ answer')
@@ -182,7 +189,8 @@ module _ (writes_once : WritesOnce) (apart : ChangesApart) (turns : ChangesInTur
         (IsAppended user area.sheet added start block other.table one.changes before after answer)
         (IsAppended user area.sheet added start block other.table other.changes before after' answer')
         (limit_passed added sheet before.sheets) one.changes other.changes answer answer'
-        (appended_once user area.sheet added start block other.table one.changes other.changes before after after' answer
+        (appended_once user area.sheet added start block other.table one.changes other.changes before after
+        after' answer
         answer' sound)
         (subst (IsTo one.changes after answer) same one.appended) other.appended
 

@@ -68,7 +68,8 @@ module _ (places : List (ℕ × ℕ)) (sorted : IsStrictlySortedBy by_rows place
           test_holds line from one.0 one.1
           (before_on one.0 one.1 other.0 other.1 line from (in_turn i j d less there)
           (test_is line from other.0 other.1 passes))
-      by_order i j d (inr same) there passes = subst (λ k. is_before line from (get_or places k d) ≡ true) (sym same) passes
+      by_order i j d (inr same) there passes =
+          subst (λ k. is_before line from (get_or places k d) ≡ true) (sym same) passes
 
   module _ (line from to i : ℕ)
       (point : IsStart line from places i) where
@@ -104,11 +105,13 @@ module _ (places : List (ℕ × ℕ)) (sorted : IsStrictlySortedBy by_rows place
           within = λ d. col_of (get_or places i d) at high (before d) (at_behind d (omega arith));
         }
       where
-        row_of : (place : ℕ × ℕ) (at : ℕ) → at ≤ to → IsBefore place (line, at) → IsBehind line from place.0 place.1 → place.0 ≡ line
+        row_of : (place : ℕ × ℕ) (at : ℕ) → at ≤ to → IsBefore place (line, at) → IsBehind line from place.0 place.1
+            → place.0 ≡ line
         row_of place at high (inl less) after = absurd (omega arith)
         row_of place at high (inr same) after = same.0
 
-        col_of : (place : ℕ × ℕ) (at : ℕ) → at ≤ to → IsBefore place (line, at) → IsBehind line from place.0 place.1 → place.1 ≤ to
+        col_of : (place : ℕ × ℕ) (at : ℕ) → at ≤ to → IsBefore place (line, at) → IsBehind line from place.0 place.1
+            → place.1 ≤ to
         col_of place at high (inl less) after = absurd (omega arith)
         col_of place at high (inr same) after = omega arith
     first_of at k low high there is (inr same) = record {
@@ -122,7 +125,8 @@ module _ (places : List (ℕ × ℕ)) (sorted : IsStrictlySortedBy by_rows place
       | true ↦ λ up. leb-true i k up
       | false ↦ λ down.
           let before = test_is line from line at
-          (subst (λ (p : ℕ × ℕ). is_before line from p ≡ true) (is (line, at)) (point.0 k (line, at) (omega arith) (grind (arith, nat_tests)))) in
+          (subst (λ (p : ℕ × ℕ). is_before line from p ≡ true) (is (line, at))
+          (point.0 k (line, at) (omega arith) (grind (arith, nat_tests)))) in
           absurd (never before)
     ] refl
       where
@@ -133,6 +137,7 @@ module _ (places : List (ℕ × ℕ)) (sorted : IsStrictlySortedBy by_rows place
     pub first_there : HasBetween places line from to → IsFirst
     first_there between =
         let (k, there, is) = between.has in
-        let each : (d : ℕ × ℕ) → get_or places k d ≡ (line, between.at) = (λ d. get_or_default places k d (line, between.at) there ∙ is) in
+        let each : (d : ℕ × ℕ) → get_or places k d ≡ (line, between.at) =
+        (λ d. get_or_default places k d (line, between.at) there ∙ is) in
         first_of between.at k between.from_there between.to_there there each
         (split (not_earlier between.at k between.from_there there each))

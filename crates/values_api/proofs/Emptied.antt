@@ -17,8 +17,8 @@ use Rattle.world_model.specs.Book.{PlaceBook}
 use Rattle.world_model.specs.Sheet.{PlaceSheet}
 use Rattle.world_model.specs.Sound.{IsSound, place_sheet_with}
 use Rattle.dimension_ops.specs.Found.{ArePlacesOf}
+use Rattle.values_api.specs.FoundLaws.{some_and, sound_sheet}
 use Rattle.values_api.specs.Ranges.{IsThere}
-use Rattle.values_api.proofs.Finding.{some_and, sound_sheet}
 use Rattle.values_api.specs.Given.{is_listed}
 use Rattle.values_api.proofs.Listed.{both_true, listed_of, listed_there, there_listed}
 use Rattle.world_model.specs.Updating.{Updates}
@@ -82,7 +82,8 @@ module _ (area : Area) (sheet : PlaceSheet) (places : List (ℕ × ℕ)) (filled
   not_some (Some content) is held unlisted =
       let parts = and_parts (has_line area.rows row) (has_line area.cols col) held in
       let holds : Holds area row col = (line_of area.rows row parts.0, line_of area.cols col parts.1) in
-      absurd (false≢true (sym unlisted ∙ there_listed places row col ((filled.exactly row col).1 (holds, subst IsSome (sym is) refl))))
+      absurd (false≢true
+      (sym unlisted ∙ there_listed places row col ((filled.exactly row col).1 (holds, subst IsSome (sym is) refl))))
 
   pub same_made : unwrap_or (emptied places row col) (item_at sheet.table row col)
       ≡ unwrap_or (cleared area row col) (item_at sheet.table row col)
@@ -127,7 +128,8 @@ module _ (book : PlaceBook) (sound : IsSound book) (area : Area) (places : List 
   -- what is made of each place of the sheet
   abbrev MakeSame : Updates → Updates → PlaceSheet → Type 0
   MakeSame updates updates' sheet = (row col : ℕ)
-      → unwrap_or (updates row col) (item_at sheet.table row col) ≡ unwrap_or (updates' row col) (item_at sheet.table row col)
+      → unwrap_or (updates row col) (item_at sheet.table row col)
+      ≡ unwrap_or (updates' row col) (item_at sheet.table row col)
 
   pub all_same_made : IfSome (place_sheet_with area.sheet book.sheets) (MakeSame (emptied places) (cleared area))
   all_same_made = if_some (MakeSame (emptied places) (cleared area)) (place_sheet_with area.sheet book.sheets)

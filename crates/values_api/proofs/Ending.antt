@@ -64,13 +64,15 @@ made_next f n things things' thing pushed is so_far =
     ∙ sym (map-range_with_len_more f 0 n n (omega arith))
 
 -- the last of the first things, and whether it is empty
-pub last_empty : {A : Type 0} (empty : A → Bool) (things : List A) (kept : ℕ) (last : A) → 0 < kept → kept ≤ length things
+pub last_empty : {A : Type 0} (empty : A → Bool) (things : List A) (kept : ℕ) (last : A) → 0 < kept → kept
+    ≤ length things
     → last ≡ get_or things (kept - 1) last → empty last ≡ true
     → suffix_len empty (take kept things) ≡ 1 + suffix_len empty (take (kept - 1) things)
 last_empty empty things kept last some few is so =
     suffix_len-take_yes empty things kept last some few (ap empty (sym is) ∙ so)
 
-pub last_filled : {A : Type 0} (empty : A → Bool) (things : List A) (kept : ℕ) (last : A) → 0 < kept → kept ≤ length things
+pub last_filled : {A : Type 0} (empty : A → Bool) (things : List A) (kept : ℕ) (last : A) → 0 < kept → kept
+    ≤ length things
     → last ≡ get_or things (kept - 1) last → empty last ≡ false → suffix_len empty (take kept things) ≡ 0
 last_filled empty things kept last some few is so =
     suffix_len-take_no empty things kept last some few (ap empty (sym is) ∙ so)

@@ -19,11 +19,11 @@ use Rattle.world_model.specs.declared.limits.TheConstants.{MOST_COLUMNS, MOST_RO
 use Rattle.world_model.specs.Sheet.{PlaceSheet}
 use Rattle.world_model.specs.Sound.{IsSheetSound}
 use Rattle.values_api.specs.declared.shown.Reading.{Reading}
+use Rattle.values_api.specs.FoundLaws.{sound_sheet}
 use Rattle.values_api.specs.Reading.{IsReadOfSheet, AreEnds, lines_read, length_read, value_told}
 use Rattle.values_api.specs.Sheets.{formula_sheets}
 use Rattle.values_api.specs.Shown.{shows_nothing, cell_shown, cell_of, cell_along, height, width, lines_of, line_length, value_by}
 use Rattle.values_api.proofs.CellsShown.{none_shows}
-use Rattle.values_api.proofs.Finding.{sound_sheet}
 
 -- ---- bands
 
@@ -58,7 +58,8 @@ by_lines turned = cell_along turned (λ line place. (line, place))
 -- the line of a place, and its place there
 abbrev pub along : Reading → ℕ × ℕ → ℕ × ℕ
 along reading place =
-    by_lines reading.columns_first (place.0 - first_line reading.area.now.rows) (place.1 - first_line reading.area.now.cols)
+    by_lines reading.columns_first (place.0 - first_line reading.area.now.rows)
+    (place.1 - first_line reading.area.now.cols)
 
 -- the first places stand before the ends of their lines
 pub record AreEndsSoFar (reading : Reading) (places : List (ℕ × ℕ)) (count : ℕ) (ends : List ℕ) : Type 0 where
@@ -91,10 +92,12 @@ module _ (reading : Reading) (is : IsReadOfSheet reading) where
   small_width = let end = end_small area.cols sheet.table.cols is.within.1 in omega (arith, end, own.cols.1)
 
   pub row_small : (row : ℕ) → row < height area sheet → first_line area.rows + row < MOST_ROWS
-  row_small row below = let end = end_small area.rows sheet.table.rows is.within.0 in omega (arith, below, end, own.rows.1)
+  row_small row below = let end = end_small area.rows sheet.table.rows is.within.0 in
+      omega (arith, below, end, own.rows.1)
 
   pub col_small : (col : ℕ) → col < width area sheet → first_line area.cols + col < MOST_COLUMNS
-  col_small col below = let end = end_small area.cols sheet.table.cols is.within.1 in omega (arith, below, end, own.cols.1)
+  col_small col below = let end = end_small area.cols sheet.table.cols is.within.1 in
+      omega (arith, below, end, own.cols.1)
 
   module _ (places : List (ℕ × ℕ)) (filled : AreFilledPlaces area sheet.table places) where
     pub placed : (k : ℕ) → k < length places → IsPlaced area sheet (get_or places k (0, 0))
@@ -114,7 +117,8 @@ module _ (reading : Reading) (is : IsReadOfSheet reading) where
     reached true old place = omega arith
     reached false old place = omega arith
 
-    reached_short : (b : Bool) (old place most : ℕ) → old ≤ most → place < most → cond b (max old (place + 1)) old ≤ most
+    reached_short : (b : Bool) (old place most : ℕ) → old ≤ most → place < most
+        → cond b (max old (place + 1)) old ≤ most
     reached_short true old place most few below = omega (arith, few, below)
     reached_short false old place most few below = few
 
@@ -124,7 +128,8 @@ module _ (reading : Reading) (is : IsReadOfSheet reading) where
 
     pub next_end : (k line place : ℕ) (ends ends' : List ℕ) → AreEndsSoFar reading places k ends
         → along reading (get_or places k (0, 0)) ≡ (line, place)
-        → ((other : ℕ) → get_or ends' other 0 ≡ cond (other == line) (max (get_or ends other 0) (place + 1)) (get_or ends other 0))
+        → ((other : ℕ) → get_or ends' other 0
+        ≡ cond (other == line) (max (get_or ends other 0) (place + 1)) (get_or ends other 0))
         → length ends' ≡ max (length ends) (line + 1) → line < lines_read reading → place < length_read reading
         → AreEndsSoFar reading places (k + 1) ends'
     next_end k line place ends ends' so_far along_is each long few short = record {
@@ -177,7 +182,8 @@ module _ (reading : Reading) (is : IsReadOfSheet reading) where
     next_placed turned k row col ends ends' is_turned there row_is col_is so_far each long =
         let place = get_or places k (0, 0) in
         let at = placed k there in
-        let inside : ((by_lines turned row col).0 < lines_read reading) × ((by_lines turned row col).1 < length_read reading) =
+        let inside : ((by_lines turned row col).0 < lines_read reading)
+        × ((by_lines turned row col).1 < length_read reading) =
         subst (λ b. ((by_lines turned row col).0 < lines_of b area sheet)
         × ((by_lines turned row col).1 < line_length b area sheet)) (sym is_turned)
         (in_lines turned row col (subst (λ n. n < height area sheet) (sym row_is) at.row_to)
@@ -205,7 +211,8 @@ module _ (reading : Reading) (is : IsReadOfSheet reading) where
         let other : first_line area.cols + place - first_line area.cols ≡ place = omega arith in
         ap (λ n. (n, first_line area.cols + place - first_line area.cols)) one ∙ ap (λ n. (line, n)) other
 
-    cell_holds : (turned : Bool) (line place : ℕ) → line < lines_of turned area sheet → place < line_length turned area sheet
+    cell_holds : (turned : Bool) (line place : ℕ) → line < lines_of turned area sheet → place
+        < line_length turned area sheet
         → Holds area (cell_at turned line place).0 (cell_at turned line place).1
     cell_holds true line place few short = (
       has_line_behind area.rows sheet.table.rows place short,
@@ -217,14 +224,16 @@ module _ (reading : Reading) (is : IsReadOfSheet reading) where
     )
 
     nothing_shown : (held : Option Content) (told : Value) → held ≡ None
-        → shows_nothing (cell_shown (formula_sheets reading.names.book.now.sheets) reading.render held (value_by held told))
+        → shows_nothing
+        (cell_shown (formula_sheets reading.names.book.now.sheets) reading.render held (value_by held told))
         ≡ true
     nothing_shown None told none =
         ap shows_nothing (sym (none_shows (formula_sheets reading.names.book.now.sheets) reading.render))
     nothing_shown (Some content) told none = let no : ⊥ = cc in absurd no
 
     shown_cell : (turned : Bool) (line place : ℕ) → item turned line place ≡ None
-        → shows_nothing (cell_along turned (cell_of (formula_sheets reading.names.book.now.sheets) reading.render area sheet
+        → shows_nothing
+        (cell_along turned (cell_of (formula_sheets reading.names.book.now.sheets) reading.render area sheet
         (value_told area sheet (values_of reading.table.now))) line place)
         ≡ true
     shown_cell true line place none = nothing_shown (item true line place) _ none

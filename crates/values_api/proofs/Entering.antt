@@ -43,7 +43,8 @@ module _ (reads_once : IsReadOnce) (sheets : Sheets) (here : ℕ) where
   formula_once : (text : List ℕ) (one other : Entry) → IsFormulaEntry sheets here text one
       → IsFormulaEntry sheets here text other → one ≡ other
   formula_once text one other is is' =
-      let (formula, limit) = reads_once sheets here text is.formula is'.formula one.limit other.limit is.is_read is'.is_read in
+      let (formula, limit) =
+      reads_once sheets here text is.formula is'.formula one.limit other.limit is.is_read is'.is_read in
       ap (λ held. entry_as held one.limit)
       (is.content_is ∙ ap (λ read. Some (content.Formula read)) formula ∙ sym is'.content_is)
       ∙ ap (λ passed. entry_as other.content passed) limit
@@ -62,7 +63,8 @@ module _ (reads_once : IsReadOnce) (sheets : Sheets) (here : ℕ) where
   entry_of_once None one other is is' = is ∙ sym is'
   entry_of_once (Some value) None other is is' = absurd is
   entry_of_once (Some value) (Some one) None is is' = absurd is'
-  entry_of_once (Some value) (Some one) (Some other) is is' = ap (λ entry. Some entry) (entry_once value one other is is')
+  entry_of_once (Some value) (Some one) (Some other) is is' =
+      ap (λ entry. Some entry) (entry_once value one other is is')
 
   pub entries_once : (values : ℕ → ℕ → Option Input) (one other : ℕ → ℕ → Option Entry)
       → AreEntries sheets here values one → AreEntries sheets here values other → one ≡ other
@@ -99,11 +101,13 @@ module _ (reads_once : IsReadOnce) (sheets : Sheets) (here : ℕ) where
       → AreEntered sheets here (with_one row col value values) before after (first_of limit entry.limit)
   next_entered laws values before between after limit row col value entry was is put so_far = record {
     entries = with_one row col entry so_far.entries;
-    entered = λ r c. one_more (r == row && c == col) value entry (values r c) (so_far.entries r c) is (so_far.entered r c);
+    entered =
+        λ r c. one_more (r == row && c == col) value entry (values r c) (so_far.entries r c) is (so_far.entered r c);
     updated = subst (λ updates. BookUpdated here updates before after) (contents_more row col entry so_far.entries)
         (subst (BookUpdated here (with_update row col entry.content (contents_of so_far.entries)) before) (sym put)
         (laws.put before between here row col entry.content (contents_of so_far.entries) so_far.updated));
     first = first_after so_far.entries row col entry
-        (held value entry (values row col) (so_far.entries row col) is (so_far.entered row col) was) limit entry.limit refl
+        (held value entry (values row col) (so_far.entries row col) is (so_far.entered row col) was) limit
+        entry.limit refl
         so_far.first;
   }

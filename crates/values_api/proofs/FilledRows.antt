@@ -1,42 +1,39 @@
 -- Which rows of a sheet hold something, from the places that are listed.
-use Rattle.std.proofs.Common.{◌≡◌, ◌≢◌, ℕ, ◌+◌, ◌-◌, ◌<◌, ap, refl, subst, List, [], ◌∷◌, length, arith}
-use Rattle.std.specs.Prelude.{◌↔◌, ◌==◌, IsTrue, not}
-use Rattle.std.proofs.lemmas.Bool.{false≢true, ne_eqb}
+use Rattle.std.proofs.Common.{◌≡◌, ℕ, ◌+◌, ◌-◌, ◌<◌, ◌≤◌, ◌⊎◌, inl, inr, List, length, arith}
+use Rattle.std.specs.Prelude.{Some, slice_get}
 use Rattle.cell_store.specs.Places.{AreFilledPlaces}
 use Rattle.cell_store.specs.Table.{Table}
-use Rattle.cell_value.specs.Elements.{Contains-head}
 use Rattle.grid_range.specs.declared.band.Band.TheVariants.{Whole, Span}
-use Rattle.values_api.specs.Rows.{HoldsCell}
+use Rattle.values_api.specs.Rows.{IsLastRow, IsRowBehind}
 use Rattle.values_api.specs.Tables.{IsStored}
+use Rattle.values_api.proofs.Stored.{is_last}
 
-module _ {T : Type 0} (sheet row : ℕ) (table : Table T) where
-  abbrev AreOnRow : List (ℕ × ℕ) → Type 0
-  AreOnRow = AreFilledPlaces (record { sheet = sheet; rows = Span row (row + 1); cols = Whole }) table
+below_or : (low high : ℕ) → (low < high) ⊎ (high ≤ low)
+below_or low high = grind arith
 
-  listed : (first : ℕ × ℕ) (rest : List (ℕ × ℕ)) → AreOnRow (first ∷ rest) → HoldsCell table row
-  listed (r, c) rest are =
-      let (held, stored) = (are.exactly r c).0 (Contains-head (r, c) rest) in
-      let same : r ≡ row = omega (arith, held.0.0, held.0.1) in
-      record { col = c; stored = subst (λ line. IsStored table line c) same stored }
-
-  none_listed : (places : List (ℕ × ℕ)) → length places ≡ 0 → AreOnRow places → HoldsCell table row → ⊥
-  none_listed places none are holds =
-      let (at, there, is) = (are.exactly row holds.col).1 (((omega arith, omega arith), tt), holds.stored) in
-      omega (arith, none, there)
-
-  pub row_holds : (places : List (ℕ × ℕ)) → AreOnRow places
-      → IsTrue (not (length places == 0)) ↔ HoldsCell table row
-  row_holds [] are = (λ no. absurd (false≢true no), λ holds. absurd (none_listed [] refl are holds))
-  row_holds (first ∷ rest) are = (
-    λ yes. listed first rest are,
-    λ holds. ap not (ne_eqb (length (first ∷ rest)) 0 (λ none. omega (arith, none))),
-  )
+module _ {T : Type 0} (sheet first end : ℕ) (table : Table T) (places : List (ℕ × ℕ))
+    (are : AreFilledPlaces (record { sheet = sheet; rows = Span first end; cols = Whole }) table places) where
+  -- the row of the last place that is listed
+  pub last_listed : (place : ℕ × ℕ) → slice_get places (length places - 1) ≡ Some place → IsLastRow table end place.0
+  last_listed place is =
+      let last = is_last (record { sheet = sheet; rows = Span first end; cols = Whole }) table places are place is in
+      record {
+        holds = record { col = place.1; stored = last.stored };
+        there = last.held.0.1;
+        last = λ r c stored before. elim (below_or r first) [
+          | inl lt ↦ let from = last.held.0.0 in omega (arith, lt, from)
+          | inr from ↦ elim (last.last r c ((from, before), tt) stored) [
+            | inl lt ↦ omega (arith, lt)
+            | inr same ↦ omega (arith, same.0)
+          ]
+        ];
+      }
 
 -- ---- the row behind the last one
 
-pub none_behind : {T : Type 0} (table : Table T) (row : ℕ) → ((r c : ℕ) → IsStored table r c → r < row)
-    → ¬ (HoldsCell table (row - 1)) → (r c : ℕ) → IsStored table r c → r < row - 1
-none_behind table row behind none r c stored =
-    let below = behind r c stored in
-    let other : r ≢ row - 1 = λ same. none (record { col = c; stored = subst (λ line. IsStored table line c) same stored }) in
-    omega (arith, below, other)
+pub behind_last : {T : Type 0} (table : Table T) (end row : ℕ) → ((r c : ℕ) → IsStored table r c → r < end)
+    → IsLastRow table end row → IsRowBehind table (row + 1)
+behind_last table end row before is = record {
+  behind = λ r c stored. let le = is.last r c stored (before r c stored) in omega (arith, le);
+  least = λ other behind. let lt = behind row is.holds.col is.holds.stored in omega (arith, lt);
+}

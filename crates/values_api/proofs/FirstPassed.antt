@@ -96,7 +96,8 @@ module _ (entries : ℕ → ℕ → Option Entry) (row col : ℕ) (entry : Entry
     row = row;
     col = col;
     is = at_place ∙ own;
-    least = all_after (λ other. rank limit ≤ rank other) (own_holds (λ other. rank limit ≤ rank other) limit own (omega arith))
+    least = all_after (λ other. rank limit ≤ rank other)
+        (own_holds (λ other. rank limit ≤ rank other) limit own (omega arith))
         others;
   }
 

@@ -83,7 +83,8 @@ module _ (given : Given) where
 
   pub made_inside : (row col : ℕ) → IsSome (value_by given row col) → IsInside row col
   made_inside row col some =
-      let (lies, _) = some_where (lies_in (first_row given) given.end_row row && lies_in (first_col given) given.end_col col)
+      let (lies, _) =
+      some_where (lies_in (first_row given) given.end_row row && lies_in (first_col given) given.end_col col)
       (given_value (input_at given.block.now (row - first_row given) (col - first_col given))) some in
       let (rows, cols) = and_parts (lies_in (first_row given) given.end_row row)
       (lies_in (first_col given) given.end_col col) lies in
@@ -132,7 +133,8 @@ module _ (given : Given) where
         below.1,
       )
     where
-      in_line : (line place : ℕ) → IsSome (given_value (value_at (line, place))) → place < length (line_given given line)
+      in_line : (line place : ℕ) → IsSome (given_value (value_at (line, place))) → place
+          < length (line_given given line)
       in_line line place some = elim (cases_order place (length (line_given given line))) [
         | inl same ↦ absurd (not_left_out (value_at (line, place))
             (get_or_past (line_given given line) place Skip (omega arith)) some)
@@ -178,14 +180,16 @@ module _ (given : Given) where
       ap (λ n. turned given n ((cell_for given line place).1 - first_col given))
       (less (first_row given) (turned given line place).0)
       ∙ ap (λ n. turned given (turned given line place).0 n) (less (first_col given) (turned given line place).1)
-      ∙ along_twice given.block.now.columns_first (turned given line place).0 (turned given line place).1 line place refl
+      ∙ along_twice given.block.now.columns_first (turned given line place).0 (turned given line place).1
+      line place refl
     where
       less : (first more : ℕ) → first + more - first ≡ more
       less first more = omega arith
 
   -- it is made what the value makes of it
   pub made_of : (line place : ℕ) → line < (room given).0 → place < (room given).1
-      → value_by given (cell_for given line place).0 (cell_for given line place).1 ≡ given_value (value_at (line, place))
+      → value_by given (cell_for given line place).0 (cell_for given line place).1
+      ≡ given_value (value_at (line, place))
   made_of line place few short =
       made_at (cell_for given line place).0 (cell_for given line place).1 (cell_inside line place few short)
       ∙ ap (λ (p : ℕ × ℕ). given_value (value_at p)) (cell_at line place)

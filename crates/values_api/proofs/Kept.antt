@@ -7,8 +7,8 @@ use Rattle.grid_range.specs.declared.area.Area.{Area}
 use Rattle.world_model.specs.Sheet.{PlaceSheet}
 use Rattle.world_model.specs.Sound.{place_sheet_with}
 use Rattle.world_model.specs.Updating.{SheetUpdated, Updates}
+use Rattle.values_api.specs.FoundLaws.{some_and}
 use Rattle.values_api.specs.Ranges.{IsThere}
-use Rattle.values_api.proofs.Finding.{some_and}
 
 none_is_some : (sheet : PlaceSheet) → None ≡ Some sheet → ⊥
 none_is_some sheet e = cc
@@ -46,6 +46,7 @@ stays_there number updates area before after updated there =
     (place_sheet_with area.sheet before) there in
     let (now, is_now, same) = some_and (SheetUpdated number updates sheet) (place_sheet_with area.sheet after)
     (kept_sheet number updates area.sheet before after updated sheet is) in
-    subst (λ one. IsSomeAnd one (λ (sheet : PlaceSheet). AreaWithin area sheet.table.rows sheet.table.cols)) (sym is_now)
+    subst (λ one. IsSomeAnd one (λ (sheet : PlaceSheet). AreaWithin area sheet.table.rows sheet.table.cols))
+    (sym is_now)
     (subst (λ cols. AreaWithin area now.table.rows cols) (sym same.cols)
     (subst (λ rows. AreaWithin area rows sheet.table.cols) (sym same.rows) within))

@@ -1,5 +1,5 @@
 -- The cells that are lent to a calculation.
-use Rattle.std.proofs.Common.{◌≡◌, ℕ, suc, ◌+◌, ◌<◌, List, [], ◌∷◌, ◌++◌, length, map, take, get_or, Contains, Option, Some, None, refl, ap, sym, subst, ◌∙◌, inl, inr, arith}
+use Rattle.std.proofs.Common.{◌≡◌, ℕ, suc, ◌+◌, ◌<◌, List, [], ◌∷◌, ◌++◌, length, map, take, get_or, Contains, Some, None, refl, ap, sym, subst, ◌∙◌, inl, inr, arith}
 use Rattle.std.specs.Prelude.{MatchOption}
 use Rattle.std.specs.Option.{IsSome, option_and_then}
 use Rattle.std.proofs.Math.Seq.{take-suc}
@@ -38,15 +38,16 @@ module _ (table : Table Content) where
         at = ap (map cell_place) more ∙ map-append cell_place before (cell ∷ [])
             ∙ ap (λ l. l ++ cell_place cell ∷ []) are.at ∙ ap (λ p. take count places ++ p ∷ []) at
             ∙ sym (ap (λ n. take n places) (plus_one count) ∙ take-suc places count d within);
-        held = λ other has. elim (Contains-append_cases before (cell ∷ []) other (subst (λ l. Contains l other) more has)) [
-          | inl earlier ↦ are.held other earlier
-          | inr last ↦ elim (Contains-cons_cases cell other [] last) [
-            | inl same ↦
-                subst (λ c. item_at table c.row c.column ≡ Some c.content.now) same
-                (ap (λ (p : ℕ × ℕ). item_at table p.0 p.1) at ∙ held)
-            | inr never ↦ absurd (nothing_in other never)
-          ]
-        ];
+        held = λ other has.
+            elim (Contains-append_cases before (cell ∷ []) other (subst (λ l. Contains l other) more has)) [
+              | inl earlier ↦ are.held other earlier
+              | inr last ↦ elim (Contains-cons_cases cell other [] last) [
+                | inl same ↦
+                    subst (λ c. item_at table c.row c.column ≡ Some c.content.now) same
+                    (ap (λ (p : ℕ × ℕ). item_at table p.0 p.1) at ∙ held)
+                | inr never ↦ absurd (nothing_in other never)
+              ]
+            ];
       }
 
 -- the cells of an area of a spreadsheet
@@ -56,7 +57,8 @@ module _ (book : PlaceBook) (area : Area) where
   cells_of_sheet sheet is cells (places, filled, are) = record {
     places = subst (AreStoredPlaces (stored_in book) area) (sym are.at)
         (places_stored book area places
-        (subst (λ found. MatchOption found (places ≡ []) (λ (one : PlaceSheet). AreFilledPlaces area one.table places)) (sym is) filled));
+        (subst (λ found. MatchOption found (places ≡ []) (λ (one : PlaceSheet). AreFilledPlaces area one.table places))
+        (sym is) filled));
     content = λ cell has.
         ap (option_and_then (λ (one : PlaceSheet). item_at one.table cell.row cell.column)) is ∙ are.held cell has;
   }
@@ -66,6 +68,7 @@ module _ (book : PlaceBook) (area : Area) where
   cells_of_none is cells none = record {
     places = subst (AreStoredPlaces (stored_in book) area) (sym (ap (map cell_place) none))
         (places_stored book area []
-        (subst (λ found. MatchOption found (◌≡◌ {A = List (ℕ × ℕ)} [] []) (λ (one : PlaceSheet). AreFilledPlaces area one.table [])) (sym is) refl));
+        (subst (λ found. MatchOption found (◌≡◌ {A = List (ℕ × ℕ)} [] [])
+        (λ (one : PlaceSheet). AreFilledPlaces area one.table [])) (sym is) refl));
     content = λ cell has. absurd (nothing_in cell (subst (λ l. Contains l cell) none has));
   }

@@ -14,7 +14,6 @@ pub mod LinesRead
 pub mod GivenCells
 pub mod Covering
 pub mod SameSheets
-pub mod KnownSheets
 pub mod FirstPassed
 pub mod Entering
 pub mod PutCells

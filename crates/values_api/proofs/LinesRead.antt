@@ -27,7 +27,8 @@ few_of : (b : Bool) (one other : ℕ) → one ≤ MOST_ROWS → other ≤ MOST_C
 few_of true one other few few' = omega (arith, few')
 few_of false one other few few' = few
 
-pub few_lines : (reading : Reading) → IsReadOfSheet reading → (ends : List ℕ) → AreEnds reading ends → length ends ≤ MOST_ROWS
+pub few_lines : (reading : Reading) → IsReadOfSheet reading → (ends : List ℕ) → AreEnds reading ends
+    → length ends ≤ MOST_ROWS
 few_lines reading is ends are =
     let few = few_of reading.columns_first _ _ (small_height reading is) (small_width reading is) in
     omega (arith, are.few, few)

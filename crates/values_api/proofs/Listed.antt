@@ -22,7 +22,8 @@ listed_there cells row col is =
     let (k, cell, there, at, passes) = Any-from_list_any (λ cell. row == cell.0 && col == cell.1) cells is in
     let parts = and_parts (row == cell.0) (col == cell.1) passes in
     let same : cell ≡ (row, col) =
-    ap (λ n. (n, cell.1)) (sym (eqb-true row cell.0 parts.0)) ∙ ap (λ n. (row, n)) (sym (eqb-true col cell.1 parts.1)) in
+    ap (λ n. (n, cell.1)) (sym (eqb-true row cell.0 parts.0))
+    ∙ ap (λ n. (row, n)) (sym (eqb-true col cell.1 parts.1)) in
     subst (Contains cells) same (k, there, at)
 
 pub there_listed : (cells : List (ℕ × ℕ)) (row col : ℕ) → Contains cells (row, col) → is_listed cells row col ≡ true
@@ -109,7 +110,8 @@ module _ {A : Type 0} where
 -- ---- sizes that stay
 
 -- what holds of a sheet's size holds of one that kept it
-pub still_of : (P : ℕ × ℕ → Type 0) (now before : Option PlaceSheet) → option_map size_of now ≡ option_map size_of before
+pub still_of : (P : ℕ × ℕ → Type 0) (now before : Option PlaceSheet) → option_map size_of now
+    ≡ option_map size_of before
     → IsSomeAnd before (λ sheet. P (size_of sheet)) → IsSomeAnd now (λ sheet. P (size_of sheet))
 still_of P None None same there = absurd there
 still_of P None (Some before) same there = absurd (none_some same)

@@ -1,5 +1,5 @@
 -- What an append is judged by before anything is changed, and what becomes of it.
-use Rattle.std.proofs.Common.{◌≡◌, ℕ, ◌+◌, ◌++◌, ◌<◌, ◌≤◌, List, [], ◌∷◌, refl, sym, subst, ap, ◌∙◌, Bool, true, false, arith}
+use Rattle.std.proofs.Common.{◌≡◌, ℕ, ◌+◌, ◌<◌, ◌≤◌, List, refl, sym, subst, ap, ◌∙◌, Bool, true, false, arith}
 use Rattle.std.specs.Prelude.{Option, Some, None, Result, Ok, Err, IfSome, IsSomeAnd, OnOk}
 use Rattle.std.specs.List.{AllZip}
 use Rattle.std.specs.Option.{option_map}
@@ -27,14 +27,15 @@ use Rattle.dimension_ops.specs.declared.rule.RuleOr.TheVariants as refusal
 use Rattle.values_api.specs.declared.appending.Added.{Added}
 use Rattle.values_api.specs.declared.appending.Plan.{Plan}
 use Rattle.values_api.specs.declared.table.Rectangle.{Rectangle}
-use Rattle.values_api.specs.declared.writing.Written.{Written}
+use Rattle.values_api.specs.declared.writing.WrittenCells.{WrittenCells}
+use Rattle.values_api.specs.AppendLaws.{changes_with, lead_on, refused, written as wrote}
 use Rattle.values_api.specs.Appending.{AreAdded, CanAdd, IsPlan, IsPlanOf, StartsInside}
-use Rattle.values_api.specs.Appends.{IsAppend, IsAppendUnless, IsAppended, answer_with, cell_area, changes_of, limit_passed, lines_added, places_added, size_added, start_of, table_area}
+use Rattle.values_api.specs.Appends.{IsAppend, IsAppendUnless, IsAppended, answer_with, cell_area, limit_passed, lines_added, places_added, size_added, start_of, table_area}
 use Rattle.values_api.specs.Blocks.{contents_of}
 use Rattle.values_api.specs.Denials.{IsWriteBy}
+use Rattle.values_api.specs.FoundLaws.{some_and, sound_sheet}
 use Rattle.values_api.specs.Ranges.{IsThere}
 use Rattle.values_api.specs.Tables.{IsLastOf, IsStored, IsTable, IsTableIn, LiesWithin}
-use Rattle.values_api.proofs.Finding.{some_and, sound_sheet}
 use Rattle.values_api.proofs.Kept.{stays_there}
 use Rattle.values_api.proofs.Sizes.{all_within, found_id}
 
@@ -77,7 +78,8 @@ table_within id sheets own there (Some table) area sheet inside (row, col, last,
       (omega (arith, has.left, has.right), omega (arith, least.right, cols)),
     )
 
-starts_inside : (table : Option Rectangle) (area : Area) (sheet : PlaceSheet) → 0 < sheet.table.rows → 0 < sheet.table.cols
+starts_inside : (table : Option Rectangle) (area : Area) (sheet : PlaceSheet) → 0 < sheet.table.rows → 0
+    < sheet.table.cols
     → HasItemsInside sheet.table → AreaWithin area sheet.table.rows sheet.table.cols → IsTableIn area sheet.table table
     → StartsInside (start_of table area) sheet
 starts_inside None area sheet rows cols inside within found =
@@ -152,7 +154,8 @@ row_there true start block sheet inside = let row = inside.row in omega arith
 row_there false start block sheet inside = let row = inside.row in omega arith
 
 module _ (insert : Bool) (area : Area) (block : Block) (sheets : List PlaceSheet) (plan : Plan) (sheet : PlaceSheet)
-    (there : place_sheet_with area.sheet sheets ≡ Some sheet) (made : IsPlan insert area block sheet sheets (Ok plan)) where
+    (there : place_sheet_with area.sheet sheets ≡ Some sheet)
+    (made : IsPlan insert area block sheet sheets (Ok plan)) where
   pub is_of : IsPlanOf insert area block sheet plan
   is_of = subst (λ p. IsPlanOf insert area block sheet p) (sym made.judged.0) made.is
 
@@ -188,7 +191,8 @@ module _ (insert : Bool) (area : Area) (block : Block) (sheets : List PlaceSheet
       let cols : own.table.cols ≡ sheet.table.cols + plan.added.cols = ap (λ (s : ℕ × ℕ). s.1) size in
       let col = is_of.inside.col in
       let row = cell_row in
-      subst (λ o. IsSomeAnd o (λ (one : PlaceSheet). AreaWithin (cell_area area.sheet plan.start) one.table.rows one.table.cols))
+      subst (λ o. IsSomeAnd o
+      (λ (one : PlaceSheet). AreaWithin (cell_area area.sheet plan.start) one.table.rows one.table.cols))
       (sym found) ((omega arith, omega (arith, rows, row)), (omega arith, omega (arith, cols, col)))
 
   pub few_rows : plan.start.0 < most_on Rows
@@ -213,7 +217,7 @@ module _ (insert : Bool) (area : Area) (block : Block) (sheets : List PlaceSheet
 
   module _ (user : List ℕ) (turn : ChangesInTurn) (updates : UpdatesAreChanges) (before between after : PlaceBook)
       (same : before.sheets ≡ sheets) (added : AreAdded area.sheet plan.added sheet before between) where
-    planned_with : (changes : List BookChange) (answer : Result (Option Area × Written) Rule)
+    planned_with : (changes : List BookChange) (answer : Result (Option Area × WrittenCells) Rule)
         → IsAppended user area.sheet plan.added plan.start block plan.table changes before after answer
         → OnOk answer (AreChanges changes before after) → IsAppend user insert area block sheet before after answer
     planned_with changes answer done made =
@@ -227,50 +231,18 @@ module _ (insert : Bool) (area : Area) (block : Block) (sheets : List PlaceSheet
           changes = changes;
           appended =
               subst (λ (a : Added). IsAppendUnless (limit_passed a sheet before.sheets)
-              (IsAppended user area.sheet a (start_of plan.table area) block plan.table changes before after answer) changes answer) lines
+              (IsAppended user area.sheet a (start_of plan.table area) block plan.table changes before after answer)
+              changes answer) lines
               (subst (λ limit. IsAppendUnless limit
-              (IsAppended user area.sheet plan.added (start_of plan.table area) block plan.table changes before after answer) changes answer)
+              (IsAppended user area.sheet plan.added (start_of plan.table area) block plan.table changes before after
+              answer) changes answer)
               (sym (ap (λ (list : List PlaceSheet). limit_passed plan.added sheet list) same ∙ no_limit))
-              (subst (λ (s : ℕ × ℕ). IsAppended user area.sheet plan.added s block plan.table changes before after answer) start done));
+              (subst (λ (s : ℕ × ℕ). IsAppended user area.sheet plan.added s block plan.table changes before after
+              answer) start done));
           made = made;
         }
 
-    module _ (own : PlaceSheet) (found : place_sheet_with area.sheet between.sheets ≡ Some own) where
-      abbrev made_of : {told : Result Written Rule}
-          → IsWriteBy user true (cell_area area.sheet plan.start) block own between after told → List BookChange
-      made_of write = changes_of area.sheet plan.added
-          ++ BookChange.CellsUpdated area.sheet (contents_of write.is.entries) ∷ []
-
-      wrote : (written : Written)
-          → (write : IsWriteBy user true (cell_area area.sheet plan.start) block own between after (Ok written))
-          → IsAppended user area.sheet plan.added plan.start block plan.table (made_of write) before after
-          (Ok (answer_with area.sheet plan.table written))
-      wrote written write = record {
-        between = between;
-        lines = added.changes;
-        own = own;
-        there = found;
-        told = Ok written;
-        write = write;
-        answered = refl;
-        changes_are = refl;
-      }
-
-      refused : (rule : Rule)
-          → (write : IsWriteBy user true (cell_area area.sheet plan.start) block own between after (Err rule))
-          → IsAppended user area.sheet plan.added plan.start block plan.table (made_of write) before after (Err rule)
-      refused rule write = record {
-        between = between;
-        lines = added.changes;
-        own = own;
-        there = found;
-        told = Err rule;
-        write = write;
-        answered = refl;
-        changes_are = refl;
-      }
-
-    pub append_told : (written : Written)
+    pub append_told : (written : WrittenCells)
         → IsSomeAnd (place_sheet_with area.sheet between.sheets)
         (λ own. IsWriteBy user true (cell_area area.sheet plan.start) block own between after (Ok written))
         → IsAppend user insert area block sheet before after (Ok (answer_with area.sheet plan.table written))
@@ -278,21 +250,25 @@ module _ (insert : Bool) (area : Area) (block : Block) (sheets : List PlaceSheet
         let (own, found, its) = some_and
         (λ own. IsWriteBy user true (cell_area area.sheet plan.start) block own between after (Ok written))
         (place_sheet_with area.sheet between.sheets) write in
-        planned_with (made_of own found its) (Ok (answer_with area.sheet plan.table written))
-        (wrote own found written its)
-        (turn.both (changes_of area.sheet plan.added)
-        (BookChange.CellsUpdated area.sheet (contents_of its.is.entries) ∷ []) before between after added.changes
-        (updates.changes between after area.sheet (contents_of its.is.entries) its.is.updated.places.id its.is.updated.names))
+        planned_with (changes_with area.sheet plan.added (contents_of its.is.entries))
+        (Ok (answer_with area.sheet plan.table written))
+        (wrote user area.sheet plan.added plan.start block before between after added.changes own plan.table found
+        written its)
+        (lead_on user area.sheet plan.added plan.start block before between after added.changes own turn updates
+        (Ok written) its)
 
     pub append_refused : (fault : RuleOr)
         → IsSomeAnd (place_sheet_with area.sheet between.sheets)
-        (λ own. IsUnlessNoMemory (IsWriteBy user true (cell_area area.sheet plan.start) block own between after) (Err fault))
+        (λ own. IsUnlessNoMemory (IsWriteBy user true (cell_area area.sheet plan.start) block own between after)
+        (Err fault))
         → IsUnlessNoMemory (IsAppend user insert area block sheet before after) (Err fault)
     append_refused (refusal.Rule rule) write =
         let (own, found, its) = some_and
         (λ own. IsWriteBy user true (cell_area area.sheet plan.start) block own between after (Err rule))
         (place_sheet_with area.sheet between.sheets) write in
-        planned_with (made_of own found its) (Err rule) (refused own found rule its) tt
+        planned_with (changes_with area.sheet plan.added (contents_of its.is.entries)) (Err rule)
+        (refused user area.sheet plan.added plan.start block before between after added.changes own plan.table found
+        rule its) tt
     append_refused refusal.NoMemory write = tt
 
 -- ---- from what is found
@@ -335,7 +311,8 @@ module _ (insert : Bool) (area : Area) (block : Block) (before : PlaceBook) (pla
         (subst (λ o. IsSomeAnd o (λ own. AreAdded area.sheet plan.added own before between)) there added)
 
     -- the table stays where it is when the values are written
-    pub table_stays : (user : List ℕ) → IsSound before → (after : PlaceBook) (written : Written) (table : Option Area)
+    pub table_stays : (user : List ℕ) → IsSound before
+        → (after : PlaceBook) (written : WrittenCells) (table : Option Area)
         → table ≡ option_map (table_area area.sheet) plan.table
         → IsSomeAnd (place_sheet_with area.sheet between.sheets)
         (λ own. IsWriteBy user true (cell_area area.sheet plan.start) block own between after (Ok written))
@@ -345,34 +322,41 @@ module _ (insert : Bool) (area : Area) (block : Block) (before : PlaceBook) (pla
         let (own, found, wrote) = some_and
         (λ own. IsWriteBy user true (cell_area area.sheet plan.start) block own between after (Ok written))
         (place_sheet_with area.sheet between.sheets) write in
-        stays_if area.sheet (contents_of wrote.is.entries) between.sheets after.sheets wrote.is.updated.places.sheets table
+        stays_if area.sheet (contents_of wrote.is.entries) between.sheets after.sheets
+        wrote.is.updated.places.sheets table
         (subst (λ (t : Option Area). IfSome t (IsThere between.sheets)) (sym is)
         (table_there insert area block before.sheets plan sheet there its before between
         (sound_sheet before sound area.sheet sheet there)
         (subst (λ o. IsSomeAnd o (λ own. AreAdded area.sheet plan.added own before between)) there added)))
 
     module _ (user : List ℕ) (turn : ChangesInTurn) (updates : UpdatesAreChanges) (after : PlaceBook) where
-      pub done_told : (written : Written) (table : Option Area) → table ≡ option_map (table_area area.sheet) plan.table
+      pub done_told : (written : WrittenCells) (table : Option Area) → table
+          ≡ option_map (table_area area.sheet) plan.table
           → IsSomeAnd (place_sheet_with area.sheet between.sheets)
           (λ own. IsWriteBy user true (cell_area area.sheet plan.start) block own between after (Ok written))
           → IsSomeAnd (place_sheet_with area.sheet before.sheets)
           (λ sheet. IsUnlessNoMemory (IsAppend user insert area block sheet before after) (Ok (table, written)))
       done_told written table is write =
           let (sheet, there, its) = the_sheet in
-          subst (λ o. IsSomeAnd o (λ one. IsUnlessNoMemory (IsAppend user insert area block one before after) (Ok (table, written))))
+          subst (λ o. IsSomeAnd o
+          (λ one. IsUnlessNoMemory (IsAppend user insert area block one before after) (Ok (table, written))))
           (sym there)
           (subst (λ (t : Option Area). IsAppend user insert area block sheet before after (Ok (t, written))) (sym is)
           (append_told insert area block before.sheets plan sheet there its user turn updates before between after refl
-          (subst (λ o. IsSomeAnd o (λ own. AreAdded area.sheet plan.added own before between)) there added) written write))
+          (subst (λ o. IsSomeAnd o (λ own. AreAdded area.sheet plan.added own before between)) there added)
+          written write))
 
       pub done_refused : (fault : RuleOr)
           → IsSomeAnd (place_sheet_with area.sheet between.sheets)
-          (λ own. IsUnlessNoMemory (IsWriteBy user true (cell_area area.sheet plan.start) block own between after) (Err fault))
+          (λ own. IsUnlessNoMemory (IsWriteBy user true (cell_area area.sheet plan.start) block own between after)
+          (Err fault))
           → IsSomeAnd (place_sheet_with area.sheet before.sheets)
           (λ sheet. IsUnlessNoMemory (IsAppend user insert area block sheet before after) (Err fault))
       done_refused fault write =
           let (sheet, there, its) = the_sheet in
-          subst (λ o. IsSomeAnd o (λ one. IsUnlessNoMemory (IsAppend user insert area block one before after) (Err fault)))
+          subst (λ o. IsSomeAnd o
+          (λ one. IsUnlessNoMemory (IsAppend user insert area block one before after) (Err fault)))
           (sym there)
-          (append_refused insert area block before.sheets plan sheet there its user turn updates before between after refl
+          (append_refused insert area block before.sheets plan sheet there its user turn updates before
+          between after refl
           (subst (λ o. IsSomeAnd o (λ own. AreAdded area.sheet plan.added own before between)) there added) fault write)

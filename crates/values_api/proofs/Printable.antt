@@ -15,7 +15,7 @@ use Rattle.world_model.specs.declared.limits.TheConstants.{MOST_COLUMNS, MOST_RO
 use Rattle.world_model.specs.Book.{PlaceBook}
 use Rattle.world_model.specs.Sheet.{PlaceSheet}
 use Rattle.world_model.specs.Sound.{HasNotation, IsAreaWithin, IsPieceWithin, IsSound, place_sheet_with}
-use Rattle.values_api.proofs.Finding.{some_and, sound_sheet}
+use Rattle.values_api.specs.FoundLaws.{some_and, sound_sheet}
 use Rattle.values_api.specs.Sheets.{formula_sheets}
 
 has_form : (rows cols : Band) (r c : ℕ) → HasNotation rows cols → Within rows r → Within cols c → r ≤ MOST_ROWS
@@ -36,7 +36,8 @@ module _ (book : PlaceBook) (sound : IsSound book) where
   reference_printable : (reference : Reference) → IsAreaWithin book.sheets reference.area
       → IsPrintableReference (formula_sheets book.sheets) reference
   reference_printable reference within =
-      let (sheet, is, lines) = some_and (λ (sheet : PlaceSheet). AreaWithin reference.area sheet.table.rows sheet.table.cols)
+      let (sheet, is, lines) =
+      some_and (λ (sheet : PlaceSheet). AreaWithin reference.area sheet.table.rows sheet.table.cols)
       (place_sheet_with reference.area.sheet book.sheets) within.0 in
       let own = sound_sheet book sound reference.area.sheet sheet is in
       record {
@@ -45,7 +46,8 @@ module _ (book : PlaceBook) (sound : IsSound book) where
           has = ap (option_map (λ (sheet : PlaceSheet). sheet.title)) is;
           some = own.titled;
         };
-        form = has_form reference.area.rows reference.area.cols sheet.table.rows sheet.table.cols within.1 lines.0 lines.1
+        form = has_form reference.area.rows reference.area.cols sheet.table.rows sheet.table.cols within.1
+            lines.0 lines.1
             own.rows.1 own.cols.1;
       }
 

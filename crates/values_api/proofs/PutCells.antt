@@ -92,7 +92,8 @@ module _ (given : Given) (cells : List (ℕ × ℕ)) (are : AreGiven given cells
     value_given = subst IsSome value_is cell_some
 
     -- one cell more is entered
-    pub put_next : (reads_once : IsReadOnce) (laws : UpdatesAreWrites) (sheets : Sheets) (before between after : PlaceBook)
+    pub put_next : (reads_once : IsReadOnce) (laws : UpdatesAreWrites) (sheets : Sheets)
+        (before between after : PlaceBook)
         (limit : Option FormulaFault) (entry : Entry) → IsEntry sheets id (value_for cell.0 cell.1) entry
         → after ≡ book_put id cell.0 cell.1 entry.content between
         → AreEntered sheets id (listed_of (value_by given) (take k cells)) before between limit

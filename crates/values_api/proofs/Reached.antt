@@ -16,6 +16,7 @@ use Rattle.world_model.specs.Sound.{place_sheet_with}
 use Rattle.values_api.specs.declared.given.Given.{Given}
 use Rattle.values_api.specs.Blocks.{AreCells, given_value, input_at, lies_in, longest, written}
 use Rattle.values_api.specs.Denials.{AreaCells, FilledCells, HasCellOf, IsDenial, WriteCells}
+use Rattle.values_api.specs.FoundLaws.{some_and}
 use Rattle.values_api.specs.Given.{IsWithinSheet, area_reached, first_row, first_col, value_by, value_uncovered}
 use Rattle.values_api.specs.Ranges.{IsThere}
 use Rattle.values_api.specs.Rest.{is_reached}
@@ -23,7 +24,6 @@ use Rattle.values_api.specs.Shown.{cell_along}
 use Rattle.values_api.proofs.Covering.{line_short}
 use Rattle.values_api.proofs.Denying.{AreAmong, denial_is, denial_of_fewer, found_on, listed_is_written, on_found}
 use Rattle.values_api.proofs.Ends.{end_small}
-use Rattle.values_api.proofs.Finding.{some_and}
 use Rattle.values_api.proofs.GivenCells.{has_value, made_from, made_inside, pair, some_where}
 use Rattle.values_api.proofs.Resting.{has_between}
 
@@ -113,7 +113,8 @@ module _ (user : List ℕ) (given : Given) (one_cell : Bool) (book : PlaceBook)
       protections_are
       (subst (λ name. IfSome found (IsFirst (DeniesOne user name (ListedCells given.area.now.sheet cells)) protections))
       owner_is first))
-      (subst (λ list. IfNone found (All (λ one. ¬ (DeniesOne user book.owner (ListedCells given.area.now.sheet cells) one))
+      (subst (λ list. IfNone found
+      (All (λ one. ¬ (DeniesOne user book.owner (ListedCells given.area.now.sheet cells) one))
       list)) protections_are
       (subst (λ name. IfNone found (All (λ one. ¬ (DeniesOne user name (ListedCells given.area.now.sheet cells) one))
       protections)) owner_is none)))
@@ -130,7 +131,8 @@ written_in area block sheet row col within some =
     let in_cols = lies_in (first_line area.cols) end_col col in
     let lies = some_where (in_rows && in_cols && not (is_covered sheet.merges row col))
     (given_value (input_at block (row - first_line area.rows) (col - first_line area.cols))) some in
-    let both = and_parts in_rows in_cols (and_parts (in_rows && in_cols) (not (is_covered sheet.merges row col)) lies.0).0 in
+    let both =
+    and_parts in_rows in_cols (and_parts (in_rows && in_cols) (not (is_covered sheet.merges row col)) lies.0).0 in
     let by_rows = and_parts (nat_le (first_line area.rows) row) (nat_lt row end_row) both.0 in
     let by_cols = and_parts (nat_le (first_line area.cols) col) (nat_lt col end_col) both.1 in
     let row_to = ltb-true row end_row by_rows.1 in

@@ -32,11 +32,11 @@ use Rattle.dimension_ops.specs.Found.{ArePlacesOf}
 use Rattle.world_model.specs.Book.{PlaceBook}
 use Rattle.world_model.specs.Sheet.{PlaceSheet}
 use Rattle.world_model.specs.Sound.{IsContentWithin, IsPieceWithin, IsSound, place_sheet_with}
+use Rattle.values_api.specs.FoundLaws.{range_there, sound_sheet}
 use Rattle.values_api.specs.Laws.{ReadsOnce}
 use Rattle.values_api.specs.Sheets.{formula_sheets, size_of, stored_in}
 use Rattle.values_api.specs.Shown.{AreShownValues, area_shown, cell_along, cell_of, cell_shown, has_no_cells, height, line_length, line_shown, lines_of, lines_shown, shows_nothing, width, without_empty_end}
 use Rattle.values_api.proofs.Ends.{has_line_behind}
-use Rattle.values_api.proofs.Finding.{range_there, sound_sheet}
 
 -- ---- a spreadsheet as its formulas read it
 
@@ -85,7 +85,8 @@ ids_apart (first ∷ later) apart = λ i j d less within.
     let ids = λ (sheet : PlaceSheet). sheet.id in
     let sheets = first ∷ later in
     let short : j < length sheets = subst (λ n. j < n) (length-map sheets ids) within in
-    let one : get_or (map ids sheets) i d ≡ (get_or sheets i first).id = get_or-map ids sheets i first d (omega (arith, less, short)) in
+    let one : get_or (map ids sheets) i d ≡ (get_or sheets i first).id =
+    get_or-map ids sheets i first d (omega (arith, less, short)) in
     let other : get_or (map ids sheets) j d ≡ (get_or sheets j first).id = get_or-map ids sheets j first d short in
     λ same. apart i j first less short (sym one ∙ same ∙ other)
 
@@ -98,7 +99,8 @@ module _ (book : PlaceBook) (sound : IsSound book) where
       → IsSome (option_and_then (λ sheet. item_at sheet.table place.row place.column) found)
       → IsSomeAnd (option_map size_of_sheet found) (λ size. (place.row < size.0) × (place.column < size.1))
   place_there place None is some = let no : ⊥ = cc in absurd no
-  place_there place (Some sheet) is some = (sound_sheet book sound place.sheet sheet is).inside place.row place.column some
+  place_there place (Some sheet) is some =
+      (sound_sheet book sound place.sheet sheet is).inside place.row place.column some
 
   area_there : (area : Area) (found : Option PlaceSheet)
       → IsSomeAnd found (λ sheet. AreaWithin area sheet.table.rows sheet.table.cols)
@@ -117,14 +119,17 @@ module _ (book : PlaceBook) (sound : IsSound book) where
   content_sound (content.Number number) within = tt
   content_sound (content.Text text) within = tt
   content_sound (content.Truth truth) within = tt
-  content_sound (content.Formula formula) within = λ k d there. piece_there (get_or formula.pieces k d) (within k d there)
+  content_sound (content.Formula formula) within =
+      λ k d there. piece_there (get_or formula.pieces k d) (within k d there)
 
-  held_sound : (held : Option Content) → IfSome held (IsContentWithin sheets) → IfSome held (IsContentSound (stored_in book))
+  held_sound : (held : Option Content) → IfSome held (IsContentWithin sheets)
+      → IfSome held (IsContentSound (stored_in book))
   held_sound None within = tt
   held_sound (Some one) within = content_sound one within
 
   formulas_sound : (place : Place) (found : Option PlaceSheet) → place_sheet_with place.sheet sheets ≡ found
-      → IfSome (option_and_then (λ sheet. item_at sheet.table place.row place.column) found) (IsContentSound (stored_in book))
+      → IfSome (option_and_then (λ sheet. item_at sheet.table place.row place.column) found)
+      (IsContentSound (stored_in book))
   formulas_sound place None is = tt
   formulas_sound place (Some sheet) is =
       held_sound (item_at sheet.table place.row place.column)
@@ -158,7 +163,8 @@ module _ (book : PlaceBook) (area : Area) (places : List (ℕ × ℕ)) where
     in_order = no_places none;
     exactly = λ row col. (
       λ has. absurd (nothing_in (row, col) (subst (λ l. Contains l (row, col)) none has)),
-      λ both. absurd (subst (λ found. IsSome (option_and_then (λ (sheet : PlaceSheet). item_at sheet.table row col) found) → ⊥)
+      λ both. absurd (subst
+          (λ found. IsSome (option_and_then (λ (sheet : PlaceSheet). item_at sheet.table row col) found) → ⊥)
           (sym is) (λ some. let no : ⊥ = cc in no) both.1),
     );
   }

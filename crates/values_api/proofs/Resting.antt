@@ -97,7 +97,8 @@ module _ {A : Type 0} (columns : Bool) (sheet : ℕ) (values : List (List A)) (l
               (sheet_along columns sheet (Span some.0 some.1) (Span behind.0 behind.1));
           exactly = λ line place. (
             (λ has. ⊎_elim
-                (λ (old : Any (HasAlong columns line place) areas). before line place ((so_far.exactly line place).0 old))
+                (λ (old : Any (HasAlong columns line place) areas). before line place
+                ((so_far.exactly line place).0 old))
                 (λ (it : HasAlong columns line place last).
                 let bands = from_along columns sheet (Span some.0 some.1) (Span behind.0 behind.1) line place it in
                 here line place bands.0.0 bands.0.1 bands.1.0 bands.1.1)
@@ -107,7 +108,8 @@ module _ {A : Type 0} (columns : Bool) (sheet : ℕ) (values : List (List A)) (l
                 kept (HasAlong columns line place) areas last ((so_far.exactly line place).1 old))
                 (λ (it : (some.0 ≤ line) × (line < some.1) × (behind.0 ≤ place) × (place < behind.1)).
                 Any-push (HasAlong columns line place) areas last
-                (to_along columns sheet (Span some.0 some.1) (Span behind.0 behind.1) line place (it.0, it.1) (it.2, it.3)))
+                (to_along columns sheet (Span some.0 some.1) (Span behind.0 behind.1) line place (it.0, it.1)
+                (it.2, it.3)))
                 (either line place is)),
           );
         }
@@ -123,12 +125,14 @@ module _ {A : Type 0} (columns : Bool) (sheet : ℕ) (values : List (List A)) (l
     }
 
     -- that line has as many values
-    long_is : (line : ℕ) → lines.0 + count ≤ line → line < lines.0 + count + 1 → length (get_or values count []) ≡ long line
+    long_is : (line : ℕ) → lines.0 + count ≤ line → line < lines.0 + count + 1
+        → length (get_or values count []) ≡ long line
     long_is line from to = ap (λ n. length (get_or values n [])) (omega (arith, from, to))
 
     -- the places behind its values are an area more
     pub line_added : (many : ℕ) (after : List Area) → many ≡ length (get_or values count [])
-        → after ≡ with_area (lines.0 + count, lines.0 + count + 1) (places.0 + many, places.1) → AreBehind (count + 1) after
+        → after ≡ with_area (lines.0 + count, lines.0 + count + 1) (places.0 + many, places.1)
+        → AreBehind (count + 1) after
     line_added many after many_is after_is = subst (AreBehind (count + 1)) (sym after_is)
         (one_more (IsBehind (count + 1)) (lines.0 + count, lines.0 + count + 1) (places.0 + many, places.1) later
         (λ line place from to behind before.
@@ -164,7 +168,8 @@ module _ {A : Type 0} (columns : Bool) (sheet : ℕ) (values : List (List A)) (l
               line_from = is.line_from;
               line_to = ⊎_elim (λ (first : line < lines.0 + count). first)
                   (λ (next : lines.0 + count ≤ line).
-                  let same = long_is line next (omega (arith, to)) in absurd (omega (arith, behind, before, same, full)))
+                  let same = long_is line next (omega (arith, to)) in
+                  absurd (omega (arith, behind, before, same, full)))
                   (cases_lt line (lines.0 + count));
               place_from = behind;
               place_to = before;
@@ -220,7 +225,8 @@ has_to Whole line count has there = there
 has_to (From start) line count has there = there
 has_to (Span start end) line count has there = has.1
 
-pub has_between : (band : Band) (line count : ℕ) → first_line band ≤ line → line < end_line band count → HasLine band line
+pub has_between : (band : Band) (line count : ℕ) → first_line band ≤ line → line < end_line band count
+    → HasLine band line
 has_between Whole line count from to = tt
 has_between (From start) line count from to = from
 has_between (Span start end) line count from to = (from, to)

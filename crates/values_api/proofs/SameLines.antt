@@ -22,7 +22,8 @@ first_member x xs = Contains-get_or (x ∷ xs) 0 x (omega arith)
 -- a member is the first, or one of the rest
 member_cases : (x : ℕ) (xs : List ℕ) (n : ℕ) → Contains (x ∷ xs) n → (x ≡ n) ⊎ Contains xs n
 member_cases x xs n has = elim (Contains-append_cases (x ∷ []) xs n has) [
-  | inl first ↦ inl (All-contains (λ m. x ≡ m) (x ∷ []) n (All-cons (λ m. x ≡ m) x [] refl (All-nil (λ m. x ≡ m))) first)
+  | inl first ↦
+      inl (All-contains (λ m. x ≡ m) (x ∷ []) n (All-cons (λ m. x ≡ m) x [] refl (All-nil (λ m. x ≡ m))) first)
   | inr later ↦ inr later
 ]
 

@@ -25,7 +25,8 @@ one_some : {A : Type 0} (x y : A) → Some x ≡ Some y → x ≡ y
 one_some x y e = cc
 
 -- the sheet that is found has the id
-pub found_id : (id : ℕ) (sheets : List PlaceSheet) (own : PlaceSheet) → place_sheet_with id sheets ≡ Some own → own.id ≡ id
+pub found_id : (id : ℕ) (sheets : List PlaceSheet) (own : PlaceSheet) → place_sheet_with id sheets ≡ Some own
+    → own.id ≡ id
 found_id id [] own is = absurd (none_some own is)
 found_id id (x ∷ xs) own is = by_test (x.id == id) refl (found_id id xs own) is
   where
@@ -39,11 +40,14 @@ found_id id (x ∷ xs) own is = by_test (x.id == id) refl (found_id id xs own) i
 changed_head : (sf sg fx gx rf rg : ℕ) → sf ≡ fx + rf → sg ≡ gx + rg → rf ≡ rg → sg + fx ≡ sf + gx
 changed_head sf sg fx gx rf rg one other same = omega arith
 
-changed_tail : (sf sg fx gx rf rg fo go : ℕ) → sf ≡ fx + rf → sg ≡ gx + rg → fx ≡ gx → rg + fo ≡ rf + go → sg + fo ≡ sf + go
+changed_tail : (sf sg fx gx rf rg fo go : ℕ) → sf ≡ fx + rf → sg ≡ gx + rg → fx ≡ gx → rg + fo ≡ rf + go → sg
+    + fo ≡ sf + go
 changed_tail sf sg fx gx rf rg fo go one other same rest = omega arith
 
-module _ (f g : PlaceSheet → ℕ) (id : ℕ) (apart : (sheet : PlaceSheet) → (sheet.id == id) ≡ false → f sheet ≡ g sheet) where
-  same_sum : (sheets : List PlaceSheet) → All (λ sheet. (sheet.id == id) ≡ false) sheets → sum_by f sheets ≡ sum_by g sheets
+module _ (f g : PlaceSheet → ℕ) (id : ℕ)
+    (apart : (sheet : PlaceSheet) → (sheet.id == id) ≡ false → f sheet ≡ g sheet) where
+  same_sum : (sheets : List PlaceSheet) → All (λ sheet. (sheet.id == id) ≡ false) sheets → sum_by f sheets
+      ≡ sum_by g sheets
   same_sum [] all = refl
   same_sum (x ∷ xs) all =
       sum_by-cons f x xs ∙ ap (λ n. n + sum_by f xs) (apart x (all 0 x (omega arith)))
@@ -77,7 +81,8 @@ abbrev pub places_in : PlaceSheet → ℕ
 places_in sheet = sheet.table.rows * sheet.table.cols
 
 abbrev pub places_with : ℕ → Added → PlaceSheet → ℕ
-places_with id added sheet = let size = cond (sheet.id == id) (size_added added sheet) (size_of sheet) in size.0 * size.1
+places_with id added sheet = let size = cond (sheet.id == id) (size_added added sheet) (size_of sheet) in
+    size.0 * size.1
 
 pub places_swapped : (id : ℕ) (added : Added) (sheets : List PlaceSheet) (own : PlaceSheet)
     → AllPairs (λ one other. one.id ≢ other.id) sheets → place_sheet_with id sheets ≡ Some own
@@ -85,7 +90,8 @@ pub places_swapped : (id : ℕ) (added : Added) (sheets : List PlaceSheet) (own 
     ≡ sum_by places_in sheets + (own.table.rows + added.rows) * (own.table.cols + added.cols)
 places_swapped id added sheets own distinct is =
     one_changed places_in (places_with id added) id (λ sheet apart. sym (ap (λ b.
-    let size : ℕ × ℕ = cond b (size_added added sheet) (size_of sheet) in size.0 * size.1) apart)) sheets own distinct is
+    let size : ℕ × ℕ = cond b (size_added added sheet) (size_of sheet) in size.0 * size.1) apart)) sheets
+    own distinct is
     ∙ ap (λ b. sum_by places_in sheets
     + (let size : ℕ × ℕ = cond b (size_added added own) (size_of own) in size.0 * size.1))
     (eq-eqb own.id id (found_id id sheets own is))
@@ -126,7 +132,8 @@ module _ (id : ℕ) (axis : Axis) (at count : ℕ) where
 module _ (id : ℕ) (added : Added) where
   -- with the rows alone there are no more places than with both
   fewer : (b : Bool) (x : PlaceSheet)
-      → (let size : ℕ × ℕ = cond b (size_after Rows (Insert added.row added.rows) x.table.rows x.table.cols) (size_of x) in
+      → (let size : ℕ × ℕ =
+      cond b (size_after Rows (Insert added.row added.rows) x.table.rows x.table.cols) (size_of x) in
       size.0 * size.1)
       ≤ (let size : ℕ × ℕ = cond b (size_added added x) (size_of x) in size.0 * size.1)
   fewer true x = mul-le-mul_left (x.table.rows + added.rows) (omega arith)
@@ -141,7 +148,8 @@ module _ (id : ℕ) (added : Added) where
   -- and then with the columns as many as with both
   both : (b b' : Bool) (x y : PlaceSheet) → b' ≡ b
       → size_of y ≡ cond b (size_after Rows (Insert added.row added.rows) x.table.rows x.table.cols) (size_of x)
-      → (let size : ℕ × ℕ = cond b' (size_after Columns (Insert added.col added.cols) y.table.rows y.table.cols) (size_of y) in
+      → (let size : ℕ × ℕ =
+      cond b' (size_after Columns (Insert added.col added.cols) y.table.rows y.table.cols) (size_of y) in
       size.0 * size.1)
       ≡ (let size : ℕ × ℕ = cond b (size_added added x) (size_of x) in size.0 * size.1)
   both true true x y is same = ap (λ (s : ℕ × ℕ). s.0 * (s.1 + added.cols)) same
@@ -187,7 +195,8 @@ none_passed size places within =
 
 pub all_within : (size : ℕ × ℕ) (places : ℕ) → first_passed (passes_size size places) ≡ None → AreWithin size places
 all_within size places none =
-    let tests = tests_of (nat_lt (most_on Rows) size.0) (nat_lt (most_on Columns) size.1) (nat_lt most_places places) none in
+    let tests =
+    tests_of (nat_lt (most_on Rows) size.0) (nat_lt (most_on Columns) size.1) (nat_lt most_places places) none in
     record {
       rows = ltb-false (most_on Rows) size.0 tests.0;
       cols = ltb-false (most_on Columns) size.1 tests.1;

@@ -41,7 +41,8 @@ pub sorted_columns_apart : (places : List (ℕ × ℕ)) → IsStrictlySortedBy b
     → IsDistinct (eq_by_cmp by_rows) (columns_first places)
 sorted_columns_apart places sorted = columns_apart places (IsDistinct-from_sorted by_rows places sorted)
 
-pub columns_have : (places : List (ℕ × ℕ)) (row col : ℕ) → Contains places (row, col) ↔ Contains (columns_first places) (col, row)
+pub columns_have : (places : List (ℕ × ℕ)) (row col : ℕ) → Contains places (row, col)
+    ↔ Contains (columns_first places) (col, row)
 columns_have places row col = (
   (λ has. Contains-map (λ (p : ℕ × ℕ). (p.1, p.0)) places (row, col) has),
   (λ has.
@@ -54,7 +55,8 @@ module _ {T : Type 0} (sheet : ℕ) (table : Table T) (inside : HasItemsInside t
     (filled : AreFilledPlaces (record { sheet = sheet; rows = Whole; cols = Whole }) table places) where
   pub are_stored : (rows_count cols_count : ℕ) → rows_count ≡ table.rows → cols_count ≡ table.cols
       → table.rows + table.cols ≤ most_lines → IsStrictlySortedBy by_rows cols
-      → ((row col : ℕ) → Contains cols (row, col) ↔ ((Unit {0} × Unit {0}) × Contains (columns_first places) (row, col)))
+      → ((row col : ℕ) → Contains cols (row, col)
+      ↔ ((Unit {0} × Unit {0}) × Contains (columns_first places) (row, col)))
       → AreStored (record { by_rows = places; by_cols = cols; rows = rows_count; cols = cols_count })
   are_stored rows_count cols_count rows_are cols_are few sorted exactly = record {
     rows_in_order = filled.in_order;
@@ -92,7 +94,8 @@ module _ (places : List (ℕ × ℕ)) (place : ℕ × ℕ) (last : slice_get pla
       (Less-from_sorted by_rows places i (length places - 1) other sorted before (omega arith))))
   behind_none other i sorted there at (inr same) =
       let is : other ≡ place =
-      sym at ∙ ap (λ n. get_or places n other) same ∙ get_or_from_slice_get places (length places - 1) place other last in
+      sym at ∙ ap (λ n. get_or places n other) same
+      ∙ get_or_from_slice_get places (length places - 1) place other last in
       inr (ap (λ (p : ℕ × ℕ). p.0) is, subst (λ (p : ℕ × ℕ). other.1 ≤ p.1) is (omega arith))
 
   pub last_of : (other : ℕ × ℕ) → IsStrictlySortedBy by_rows places → Contains places other

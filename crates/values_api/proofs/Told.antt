@@ -15,13 +15,14 @@ use Rattle.values_api.specs.Blocks.{AreCells, AreLines, area_written, broken_by_
 use Rattle.values_api.specs.Given.{AreGiven, ArePut, IsAnswer, IsDone, fits_by, line_on}
 use Rattle.values_api.specs.Given.{value_by, value_listed, value_uncovered}
 use Rattle.values_api.specs.declared.given.Given.{Given}
-use Rattle.values_api.specs.declared.writing.Written.{Written}
+use Rattle.values_api.specs.declared.writing.WrittenCells.{WrittenCells}
 use Rattle.values_api.proofs.LinesOn.{rows_of, cols_of}
 use Rattle.values_api.proofs.Listed.{listed_uncovered}
 use Rattle.values_api.proofs.WriteEnds.{unless}
 
 -- a write that breaks no rule is told as it was done
-pub told : (given : Given) (cells : List (ℕ × ℕ)) (limit : Option FormulaFault) (book : PlaceBook) (written : Written)
+pub told : (given : Given) (cells : List (ℕ × ℕ)) (limit : Option FormulaFault) (book : PlaceBook)
+    (written : WrittenCells)
     → AreGiven given cells → broken_by_write limit (fits_by given) book ≡ None
     → written.area ≡ area_written given.area.now given.block.now
     → AreLines (Contains (map (line_on Rows) cells)) written.rows
@@ -58,7 +59,7 @@ module _ (given : Given) (cells : List (ℕ × ℕ)) where
   given_to (Some sheet) are = subst (λ values. AreCells values cells) (sym (values_are sheet.merges are)) are
 
   pub done : (found : Option PlaceSheet) (limit : Option FormulaFault) (before after : PlaceBook)
-      (answer : Result Written RuleOr) → IsSomeAnd found AreUncovered
+      (answer : Result WrittenCells RuleOr) → IsSomeAnd found AreUncovered
       → ArePut given (value_listed cells given) before after limit
       → IsUnlessNoMemory (IsAnswer given (value_listed cells given) limit after) answer
       → IsSomeAnd found
@@ -71,8 +72,9 @@ module _ (given : Given) (cells : List (ℕ × ℕ)) where
       (λ one right. record { limit = limit; put = put; answered = right }) answer is)
 
 -- of want of memory nothing is told
-pub told_nothing : (P : PlaceSheet → Type 0) (Q : PlaceSheet → Result Written Rule → Type 0) (found : Option PlaceSheet)
-    (answer : Result Written RuleOr) → IsUnlessNoMemory (λ _. ⊥) answer → IsSomeAnd found P
+pub told_nothing : (P : PlaceSheet → Type 0) (Q : PlaceSheet → Result WrittenCells Rule → Type 0)
+    (found : Option PlaceSheet)
+    (answer : Result WrittenCells RuleOr) → IsUnlessNoMemory (λ _. ⊥) answer → IsSomeAnd found P
     → IsSomeAnd found (λ sheet. IsUnlessNoMemory (Q sheet) answer)
 told_nothing P Q None answer is there = absurd there
 told_nothing P Q (Some sheet) (Ok written) is there = absurd is

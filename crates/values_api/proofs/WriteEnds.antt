@@ -27,14 +27,14 @@ use Rattle.dimension_ops.specs.declared.rule.RuleOr.{RuleOr}
 use Rattle.dimension_ops.specs.declared.rule.RuleOr.TheVariants as refusal
 use Rattle.values_api.specs.Blocks.{Entry, AreEntries, end_row, end_col, given_value, input_at, lies_in, rows_needed, cols_needed, area_written}
 use Rattle.values_api.specs.Blocks.{broken_by_formulas, broken_by_write, contents_of, most_formulas, most_stored, rule_of_limit, written, IsWrite, IsWritten}
+use Rattle.values_api.specs.FoundLaws.{some_and, sound_sheet}
 use Rattle.values_api.specs.Given.{HasRoom, IsWithinSheet, IsDone, IsDoneOnSheet, first_row, first_col, fits_by}
 use Rattle.values_api.specs.Given.{value_uncovered}
 use Rattle.values_api.specs.Ranges.{IsThere}
 use Rattle.values_api.specs.Sheets.{formula_sheets}
 use Rattle.values_api.specs.declared.given.Given.{Given}
-use Rattle.values_api.specs.declared.writing.Written.{Written}
+use Rattle.values_api.specs.declared.writing.WrittenCells.{WrittenCells}
 use Rattle.values_api.proofs.Ends.{end_small}
-use Rattle.values_api.proofs.Finding.{some_and, sound_sheet}
 use Rattle.values_api.proofs.Kept.{stays_there}
 
 pub first_before : (band : Band) (count : ℕ) → Within band count → 0 < count → first_line band < end_line band count
@@ -64,7 +64,8 @@ some_none rule e = cc
 
 -- a write that breaks no rule fits
 pub fits_from : (many too_many fit : Bool) (limit : Option FormulaFault)
-    → cond many (Some (PastLimit Filled)) (cond too_many (Some (PastLimit Formulas)) (broken_by_formulas limit fit)) ≡ None
+    → cond many (Some (PastLimit Filled))
+    (cond too_many (Some (PastLimit Formulas)) (broken_by_formulas limit fit)) ≡ None
     → fit ≡ true
 fits_from true too_many fit limit is = absurd (some_none (PastLimit Filled) is)
 fits_from false true fit limit is = absurd (some_none (PastLimit Formulas) is)
@@ -106,7 +107,8 @@ module _ (given : Given) (one_cell : Bool) (book : PlaceBook) where
 
   -- the ends are those of the area's sheet
   abbrev AreEnds : PlaceSheet → Type 0
-  AreEnds sheet = ◌≡◌ {A = ℕ × ℕ} (given.end_row, given.end_col) (end_row one_cell area sheet, end_col one_cell area sheet)
+  AreEnds sheet =
+      ◌≡◌ {A = ℕ × ℕ} (given.end_row, given.end_col) (end_row one_cell area sheet, end_col one_cell area sheet)
 
   module _ (sound : IsSound book) (there : IsThere book.sheets area) (ends : Found AreEnds) where
     record HasSheet : Type 0 where
@@ -185,11 +187,13 @@ module _ (given : Given) (one_cell : Bool) (book : PlaceBook) where
         nat_le (first_row given + rows_needed given.block.now) ends.0
         && nat_le (first_col given + cols_needed given.block.now) ends.1
 
-    abbrev IsAnswerTo : PlaceBook → Result Written Rule → (ℕ → ℕ → Option Entry) → Option FormulaFault → ℕ × ℕ → Type 0
+    abbrev IsAnswerTo : PlaceBook → Result WrittenCells Rule → (ℕ → ℕ → Option Entry) → Option FormulaFault → ℕ
+        × ℕ → Type 0
     IsAnswerTo after answer entries limit ends =
         AreEntries (formula_sheets book.sheets) area.sheet (values_to ends) entries
         × MatchResult answer
-        (λ done. (broken_by_write limit (fits_to ends) after ≡ None) × IsWritten area given.block.now (values_to ends) done)
+        (λ done. (broken_by_write limit (fits_to ends) after ≡ None)
+        × IsWritten area given.block.now (values_to ends) done)
         (λ rule. broken_by_write limit (fits_to ends) after ≡ Some rule)
 
     values_are : value_uncovered sheet.merges given ≡ values_to (given.end_row, given.end_col)
@@ -201,10 +205,11 @@ module _ (given : Given) (one_cell : Bool) (book : PlaceBook) where
     -- these are the values that are written to the area
     pub written_is : Found (λ sheet. value_uncovered sheet.merges given ≡ written one_cell area given.block.now sheet)
     written_is =
-        subst (λ found. IsSomeAnd found (λ sheet. value_uncovered sheet.merges given ≡ written one_cell area given.block.now sheet))
+        subst (λ found. IsSomeAnd found
+        (λ sheet. value_uncovered sheet.merges given ≡ written one_cell area given.block.now sheet))
         (sym has_sheet.found) (values_are ∙ ap values_to has_sheet.are)
 
-    write_done : (after : PlaceBook) (answer : Result Written Rule)
+    write_done : (after : PlaceBook) (answer : Result WrittenCells Rule)
         → IsDone given (value_uncovered sheet.merges given) book after answer
         → IsWrite one_cell area given.block.now sheet book after answer
     write_done after answer is =
@@ -223,22 +228,23 @@ module _ (given : Given) (one_cell : Bool) (book : PlaceBook) where
           answered = both.1;
         }
 
-    own_done : (after : PlaceBook) (answer : Result Written RuleOr) → IsDoneOnSheet given book after answer
+    own_done : (after : PlaceBook) (answer : Result WrittenCells RuleOr) → IsDoneOnSheet given book after answer
         → IsUnlessNoMemory (IsDone given (value_uncovered sheet.merges given) book after) answer
     own_done after answer is =
         subst (λ found. IsSomeAnd found (λ (one : PlaceSheet).
         IsUnlessNoMemory (IsDone given (value_uncovered one.merges given) book after) answer)) has_sheet.found is
 
-    pub is_write : (after : PlaceBook) (answer : Result Written RuleOr) → IsDoneOnSheet given book after answer
+    pub is_write : (after : PlaceBook) (answer : Result WrittenCells RuleOr) → IsDoneOnSheet given book after answer
         → Found (λ sheet. IsUnlessNoMemory (IsWrite one_cell area given.block.now sheet book after) answer)
     is_write after answer is =
-        subst (λ found. IsSomeAnd found (λ sheet. IsUnlessNoMemory (IsWrite one_cell area given.block.now sheet book after) answer))
+        subst (λ found. IsSomeAnd found
+        (λ sheet. IsUnlessNoMemory (IsWrite one_cell area given.block.now sheet book after) answer))
         (sym has_sheet.found)
         (unless (IsDone given (value_uncovered sheet.merges given) book after)
         (IsWrite one_cell area given.block.now sheet book after) (write_done after) answer (own_done after answer is))
 
     -- the rectangle of what is written is on the sheet
-    was_there : (after : PlaceBook) (answer : Result Written RuleOr)
+    was_there : (after : PlaceBook) (answer : Result WrittenCells RuleOr)
         → IsUnlessNoMemory (IsDone given (value_uncovered sheet.merges given) book after) answer
         → IfOk answer (λ written. IsThere book.sheets written.area)
     was_there after (Ok written) is =
@@ -261,7 +267,8 @@ module _ (given : Given) (one_cell : Bool) (book : PlaceBook) where
     was_there after (Err (refusal.Rule rule)) is = tt
     was_there after (Err refusal.NoMemory) is = tt
 
-    pub written_there : (after : PlaceBook) (answer : Result Written RuleOr) → IsDoneOnSheet given book after answer
+    pub written_there : (after : PlaceBook) (answer : Result WrittenCells RuleOr)
+        → IsDoneOnSheet given book after answer
         → IfOk answer (λ written. IsThere after.sheets written.area)
     written_there after (Ok written) is =
         let done = own_done after (Ok written) is in

@@ -18,7 +18,7 @@ use Rattle.values_api.specs.Blocks.{broken_by_write, contents_of, fits, written}
 use Rattle.values_api.specs.Laws.{UpdatesOnce, WritesOnce}
 use Rattle.values_api.specs.Sheets.{formula_sheets}
 use Rattle.values_api.specs.Updates.{AreUpdated}
-use Rattle.values_api.specs.declared.writing.Written.{Written}
+use Rattle.values_api.specs.declared.writing.WrittenCells.{WrittenCells}
 use Rattle.values_api.proofs.Entering.{entries_once}
 use Rattle.values_api.proofs.FirstPassed.{first_once}
 use Rattle.values_api.proofs.Kept.{kept_sheet}
@@ -31,7 +31,8 @@ some_same one other e = cc
 none_some : {A : Type 0} (x : A) → None ≡ Some x → ⊥
 none_some x e = cc
 
-lines_once : (IsLine : ℕ → Type 0) (lines lines' : List ℕ) → AreLines IsLine lines → AreLines IsLine lines' → lines ≡ lines'
+lines_once : (IsLine : ℕ → Type 0) (lines lines' : List ℕ) → AreLines IsLine lines → AreLines IsLine lines'
+    → lines ≡ lines'
 lines_once IsLine lines lines' are are' =
     same_lines lines lines' are.in_order are'.in_order
     (λ n has. (are'.exactly n).1 ((are.exactly n).0 has)) (λ n has. (are.exactly n).1 ((are'.exactly n).0 has))
@@ -45,10 +46,10 @@ number_once values number number' is is' =
     (λ cell has. (is.are.exactly cell.0 cell.1).1 ((is'.are.exactly cell.0 cell.1).0 has))
     ∙ sym is'.many
 
-abbrev written_as : Area → List ℕ → List ℕ → ℕ → Written
+abbrev written_as : Area → List ℕ → List ℕ → ℕ → WrittenCells
 written_as area rows cols cells = record { area = area; rows = rows; cols = cols; cells = cells }
 
-written_once : (area : Area) (block : Block) (values : ℕ → ℕ → Option Input) (one other : Written)
+written_once : (area : Area) (block : Block) (values : ℕ → ℕ → Option Input) (one other : WrittenCells)
     → IsWritten area block values one → IsWritten area block values other → one ≡ other
 written_once area block values one other is is' =
     ap (λ found. written_as found one.rows one.cols one.cells) (is.area_is ∙ sym is'.area_is)
@@ -60,12 +61,12 @@ written_once area block values one other is is' =
     (number_once values one.cells other.cells is.cells_are is'.cells_are)
 
 module _ (fit : Bool) (area : Area) (block : Block) (values : ℕ → ℕ → Option Input) where
-  abbrev Answers : Option FormulaFault → PlaceBook → Result Written Rule → Type 0
+  abbrev Answers : Option FormulaFault → PlaceBook → Result WrittenCells Rule → Type 0
   Answers limit after answer = MatchResult answer
       (λ done. (broken_by_write limit fit after ≡ None) × IsWritten area block values done)
       (λ broken. broken_by_write limit fit after ≡ Some broken)
 
-  answer_once : (limit : Option FormulaFault) (after : PlaceBook) (one other : Result Written Rule)
+  answer_once : (limit : Option FormulaFault) (after : PlaceBook) (one other : Result WrittenCells Rule)
       → Answers limit after one → Answers limit after other → one ≡ other
   answer_once limit after (Ok one) (Ok other) is is' =
       ap (λ answer. Ok answer) (written_once area block values one other is.1 is'.1)
@@ -96,7 +97,7 @@ module _ (some_names : StandsForSome) (apart : StandsForApart) where
 
 module _ (reads_once : IsReadOnce) (some_names : StandsForSome) (apart : StandsForApart) where
   write_once : (one_cell : Bool) (area : Area) (block : Block) (sheet : PlaceSheet) (before after after' : PlaceBook)
-      (answer answer' : Result Written Rule) → IsSound before
+      (answer answer' : Result WrittenCells Rule) → IsSound before
       → (one : IsWrite one_cell area block sheet before after answer)
       → (other : IsWrite one_cell area block sheet before after' answer')
       → (contents_of one.entries ≡ contents_of other.entries) × (answer ≡ answer')

@@ -24,7 +24,7 @@ use Rattle.dimension_ops.specs.declared.rule.Rule.{Rule}
 use Rattle.dimension_ops.specs.declared.rule.Rule.TheVariants.{PastLimit}
 use Rattle.values_api.specs.declared.appending.Added.{Added}
 use Rattle.values_api.specs.declared.table.Rectangle.{Rectangle}
-use Rattle.values_api.specs.declared.writing.Written.{Written}
+use Rattle.values_api.specs.declared.writing.WrittenCells.{WrittenCells}
 use Rattle.values_api.specs.Blocks.{contents_of, rows_needed, cols_needed}
 use Rattle.values_api.specs.Denials.{IsWriteBy}
 use Rattle.values_api.specs.Tables.{IsTableIn}
@@ -82,37 +82,39 @@ places_added id added sheets = sum_by (λ sheet.
 
 -- the first limit that is passed with them
 abbrev pub limit_passed : Added → PlaceSheet → List PlaceSheet → Option Limit
-limit_passed added sheet sheets = first_passed (passes_size (size_added added sheet) (places_added sheet.id added sheets))
+limit_passed added sheet sheets =
+    first_passed (passes_size (size_added added sheet) (places_added sheet.id added sheets))
 
 -- ---- the append
 
 -- the answer of an append to that table whose values were written so
-abbrev pub answer_with : ℕ → Option Rectangle → Written → Option Area × Written
+abbrev pub answer_with : ℕ → Option Rectangle → WrittenCells → Option Area × WrittenCells
 answer_with sheet table written = (option_map (table_area sheet) table, written)
 
 -- the lines are added, then the user's values are written as far as the sheet goes: which protected ranges deny him a
 -- cell is taken once the lines are there, since it may be of a new one
 pub record IsAppended (user : List ℕ) (sheet : ℕ) (added : Added) (start : ℕ × ℕ) (block : Block)
     (table : Option Rectangle) (changes : List BookChange) (before after : PlaceBook)
-    (answer : Result (Option Area × Written) Rule) : Type 0 where
+    (answer : Result (Option Area × WrittenCells) Rule) : Type 0 where
   pub between : PlaceBook
   pub lines : AreChanges (changes_of sheet added) before between
   pub own : PlaceSheet
   pub there : place_sheet_with sheet between.sheets ≡ Some own
-  pub told : Result Written Rule
+  pub told : Result WrittenCells Rule
   pub write : IsWriteBy user true (cell_area sheet start) block own between after told
   pub answered : MatchResult told (λ written. answer ≡ Ok (answer_with sheet table written)) (λ rule. answer ≡ Err rule)
-  pub changes_are : changes ≡ changes_of sheet added ++ BookChange.CellsUpdated sheet (contents_of write.is.entries) ∷ []
+  pub changes_are : changes ≡ changes_of sheet added
+      ++ BookChange.CellsUpdated sheet (contents_of write.is.entries) ∷ []
 
 -- unless the lines pass a limit, which is told before those that the write may pass
-abbrev pub IsAppendUnless : Option Limit → Type 0 → List BookChange → Result (Option Area × Written) Rule → Type 0
+abbrev pub IsAppendUnless : Option Limit → Type 0 → List BookChange → Result (Option Area × WrittenCells) Rule → Type 0
 IsAppendUnless None IsDone changes answer = IsDone
 IsAppendUnless (Some limit) IsDone changes answer = (changes ≡ []) × (answer ≡ Err (PastLimit limit))
 
 -- an append of the user's block to the table that the area of the sheet has makes that of the spreadsheet, and is
 -- answered so
 pub record IsAppend (user : List ℕ) (insert : Bool) (area : Area) (block : Block) (sheet : PlaceSheet)
-    (before after : PlaceBook) (answer : Result (Option Area × Written) Rule) : Type 0 where
+    (before after : PlaceBook) (answer : Result (Option Area × WrittenCells) Rule) : Type 0 where
   pub table : Option Rectangle
   pub found : IsTableIn area sheet.table table
   pub changes : List BookChange

@@ -29,7 +29,7 @@ use Rattle.dimension_ops.specs.declared.rule.Limit.TheVariants.{Filled, Formulas
 use Rattle.dimension_ops.specs.declared.rule.Rule.{Rule}
 use Rattle.dimension_ops.specs.declared.rule.Rule.TheVariants.{PastLimit, ValuesPastRange}
 use Rattle.values_api.specs.declared.writing.TheConstants.{MOST_FORMULAS, MOST_STORED}
-use Rattle.values_api.specs.declared.writing.Written.{Written}
+use Rattle.values_api.specs.declared.writing.WrittenCells.{WrittenCells}
 use Rattle.values_api.specs.Sheets.{formula_sheets}
 use Rattle.values_api.specs.Shown.{cell_along}
 use Rattle.values_api.specs.Updates.{AreUpdated}
@@ -211,7 +211,8 @@ pub record IsNumberOfCells (values : ℕ → ℕ → Option Input) (number : ℕ
 
 -- what was written or emptied: the rectangle of the values, the rows and the columns with such a cell, and the number
 -- of these cells
-pub record IsWritten (area : Area) (block : Block) (values : ℕ → ℕ → Option Input) (written : Written) : Type 0 where
+pub record IsWritten (area : Area) (block : Block) (values : ℕ → ℕ → Option Input) (written : WrittenCells) :
+    Type 0 where
   pub area_is : written.area ≡ area_written area block
   pub rows_are : AreLines (λ row. (col : ℕ) × IsSome (values row col)) written.rows
   pub cols_are : AreLines (λ col. (row : ℕ) × IsSome (values row col)) written.cols
@@ -219,7 +220,7 @@ pub record IsWritten (area : Area) (block : Block) (values : ℕ → ℕ → Opt
 
 -- a write of the block to the area of the sheet makes that of the spreadsheet, and is answered so
 pub record IsWrite (one_cell : Bool) (area : Area) (block : Block) (sheet : PlaceSheet) (before after : PlaceBook)
-    (answer : Result Written Rule) : Type 0 where
+    (answer : Result WrittenCells Rule) : Type 0 where
   pub entries : ℕ → ℕ → Option Entry
   pub limit : Option FormulaFault
   pub entered : AreEntries (formula_sheets before.sheets) area.sheet (written one_cell area block sheet) entries

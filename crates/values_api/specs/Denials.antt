@@ -14,7 +14,7 @@ use Rattle.dimension_ops.specs.Broken.{judged_by, unbroken}
 use Rattle.dimension_ops.specs.declared.rule.Rule.{Rule}
 use Rattle.values_api.specs.Blocks.{IsWrite, written}
 use Rattle.values_api.specs.Rest.{is_reached}
-use Rattle.values_api.specs.declared.writing.Written.{Written}
+use Rattle.values_api.specs.declared.writing.WrittenCells.{WrittenCells}
 
 -- ---- cells
 
@@ -23,7 +23,8 @@ NoCells id row col = ⊥
 
 -- those of a sheet that is there
 abbrev pub OnSheet : List PlaceSheet → ℕ → (PlaceSheet → ℕ → ℕ → Type 0) → Cells
-OnSheet sheets sheet Has id row col = (id ≡ sheet) × IsSomeAnd (place_sheet_with sheet sheets) (λ found. Has found row col)
+OnSheet sheets sheet Has id row col = (id ≡ sheet)
+    × IsSomeAnd (place_sheet_with sheet sheets) (λ found. Has found row col)
 
 -- the area has the cell, and the sheet its row and its column
 abbrev pub HasCellOf : Area → PlaceSheet → ℕ → ℕ → Type 0
@@ -77,7 +78,8 @@ pub record IsUnlessDenied {A : Type 0} (user : List ℕ) (book : PlaceBook) (cel
 
 -- the user's values are written to the area, or from its first cell on: the cells that are written or emptied are
 -- touched
-abbrev pub IsWriteBy : List ℕ → Bool → Area → Block → PlaceSheet → PlaceBook → PlaceBook → Result Written Rule → Type 0
+abbrev pub IsWriteBy : List ℕ → Bool → Area → Block → PlaceSheet → PlaceBook → PlaceBook
+    → Result WrittenCells Rule → Type 0
 IsWriteBy user one_cell area block sheet before after =
     IsUnlessDenied user before (WriteCells before.sheets one_cell area block)
     (IsWrite one_cell area block sheet before after)

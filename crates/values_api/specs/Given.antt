@@ -21,7 +21,7 @@ use Rattle.dimension_ops.specs.Rules.{IsUnlessNoMemory}
 use Rattle.dimension_ops.specs.declared.rule.Rule.{Rule}
 use Rattle.dimension_ops.specs.declared.rule.RuleOr.{RuleOr}
 use Rattle.values_api.specs.declared.given.Given.{Given}
-use Rattle.values_api.specs.declared.writing.Written.{Written}
+use Rattle.values_api.specs.declared.writing.WrittenCells.{WrittenCells}
 use Rattle.values_api.specs.Blocks.{area_written, rows_needed, cols_needed, input_at, given_value, lies_in}
 use Rattle.values_api.specs.Blocks.{Entry, rank, AreCells, AreEntries, IsFirstPassed, contents_of}
 use Rattle.values_api.specs.Blocks.{broken_by_write, IsWritten}
@@ -165,7 +165,8 @@ pub record ArePut (given : Given) (values : ℕ → ℕ → Option Input) (befor
   pub first : IsFirstPassed entries limit
 
 -- what is answered once the cells are written
-abbrev pub IsAnswer : Given → (ℕ → ℕ → Option Input) → Option FormulaFault → PlaceBook → Result Written Rule → Type 0
+abbrev pub IsAnswer : Given → (ℕ → ℕ → Option Input) → Option FormulaFault → PlaceBook
+    → Result WrittenCells Rule → Type 0
 IsAnswer given values limit book answer = MatchResult answer
     (λ written. (broken_by_write limit (fits_by given) book ≡ None)
     × IsWritten given.area.now given.block.now values written)
@@ -173,12 +174,12 @@ IsAnswer given values limit book answer = MatchResult answer
 
 -- what is done and answered
 pub record IsDone (given : Given) (values : ℕ → ℕ → Option Input) (before after : PlaceBook)
-    (answer : Result Written Rule) : Type 0 where
+    (answer : Result WrittenCells Rule) : Type 0 where
   pub limit : Option FormulaFault
   pub put : ArePut given values before after limit
   pub answered : IsAnswer given values limit after answer
 
 -- the same, where the cells have values but for those that a merge of their sheet covers
-abbrev pub IsDoneOnSheet : Given → PlaceBook → PlaceBook → Result Written RuleOr → Type 0
+abbrev pub IsDoneOnSheet : Given → PlaceBook → PlaceBook → Result WrittenCells RuleOr → Type 0
 IsDoneOnSheet given before after answer = IsSomeAnd (place_sheet_with given.area.now.sheet before.sheets)
     (λ sheet. IsUnlessNoMemory (IsDone given (value_uncovered sheet.merges given) before after) answer)

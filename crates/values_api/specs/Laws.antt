@@ -13,7 +13,7 @@ use Rattle.values_api.specs.Appends.{IsAppend}
 use Rattle.values_api.specs.Blocks.{IsWrite, contents_of}
 use Rattle.values_api.specs.Shown.{IsAreaShown}
 use Rattle.values_api.specs.Updates.{AreUpdated}
-use Rattle.values_api.specs.declared.writing.Written.{Written}
+use Rattle.values_api.specs.declared.writing.WrittenCells.{WrittenCells}
 
 -- a read shows one thing of an area of a sound spreadsheet
 pub record ReadsOnce : Type 0 where
@@ -24,15 +24,16 @@ pub record ReadsOnce : Type 0 where
 -- a write makes one thing of the cells of a sound spreadsheet, and has one answer
 pub record WritesOnce : Type 0 where
   pub once : (one_cell : Bool) (area : Area) (block : Block) (sheet : PlaceSheet) (before after after' : PlaceBook)
-      (answer answer' : Result Written Rule) → IsSound before
+      (answer answer' : Result WrittenCells Rule) → IsSound before
       → (one : IsWrite one_cell area block sheet before after answer)
       → (other : IsWrite one_cell area block sheet before after' answer')
       → (contents_of one.entries ≡ contents_of other.entries) × (answer ≡ answer')
 
 -- an append changes a sound spreadsheet in one way, and has one answer
 pub record AppendsOnce : Type 0 where
-  pub once : (user : List ℕ) (insert : Bool) (area : Area) (block : Block) (sheet : PlaceSheet) (before after after' : PlaceBook)
-      (answer answer' : Result (Option Area × Written) Rule) → IsSound before
+  pub once : (user : List ℕ) (insert : Bool) (area : Area) (block : Block) (sheet : PlaceSheet)
+      (before after after' : PlaceBook)
+      (answer answer' : Result (Option Area × WrittenCells) Rule) → IsSound before
       → (one : IsAppend user insert area block sheet before after answer)
       → (other : IsAppend user insert area block sheet before after' answer')
       → (one.changes ≡ other.changes) × (answer ≡ answer')

@@ -9,6 +9,12 @@ pub mod Rest
 pub mod Denials
 pub mod DenialLaws
 pub mod Given
+pub mod FoundLaws
+pub mod KnownSheets
+pub mod AllPlaces
+pub mod CellsUpdate
+pub mod RangeLaws
+pub mod AppendLaws
 pub mod Laws
 pub mod Answered
 pub mod Tables

@@ -12,3 +12,9 @@ pub record IsRowBehind {T : Type 0} (table : Table T) (row : ℕ) : Type 0 where
 pub record HoldsCell {T : Type 0} (table : Table T) (row : ℕ) : Type 0 where
   pub col : ℕ
   pub stored : IsStored table row col
+
+-- the row is before the end and holds a cell, and none behind it does before the end
+pub record IsLastRow {T : Type 0} (table : Table T) (end row : ℕ) : Type 0 where
+  pub holds : HoldsCell table row
+  pub there : row < end
+  pub last : (r c : ℕ) → IsStored table r c → r < end → r ≤ row

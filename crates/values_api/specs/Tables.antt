@@ -111,7 +111,8 @@ pub record IsGrown (stored : Stored) (rectangle grown : Rectangle) : Type 0 wher
   pub has_cells : HasCells grown
   pub fewer : lines_beside stored grown < lines_beside stored rectangle
   pub holds : LiesWithin rectangle grown
-  pub least : (other : Rectangle) → LiesWithin rectangle other → IsClosed (IsListed stored) other → LiesWithin grown other
+  pub least : (other : Rectangle) → LiesWithin rectangle other → IsClosed (IsListed stored) other
+      → LiesWithin grown other
 
 -- a line has one of the places from the one before `start` on as far as `end`
 pub record HasNear (places : List (ℕ × ℕ)) (line start end : ℕ) : Type 0 where

@@ -10,7 +10,7 @@ ghost use Rattle.values_api.specs.Appending.{IsAddedOn, AreAdded, CanAdd, IsPlan
 
 use crate::given::longest;
 use crate::table::{Rectangle, table_in};
-use crate::writing::{Written, write_values};
+use crate::writing::{WrittenCells, write_values};
 use cell_value::Block;
 use dimension_ops::{Book, Limit, Rule, RuleOr, Sheet, change_sheet};
 use grid_range::{Area, Axis, Band, Change};
@@ -58,7 +58,7 @@ pub fn append_values(
     area: &Area,
     insert: bool,
     block: &Block,
-) -> Result<(Option<Area>, Written), RuleOr>
+) -> Result<(Option<Area>, WrittenCells), RuleOr>
     requires { IsThere book.old.sheets area.now }
     ensures appended { IsSomeAnd (place_sheet_with area.now.sheet book.old.sheets)
         (λ sheet. IsUnlessNoMemory (IsAppend user.now insert area.now block.now sheet book.old book.new) result) }

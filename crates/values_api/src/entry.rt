@@ -40,7 +40,8 @@ pub(crate) fn entry(
 /// What a formula's text makes of a cell of the sheet.
 fn formula(alloc: Global, book: &Book, sheet: u32, text: &str) -> Result<Entry, NoMemory>
     requires there { IsSome (place_sheet_with sheet book.now.sheets) }
-    ensures entry { IfOk result (λ entry. IsFormulaEntry (formula_sheets book.now.sheets) sheet text.now (entry_of entry)) }
+    ensures entry { IfOk result
+        (λ entry. IsFormulaEntry (formula_sheets book.now.sheets) sheet text.now (entry_of entry)) }
     ensures within { IfOk result (λ entry. IfSome entry.0 (IsContentWithin book.now.sheets)) }
 {
     ids_find();

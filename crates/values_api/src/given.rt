@@ -117,7 +117,8 @@ impl<'a> Given<'a> {
         requires row { first_row self.now ≤ row }
         requires col { first_col self.now ≤ col }
         requires there { IsSome (place_sheet_with self.now.area.now.sheet book.now.sheets) }
-        requires given { IsSome (given_value (input_at self.now.block.now (row - first_row self.now) (col - first_col self.now))) }
+        requires given { IsSome
+            (given_value (input_at self.now.block.now (row - first_row self.now) (col - first_col self.now))) }
         ensures entry { IfOk result (λ entry. IsEntry (formula_sheets book.now.sheets) self.now.area.now.sheet
             (input_at self.now.block.now (row - first_row self.now) (col - first_col self.now)) (entry_of entry)) }
         ensures within { IfOk result (λ entry. IfSome entry.0 (IsContentWithin book.now.sheets)) }

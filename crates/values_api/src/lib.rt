@@ -34,4 +34,4 @@ pub use rest::empty_rest;
 pub use sheets::BookCells;
 pub use shown::{Shown, calculate_shown, read_values};
 pub use values::value_in;
-pub use writing::{Written, put_values, write_values};
+pub use writing::{WrittenCells, put_values, write_values};

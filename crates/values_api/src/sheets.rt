@@ -9,8 +9,8 @@ use grid_range::Area;
 use ref_rewrite::Content;
 use std::alloc::Global;
 
-/// A spreadsheet as its formulas see it: its sheets by title, their sizes and titles, what is stored in their cells, and
-/// its named ranges by name.
+/// A spreadsheet as its formulas see it: its sheets by title, their sizes and titles, what is stored in their cells,
+/// and its named ranges by name.
 #[derive(Drop)]
 pub struct BookCells<'a> {
     book: &'a Book,

@@ -115,7 +115,8 @@ impl<'a> Reading<'a> {
     /// The area line by line. Of the cells behind the last stored one of each line none is looked at.
     fn lines(&self) -> Result<Items<Items<Cell>>, NoMemory>
         requires { IsReadOfSheet self.now }
-        ensures { IfOk result (λ lines. lines ≡ lines_shown (cell_read self.now) (lines_read self.now) (length_read self.now)) }
+        ensures { IfOk result
+            (λ lines. lines ≡ lines_shown (cell_read self.now) (lines_read self.now) (length_read self.now)) }
     {
         let ends = self.ends()?;
         let mut lines = Vec::new(self.alloc);
@@ -181,7 +182,8 @@ impl<'a> Reading<'a> {
         requires row { row < height self.now.area.now self.now.sheet.now }
         requires col { col < width self.now.area.now self.now.sheet.now }
         ensures { IfOk result (λ cell. cell
-            ≡ cell_of (formula_sheets self.now.names.book.now.sheets) self.now.render self.now.area.now self.now.sheet.now
+            ≡ cell_of (formula_sheets self.now.names.book.now.sheets) self.now.render self.now.area.now
+            self.now.sheet.now
             (value_told self.now.area.now self.now.sheet.now (values_of self.now.table.now)) row col) }
     {
         let top = self.area.rows.first_line();
@@ -222,7 +224,8 @@ fn content_shown(
 ) -> Result<Cell, NoMemory>
     requires sound { IsSound names.now.book.now }
     requires within { IsContentWithin names.now.book.now.sheets content.now }
-    ensures { IfOk result (λ cell. cell ≡ cell_shown (formula_sheets names.now.book.now.sheets) render (Some content.now)
+    ensures { IfOk result
+        (λ cell. cell ≡ cell_shown (formula_sheets names.now.book.now.sheets) render (Some content.now)
         (value_by (Some content.now) value.now)) }
 {
     match content {

@@ -68,7 +68,8 @@ impl Stored {
         requires few { sheet.now.table.rows + sheet.now.table.cols ≤ most_lines }
         requires inside { HasItemsInside sheet.now.table }
         ensures stored { IfOk result AreStored }
-        ensures listed { IfOk result (λ stored. (row col : ℕ) → IsListed stored row col ↔ IsStored sheet.now.table row col) }
+        ensures listed { IfOk result
+            (λ stored. (row col : ℕ) → IsListed stored row col ↔ IsStored sheet.now.table row col) }
     {
         let whole = Area {
             sheet: sheet.id(),

@@ -23,7 +23,7 @@ const MOST_FORMULAS: u64 = 20_000;
 
 /// What a write did (Sheets API v4 reference, UpdateValuesResponse).
 #[derive(Debug, Drop)]
-pub struct Written {
+pub struct WrittenCells {
     /// The rectangle of the values.
     pub area: Area,
     /// The rows with a cell that was written or emptied, in order, counted from 0.
@@ -55,7 +55,7 @@ pub fn write_values(
     area: &Area,
     one_cell: bool,
     block: &Block,
-) -> Result<Written, RuleOr>
+) -> Result<WrittenCells, RuleOr>
     requires { IsThere book.old.sheets area.now }
     ensures written { IsSomeAnd (place_sheet_with area.now.sheet book.old.sheets) (λ sheet.
         IsUnlessNoMemory (IsWriteBy user.now one_cell area.now block.now sheet book.old book.new) result) }
@@ -80,7 +80,7 @@ pub fn put_values(
     area: &Area,
     one_cell: bool,
     block: &Block,
-) -> Result<Written, RuleOr>
+) -> Result<WrittenCells, RuleOr>
     requires { IsThere book.old.sheets area.now }
     ensures written { IsSomeAnd (place_sheet_with area.now.sheet book.old.sheets)
         (λ sheet. IsUnlessNoMemory (IsWrite one_cell area.now block.now sheet book.old book.new) result) }
@@ -120,7 +120,7 @@ pub(crate) fn ends(book: &Book, area: &Area, one_cell: bool) -> (u32, u32)
 }
 
 /// Writes the values as far as the ends.
-fn write(given: &Given<'_>, book: &mut Book) -> Result<Written, RuleOr>
+fn write(given: &Given<'_>, book: &mut Book) -> Result<WrittenCells, RuleOr>
     requires room { HasRoom given.now }
     requires sheet { IsWithinSheet book.old.sheets given.now }
     ensures { IsDoneOnSheet given.now book.old book.new result }
@@ -138,7 +138,7 @@ fn answer(
     book: &Book,
     cells: &[(u32, u32)],
     limit: Option<FormulaFault>,
-) -> Result<Written, RuleOr>
+) -> Result<WrittenCells, RuleOr>
     requires room { HasRoom given.now }
     requires cells { AreGiven given.now cells.now }
     ensures { IsUnlessNoMemory (IsAnswer given.now (value_listed cells.now given.now) limit book.now) result }
@@ -146,7 +146,7 @@ fn answer(
     if let Some(rule) = broken(limit, given.fits(), book) {
         return Err(RuleOr::Rule(rule));
     }
-    Ok(Written {
+    Ok(WrittenCells {
         area: given.rectangle(),
         rows: lines_on(given.alloc, Axis::Rows, cells)?,
         cols: lines_on(given.alloc, Axis::Columns, cells)?,

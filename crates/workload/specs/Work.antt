@@ -59,4 +59,5 @@ module _ (plain : List Entry → Ask → Outcome → Type 0) (limit : ℕ) where
 
   -- so many calls are told of in one way
   abbrev pub TellsOnce : (List Entry → ℕ → Type 0) → Type 0
-  TellsOnce cells = (calls : ℕ) (told other : WorkSummary) → Tells cells calls told → Tells cells calls other → told ≡ other
+  TellsOnce cells = (calls : ℕ) (told other : WorkSummary) → Tells cells calls told → Tells cells calls other
+      → told ≡ other

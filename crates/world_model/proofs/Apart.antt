@@ -23,7 +23,8 @@ nothing_there : {T : Type 0} (P : Type 0) (held : Option T) → (is_some held �
 nothing_there P None there out = refl
 nothing_there P (Some item) there out = absurd (out (there refl))
 
-module _ (tables : TablesByItems Content) (lists : ListsAreSame) (sheets : List NameSheet) (ones others : List PlaceSheet)
+module _ (tables : TablesByItems Content) (lists : ListsAreSame) (sheets : List NameSheet)
+    (ones others : List PlaceSheet)
     (stand : AllZip (SheetStandsFor sheets) ones sheets) (stand' : AllZip (SheetStandsFor sheets) others sheets) where
   module _ (one other : PlaceSheet) (names : NameSheet) (stands : SheetStandsFor sheets one names)
       (stands' : SheetStandsFor sheets other names) (sound : IsSheetSound ones one) (sound' : IsSheetSound others other)
@@ -92,7 +93,8 @@ module _ (tables : TablesByItems Content) (lists : ListsAreSame) (sheets : List 
       (λ k d there. filters' (suc k) d (omega arith)))
 
 -- the law
-pub stands_for_apart : TablesByItems Content → ListsAreSame → (one other : PlaceBook) (names : NameBook) → BookStandsFor one names
+pub stands_for_apart : TablesByItems Content → ListsAreSame → (one other : PlaceBook) (names : NameBook)
+    → BookStandsFor one names
     → BookStandsFor other names → one ≡ other
 stands_for_apart tables lists one other names stands stands' =
     ap (λ text. record one { id = text }) (stands.id ∙ sym stands'.id)
@@ -114,7 +116,8 @@ stands_for_apart tables lists one other names stands stands' =
     (ranges_apart names.sheets one.sheets other.sheets stands.sheets stands'.sheets one.ranges other.ranges
     stands.sound.ranges stands'.sound.ranges (sym stands.ranges ∙ stands'.ranges))
     ∙ ap (λ protections. record other { protections = protections; metadata = one.metadata })
-    (protections_apart names.sheets one.sheets other.sheets stands.sheets stands'.sheets one.protections other.protections
+    (protections_apart names.sheets one.sheets other.sheets stands.sheets stands'.sheets one.protections
+    other.protections
     stands.sound.protections stands'.sound.protections (sym stands.protections ∙ stands'.protections))
     ∙ ap (λ items. record other { metadata = items })
     (items_apart names.sheets one.sheets other.sheets stands.sheets stands'.sheets one.metadata other.metadata

@@ -41,10 +41,12 @@ with_named : (axis : Axis) (before after : Orders) (area : Area) (order : List �
     → after area.sheet axis ≡ order → after area.sheet (other_axis axis) ≡ before area.sheet (other_axis axis)
     → with_name_band axis (area_named before area) (band_named order band) ≡ area_named after (with_band axis area band)
 with_named Rows before after area order band own across =
-    same_area area.sheet order (after area.sheet Rows) (before area.sheet Columns) (after area.sheet Columns) band area.cols
+    same_area area.sheet order (after area.sheet Rows) (before area.sheet Columns) (after area.sheet Columns)
+    band area.cols
     own across
 with_named Columns before after area order band own across =
-    same_area area.sheet (before area.sheet Rows) (after area.sheet Rows) order (after area.sheet Columns) area.rows band
+    same_area area.sheet (before area.sheet Rows) (after area.sheet Rows) order (after area.sheet Columns)
+    area.rows band
     across own
 
 each_with_named : (axis : Axis) (before after : Orders) (area : Area) (order : List ℕ) (band : Option Band)
@@ -72,7 +74,8 @@ on_sheet axis count change order changed before after area follows =
     ap (λ band. option_map (with_name_band axis (area_named before area)) (follow order changed band))
     (named_on axis before area)
     ∙ ap (λ band. option_map (with_name_band axis (area_named before area)) band) follows.band
-    ∙ each_with_named axis before after area order (track_of (band_on axis area) count change) follows.own follows.across
+    ∙ each_with_named axis before after area order (track_of (band_on axis area) count change) follows.own
+    follows.across
 
 one_or_other : {A : Type 0} (b : Bool) (one other one' other' : A) → (b ≡ true → one ≡ one')
     → (b ≡ false → other ≡ other') → cond b one other ≡ cond b one' other'
@@ -94,7 +97,8 @@ area_follows to count change before after area here elsewhere =
     (λ is. on_sheet to.axis count change to.order to.changed before after area (here is))
     (λ is. ap Some (same_area area.sheet (before area.sheet Rows) (after area.sheet Rows) (before area.sheet Columns)
     (after area.sheet Columns) area.rows area.cols (elsewhere is Rows) (elsewhere is Columns)))
-    ∙ sym (mapped (area.sheet == to.sheet) (option_map (with_band to.axis area) (track_of (band_on to.axis area) count change)) (Some area))
+    ∙ sym (mapped (area.sheet == to.sheet)
+    (option_map (with_band to.axis area) (track_of (band_on to.axis area) count change)) (Some area))
   where
     mapped : (b : Bool) (one other : Option Area) → option_map (area_named after) (cond b one other)
         ≡ cond b (option_map (area_named after) one) (option_map (area_named after) other)

@@ -32,7 +32,8 @@ pub length-range : (order : List ℕ) (start end : ℕ) → end ≤ length order
 length-range order start end there =
     length-take-le (end - start) (drop start order) (omega (arith, length-drop start order))
 
-first-range : (order : List ℕ) (start end : ℕ) → start < end → get_or (slice_range order start end) 0 0 ≡ get_or order (start + 0) 0
+first-range : (order : List ℕ) (start end : ℕ) → start < end → get_or (slice_range order start end) 0 0
+    ≡ get_or order (start + 0) 0
 first-range order start end some =
     get_or-take (end - start) (drop start order) 0 0 (omega arith) ∙ get_or-drop start order 0 0
 

@@ -148,7 +148,8 @@ stands_for_some book sound =
         owner = refl;
         sheets = sheets_stand orders names.sheets book.sheets book.sheets (same_orders orders book.sheets) sound.sheets;
         ranges = ap (λ orders. map (range_named orders) book.ranges) (sym (same_orders orders book.sheets));
-        protections = ap (λ orders. map (protection_named orders) book.protections) (sym (same_orders orders book.sheets));
+        protections =
+            ap (λ orders. map (protection_named orders) book.protections) (sym (same_orders orders book.sheets));
         metadata = ap (λ orders. map (item_named orders) book.metadata) (sym (same_orders orders book.sheets));
       },
     )

@@ -236,7 +236,8 @@ module _ (tracks : TracksAll) (places : PlacesAll) (orders_stay : OrdersStay) (p
 
       -- the sheet that is changed is the one with the id
       own_order : (names.id == id) ≡ true → before id axis ≡ lines_of names axis
-      own_order is = ap (λ n. before n axis) (sym (eqb-true names.id id is)) ∙ lines_there sheets names.id axis names own
+      own_order is = ap (λ n. before n axis) (sym (eqb-true names.id id is))
+          ∙ lines_there sheets names.id axis names own
 
       is_changed : (names.id == id) ≡ true → GoesWithLines axis change sheet.table changed.moved
       is_changed is = changed.goes (stands.id ∙ eqb-true names.id id is)
@@ -274,7 +275,8 @@ module _ (tracks : TracksAll) (places : PlacesAll) (orders_stay : OrdersStay) (p
           holds_where_moved change sheet.table changed.moved axis (is_changed is) (IsContentWithin placed) sound.within
           row col (item_at changed.moved row col) refl
       within false is row col =
-          subst (λ table. IfSome (item_at table row col) (IsContentWithin placed)) (sym (is_another is)) (sound.within row col)
+          subst (λ table. IfSome (item_at table row col) (IsContentWithin placed)) (sym (is_another is))
+          (sound.within row col)
 
       cells_follow : (row col r c : ℕ) → slice_get now.rows row ≡ Some r → slice_get now.cols col ≡ Some c
           → now.cells r c ≡ option_map (content_named after) (item_at sheet'.table row col)
@@ -300,7 +302,8 @@ module _ (tracks : TracksAll) (places : PlacesAll) (orders_stay : OrdersStay) (p
           let sizes = size_moved change sheet.table changed.moved axis (is_changed is) in
           on_both (λ on. lines_on on changed.moved.rows changed.moved.cols ≡ length (lines_of now on)) axis on
           (sizes.0
-          ∙ ap (count_after change) (as_long sheets sheet names axis stands ∙ ap length (sym (own_order is)) ∙ made.long)
+          ∙ ap (count_after change)
+          (as_long sheets sheet names axis stands ∙ ap length (sym (own_order is)) ∙ made.long)
           ∙ sym (count_after_change change count (before id axis) fresh to.order made)
           ∙ ap length (sym (followed_here to names is)))
           (sizes.1 ∙ as_long sheets sheet names (other_axis axis) stands ∙ ap length (sym (followed_across to names)))
@@ -453,7 +456,8 @@ module _ (tracks : TracksAll) (places : PlacesAll) (orders_stay : OrdersStay) (p
 -- the law
 module _ (tracks : TracksAll) (places : PlacesAll) (orders_stay : OrdersStay) (within : TracksStayWithin)
     (below : PlacesStayBelow) (stay : FollowedStayMerges) where
-  pub changes_follow : (before after : PlaceBook) (names : NameBook) (id : ℕ) (axis : Axis) (count : ℕ) (change : Change)
+  pub changes_follow : (before after : PlaceBook) (names : NameBook) (id : ℕ) (axis : Axis) (count : ℕ)
+      (change : Change)
       (fresh order : List ℕ) → BookStandsFor before names
       → Fits change count → IsLineCount axis (count_after change count)
       → Changes change count (orders_of names.sheets id axis) fresh order
@@ -478,18 +482,21 @@ module _ (tracks : TracksAll) (places : PlacesAll) (orders_stay : OrdersStay) (w
         id = changed.id ∙ stands.id;
         title = changed.title ∙ stands.title;
         owner = changed.owner ∙ stands.owner;
-        sheets = sheets_follow tracks places orders_stay before.sheets names.sheets stands.sheets id axis count change fresh fits
+        sheets = sheets_follow tracks places orders_stay before.sheets names.sheets stands.sheets id axis count
+            change fresh fits
             made before.sheets after.sheets names.sheets stands.sheets
             (own_sheets before.sheets names.sheets stands.sheets stands.sound.distinct) stands.sound.sheets
             (merges_on before.sheets before.sheets stands.sound.distinct stands.sound.sheets)
             (filters_on before.sheets before.sheets stands.sound.distinct stands.sound.sheets) changed.sheets
             (λ k d there. (sound.sheets k d there).merges);
         ranges = ap (filter_map (name_range_followed to)) stands.ranges
-            ∙ named_follow tracks places orders_stay before.sheets names.sheets stands.sheets id axis count change fresh fits
+            ∙ named_follow tracks places orders_stay before.sheets names.sheets stands.sheets id axis count
+            change fresh fits
             made before.ranges stands.sound.ranges
             ∙ ap (map (range_named (orders_of (map (sheet_followed to) names.sheets)))) (sym changed.ranges);
         protections = ap (filter_map (name_protection_followed to)) stands.protections
-            ∙ protected_follow tracks places orders_stay before.sheets names.sheets stands.sheets id axis count change fresh
+            ∙ protected_follow tracks places orders_stay before.sheets names.sheets stands.sheets id axis count
+            change fresh
             fits made before.protections stands.sound.protections
             ∙ ap (map (protection_named (orders_of (map (sheet_followed to) names.sheets)))) (sym changed.protections);
         metadata = ap (filter_map (name_item_followed to)) stands.metadata

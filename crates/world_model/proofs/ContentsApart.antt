@@ -34,7 +34,8 @@ pub record IsInOrders (orders : Orders) (area : Area) : Type 0 where
 pub in_orders : (sheets : List NameSheet) (placed : List PlaceSheet) (area : Area)
     → AllZip (SheetStandsFor sheets) placed sheets → IsOnSheet placed area → IsInOrders (orders_of sheets) area
 in_orders sheets placed area all on =
-    let found = found_by_name sheets (λ sheet. AreaWithin area sheet.table.rows sheet.table.cols) area.sheet placed sheets
+    let found =
+    found_by_name sheets (λ sheet. AreaWithin area sheet.table.rows sheet.table.cols) area.sheet placed sheets
     all on in
     let rows = lines_there sheets area.sheet Rows found.names found.is in
     let cols = lines_there sheets area.sheet Columns found.names found.is in
@@ -45,7 +46,8 @@ in_orders sheets placed area all on =
       cols = subst (Within area.cols) (found.stands.cols ∙ ap length (sym cols)) found.holds.1;
     }
 
-area_of_same : (one other : Area) → one.sheet ≡ other.sheet → one.rows ≡ other.rows → one.cols ≡ other.cols → one ≡ other
+area_of_same : (one other : Area) → one.sheet ≡ other.sheet → one.rows ≡ other.rows → one.cols ≡ other.cols
+    → one ≡ other
 area_of_same one other sheet rows cols =
     ap (λ n. record one { sheet = n }) sheet
     ∙ ap (λ band. record one { sheet = other.sheet; rows = band }) rows
@@ -216,7 +218,8 @@ module _ (sheets : List NameSheet) (ones others : List PlaceSheet) (stand : AllZ
       (same_Some (map named formula.pieces) (map named other.pieces) (ap pieces_of same)))
 
   -- or nothing
-  pub same_held : (one other : Option Content) → IfSome one (IsContentWithin ones) → IfSome other (IsContentWithin others)
+  pub same_held : (one other : Option Content) → IfSome one (IsContentWithin ones)
+      → IfSome other (IsContentWithin others)
       → option_map (content_named orders) one ≡ option_map (content_named orders) other → one ≡ other
   same_held None None within within' same = refl
   same_held None (Some other) within within' same = absurd (none-some (content_named orders other) same)

@@ -2,14 +2,15 @@
 use Rattle.std.proofs.Common.{◌≡◌, ℕ, ◌+◌, ◌≤◌, refl, sym, ap, subst, ◌∙◌, Bool, true, false, cond, T, List, [], ◌∷◌, map, arith, ◌&&◌}
 use Rattle.std.specs.Prelude.{Option, None, Some}
 use Rattle.std.specs.List.{count_by}
-use Rattle.std.specs.Ordering.{nat_cmp, eq_by_cmp, is_eq, is_lt, ordering_then}
+use Rattle.std.specs.Ordering.{eq_by_cmp, is_eq, is_lt}
 use Rattle.std.specs.declared.cmp.Ordering.TheVariants.{Less, Equal, Greater}
-use Rattle.std.specs.Cmp.{ranked, tied_itself}
+use Rattle.std.specs.Cmp.{tied_itself}
 use Rattle.std.specs.FinMap as finite
 use Rattle.std.specs.FinMap.Entries.{find, put, by_order, is_sorted, below_all}
 use Rattle.std.proofs.lemmas.List.{length-map}
 use Rattle.std.proofs.lemmas.List.Sums.{sum_by-cons, count_by-le-length}
 use Rattle.grid_range.specs.Area.{by_rows}
+use Rattle.grid_range.specs.ByRows.{by_rows_total, by_rows_exact}
 use Rattle.cell_store.specs.Table.{Table, filled_places, item_at, empty_table}
 use Rattle.ref_rewrite.specs.declared.cell_content.Content.{Content}
 use Rattle.ref_rewrite.specs.declared.cell_content.Content.TheVariants as content
@@ -17,7 +18,6 @@ use Rattle.world_model.specs.Counts.{is_formula, formulas_at, formulas_in, formu
 use Rattle.world_model.specs.Sheet.{PlaceSheet}
 use Rattle.world_model.specs.Writing.{table_written}
 use Rattle.world_model.proofs.Filled.{first_part, second_part, is_less}
-use Rattle.world_model.proofs.Puts.{by_rows_total}
 
 abbrev Entries : Type 0
 Entries = List ((ℕ × ℕ) × Content)
@@ -98,22 +98,10 @@ put_counted cells place item =
     (finite.get-entries cells place)
     ∙ among-put place item (finite.entries cells) (finite.entries_sorted cells)
 
--- places that tie are one
-by_rows_same : finite.IsAntisymmetric by_rows
-by_rows_same one other same =
-    elim (nat_cmp one.0 other.0) as (λ o. nat_cmp one.0 other.0 ≡ o → ordering_then o (nat_cmp one.1 other.1) ≡ Equal
-    → one ≡ other) [
-      | Less ↦ λ is right. absurd (subst (λ o. T (is_eq o)) (sym right) tt)
-      | Equal ↦ λ is right.
-          ap (λ row. (row, one.1)) (ranked one.0 other.0 Equal (sym is))
-          ∙ ap (λ col. (other.0, col)) (ranked one.1 other.1 Equal (sym right))
-      | Greater ↦ λ is right. absurd (subst (λ o. T (is_eq o)) (sym right) tt)
-    ] refl same
-
 -- what is taken out and put back is put over
 put_back : (cells : finite.FinMap by_rows Content) (place : ℕ × ℕ) (item : Content)
     → finite.insert (finite.remove cells place) place item ≡ finite.insert cells place item
-put_back cells place item = finite.same_map by_rows_total by_rows_same
+put_back cells place item = finite.same_map by_rows_total by_rows_exact
     (finite.insert (finite.remove cells place) place item) (finite.insert cells place item) (λ q.
     finite.get-insert by_rows_total (finite.remove cells place) place item q
     ∙ ap (cond (eq_by_cmp by_rows q place) (Some item)) (finite.get-remove by_rows_total cells place q)

@@ -35,7 +35,8 @@ module _ {A : Type 0} (number : A → ℕ) where
       → All (λ thing. find (λ other. number other == number thing) things ≡ Some thing) things
   each_found [] distinct k d there = absurd (omega arith)
   each_found (t ∷ ts) distinct zero d there =
-      found_here (number t == number t) t (find (λ other. number other == number t) ts) (eq-eqb (number t) (number t) refl)
+      found_here (number t == number t) t (find (λ other. number other == number t) ts)
+      (eq-eqb (number t) (number t) refl)
   each_found (t ∷ ts) distinct (suc k) d there =
       let thing = get_or ts k d in
       found_behind (number t == number thing) t thing (find (λ other. number other == number thing) ts)

@@ -121,7 +121,8 @@ module _ (at more : ℕ) where
   name_before true order order' line name is distinct band within has =
       has_name order distinct line name is.stood band within
       (line_before band line (has_line order' (is.distinct distinct) (start_opened at more line) name is.stands
-      (band_opened band) (subst (Within (band_opened band)) (sym is.long) (within_then band (length order) within)) has))
+      (band_opened band)
+      (subst (Within (band_opened band)) (sym is.long) (within_then band (length order) within)) has))
   name_before false order order' line name is distinct band within has =
       has_name order distinct line name is.stood band within
       (has_line order' (is.distinct distinct) line name is.stands band (subst (Within band) (sym is.long) within) has)
@@ -138,7 +139,8 @@ module _ (at more : ℕ) where
     abbrev area_opened : Area → Area
     area_opened area = cond (area.sheet == sheet) (with_band axis area (band_opened (band_on axis area))) area
 
-    sheet_kept : (axis : Axis) (b : Bool) (area : Area) (band : Band) → (cond b (with_band axis area band) area).sheet ≡ area.sheet
+    sheet_kept : (axis : Axis) (b : Bool) (area : Area) (band : Band) → (cond b (with_band axis area band) area).sheet
+        ≡ area.sheet
     sheet_kept axis false area band = refl
     sheet_kept Rows true area band = refl
     sheet_kept Columns true area band = refl
@@ -160,7 +162,8 @@ module _ (at more : ℕ) where
       where
         either : (b : Bool) → option_map (with_band axis area) (track_of (band_on axis area) count (Insert at more))
             ≡ Some (with_band axis area (band_opened (band_on axis area)))
-            → cond b (option_map (with_band axis area) (track_of (band_on axis area) count (Insert at more))) (Some area)
+            → cond b
+            (option_map (with_band axis area) (track_of (band_on axis area) count (Insert at more))) (Some area)
             ≡ Some (cond b (with_band axis area (band_opened (band_on axis area))) area)
         either true is = is
         either false is = refl
@@ -170,7 +173,8 @@ module _ (at more : ℕ) where
       IsOpenedOn on line name = IsOpened ((id == sheet) && is_on axis on) (before id on) (after id on) line name
 
       module _ (on : Axis) (line name : ℕ) (is : IsOpenedOn on line name) (area : Area) (same : area.sheet ≡ id)
-          (distinct : IsOrder (before area.sheet on)) (within : Within (band_on on area) (length (before area.sheet on))) where
+          (distinct : IsOrder (before area.sheet on))
+          (within : Within (band_on on area) (length (before area.sheet on))) where
         own_distinct : IsOrder (before id on)
         own_distinct = subst (λ n. IsOrder (before n on)) same distinct
 
@@ -205,14 +209,16 @@ module _ (at more : ℕ) where
       -- the cell is in the area afterwards just where it was
       module _ (row col r c : ℕ) (rows : IsOpenedOn Rows row r) (cols : IsOpenedOn Columns col c) (area : Area)
           (within : IsInOrders before area) where
-        covers_then : CoversCell id r c (area_named before area) → CoversCell id r c (area_named after (area_opened area))
+        covers_then : CoversCell id r c (area_named before area)
+            → CoversCell id r c (area_named after (area_opened area))
         covers_then covers = (
           sheet_kept axis (area.sheet == sheet) area (band_opened (band_on axis area)) ∙ covers.0,
           on_then Rows row r rows area covers.0 within.distinct_rows within.rows covers.1,
           on_then Columns col c cols area covers.0 within.distinct_cols within.cols covers.2,
         )
 
-        covers_before : CoversCell id r c (area_named after (area_opened area)) → CoversCell id r c (area_named before area)
+        covers_before : CoversCell id r c (area_named after (area_opened area))
+            → CoversCell id r c (area_named before area)
         covers_before covers =
             let same : area.sheet ≡ id =
             sym (sheet_kept axis (area.sheet == sheet) area (band_opened (band_on axis area))) ∙ covers.0 in (
@@ -240,7 +246,8 @@ module _ (tracks : TracksAll) (places : PlacesAll) (orders_stay : OrdersStay) (p
   follow_is : (area : Area) → IsOnSheet placed area
       → name_area_followed to (area_named before area) ≡ Some (area_named after (area_opened at more sheet axis area))
   follow_is area on =
-      (areas tracks places orders_stay placed sheets all sheet axis count (Insert at more) fresh fits made).follow area on
+      (areas tracks places orders_stay placed sheets all sheet axis count (Insert at more) fresh fits
+      made).follow area on
       ∙ ap (option_map (area_named after)) (area_tracked at more sheet axis count area)
 
   module _ (id : ℕ) (found : NameSheet) (is : sheet_with id sheets ≡ Some found) where
@@ -326,7 +333,8 @@ module _ (tracks : TracksAll) (places : PlacesAll) (orders_stay : OrdersStay) (p
       then_covers : (area : Area) → IsOnSheet placed area → CoversCell id r c (area_named before area)
           → CoversCell id r c (area_named after (area_opened at more sheet axis area))
       then_covers area on =
-          covers_then at more sheet axis before after id row col r c (opened Rows row r at_row) (opened Columns col c at_col)
+          covers_then at more sheet axis before after id row col r c (opened Rows row r at_row)
+          (opened Columns col c at_col)
           area (in_orders sheets placed area all on)
 
       covered_before : (area : Area) → IsOnSheet placed area
@@ -358,13 +366,15 @@ module _ (tracks : TracksAll) (places : PlacesAll) (orders_stay : OrdersStay) (p
         not_owner = keeps.not_owner;
       }
 
-      protected_then : (user owner : List ℕ) (protections : List Protection) → All (IsProtectionWithin placed) protections
+      protected_then : (user owner : List ℕ) (protections : List Protection)
+          → All (IsProtectionWithin placed) protections
           → Any (KeepsOff user owner id r c) (map (protection_named before) protections)
           → Any (KeepsOff user owner id r c)
           (filter_map (name_protection_followed to) (map (protection_named before) protections))
       protected_then user owner protections within (k, named, there, is, keeps) =
           let (one, has, same) = Contains-map_from (protection_named before) protections named (k, there, is) in
-          let own : IsProtectionWithin placed one = All-contains (IsProtectionWithin placed) protections one within has in
+          let own : IsProtectionWithin placed one =
+          All-contains (IsProtectionWithin placed) protections one within has in
           let (place, inside, found) =
           Contains-filter_map (name_protection_followed to) (map (protection_named before) protections) named
           (then_named one) (k, there, is) (ap (name_protection_followed to) (sym same) ∙ follows one own) in (
@@ -382,7 +392,8 @@ pub inserts_keep_protected : TracksAll → PlacesAll → OrdersStay → (book : 
     (λ found. Fits (Insert at inserted) (lines_on axis found.table.rows found.table.cols))
     → HasCell id row col named.book → IsProtected user named.book id row col
     → IsProtected user (changed_by named (BookChange.LinesChanged sheet axis (Insert at inserted))).book id row col
-inserts_keep_protected tracks places orders_stay book named user sheet axis at inserted id row col is fits cell protected =
+inserts_keep_protected tracks places orders_stay book named user sheet axis at inserted id row col is fits
+    cell protected =
     on_found (sheet_with id named.book.sheets) refl cell
   where
     on_found : (cell_sheet : Option NameSheet) → sheet_with id named.book.sheets ≡ cell_sheet
@@ -406,9 +417,11 @@ inserts_keep_protected tracks places orders_stay book named user sheet axis at i
         (filter_map (name_protection_followed (line_change sheets sheet axis
         (order_change (Insert at inserted) (range_with_len named.next inserted)))) all)) (sym is.stands.protections)
         (protected_then tracks places orders_stay book.sheets sheets is.stands.sheets sheet axis at inserted
-        (lines_on axis here.sheet.table.rows here.sheet.table.cols) (range_with_len named.next inserted) here.holds made id
+        (lines_on axis here.sheet.table.rows here.sheet.table.cols) (range_with_len named.next inserted)
+        here.holds made id
         own found r c row col
-        (ap (λ order. slice_get order r) (lines_there sheets id Rows own found) ∙ slice_get-get_or own.rows r row below_rows
+        (ap (λ order. slice_get order r) (lines_there sheets id Rows own found)
+        ∙ slice_get-get_or own.rows r row below_rows
         ∙ ap Some is_row)
         (ap (λ order. slice_get order c) (lines_there sheets id Columns own found)
         ∙ slice_get-get_or own.cols c col below_cols ∙ ap Some is_col)

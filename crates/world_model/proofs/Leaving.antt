@@ -1,9 +1,9 @@
 -- Cells that changes of a spreadsheet leave.
-use Rattle.std.proofs.Common.{◌≡◌, ◌≢◌, ℕ, zero, suc, refl, sym, ap, subst, ◌∙◌, List, [], ◌∷◌, ◌++◌, cond, Bool, true, false}
-use Rattle.std.specs.Prelude.{Option, Some, None, Contains, IfSome, IsSomeAnd, ◌==◌, map, filter, not, take, drop, unwrap_or, option_and_then}
+use Rattle.std.proofs.Common.{◌≡◌, ℕ, refl, sym, ap, subst, ◌∙◌, List, [], ◌∷◌, cond, Bool, true, false}
+use Rattle.std.specs.Prelude.{Option, Some, None, Contains, IfSome, IsSomeAnd, ◌==◌, map, not, unwrap_or, option_and_then}
 use Rattle.std.specs.List.{range_with_len}
 use Rattle.std.specs.Option.{option_map}
-use Rattle.std.proofs.lemmas.Bool.{eqb-true, eq-eqb, false≢true, false_from_ne_true}
+use Rattle.std.proofs.lemmas.Bool.{eqb-true, eq-eqb, false≢true}
 use Rattle.grid_range.specs.Change.{inserted_lines, order_change}
 use Rattle.world_model.specs.Area.{NameArea, Orders, area_named}
 use Rattle.world_model.specs.Book.{orders_of, sheet_with}
@@ -15,56 +15,19 @@ use Rattle.world_model.specs.Filters.{NameFilter, filter_named}
 use Rattle.world_model.specs.LineChange.{LineChange, line_change, name_content_followed, sheet_followed}
 use Rattle.world_model.specs.Sheet.{NameSheet}
 use Rattle.world_model.specs.Leaving.{HasCell, LeaveInTurn, Leaves, cell_of, content_kept, content_kept_by_all}
+use Rattle.world_model.specs.SheetFound.{find_beside, find_kept, find_left, not_found, others}
 use Rattle.world_model.specs.Updating.{Updates, sheet_updated, update_named}
 use Rattle.world_model.proofs.Changed.{both_listed}
-use Rattle.world_model.proofs.Inserted.{find-inserted}
-use Rattle.world_model.proofs.SheetDeleted.{find-others}
 use Rattle.world_model.proofs.Orders.{followed_cells, followed_id}
 
 -- ---- the sheet that is found
-
-chosen_kept : (changed : NameSheet → NameSheet) (b : Bool) (sheet : NameSheet) (later found : Option NameSheet)
-    → later ≡ option_map changed found
-    → cond b (Some (changed sheet)) later ≡ option_map changed (cond b (Some sheet) found)
-chosen_kept changed true sheet later found same = refl
-chosen_kept changed false sheet later found same = same
-
--- what keeps each sheet's id keeps which one is found
-find_kept : (changed : NameSheet → NameSheet) → ((sheet : NameSheet) → (changed sheet).id ≡ sheet.id) → (id : ℕ)
-    (sheets : List NameSheet) → sheet_with id (map changed sheets) ≡ option_map changed (sheet_with id sheets)
-find_kept changed same id [] = refl
-find_kept changed same id (sheet ∷ sheets) =
-    ap (λ found. cond (found == id) (Some (changed sheet)) (sheet_with id (map changed sheets))) (same sheet)
-    ∙ chosen_kept changed (sheet.id == id) sheet (sheet_with id (map changed sheets)) (sheet_with id sheets)
-    (find_kept changed same id sheets)
-
-not_found : (b : Bool) (sheet : NameSheet) (found : Option NameSheet) → b ≡ false → cond b (Some sheet) found ≡ found
-not_found true sheet found is = absurd (false≢true (sym is))
-not_found false sheet found is = refl
-
-other_id : (one id : ℕ) → one ≢ id → (one == id) ≡ false
-other_id one id apart = false_from_ne_true (one == id) (λ is. apart (eqb-true one id is))
-
--- a sheet with another id isn't found
-find_beside : (new : NameSheet) (id : ℕ) → new.id ≢ id → (at : ℕ) (sheets : List NameSheet)
-    → sheet_with id (take at sheets ++ new ∷ drop at sheets) ≡ sheet_with id sheets
-find_beside new id apart at sheets =
-    find-inserted (λ (one : NameSheet). one.id == id) at new sheets (other_id new.id id apart)
-
--- the others than the sheet that is deleted
-abbrev others : ℕ → List NameSheet → List NameSheet
-others gone sheets = filter (λ sheet. not (sheet.id == gone)) sheets
-
--- they are found
-find_left : (gone id : ℕ) (sheets : List NameSheet) → id ≢ gone
-    → sheet_with id (others gone sheets) ≡ sheet_with id sheets
-find_left gone id sheets apart = find-others (λ (one : NameSheet). one.id) gone id (other_id id gone apart) sheets
 
 none_one : (gone : ℕ) (sheet : NameSheet) (sheets : List NameSheet) → sheet_with gone (others gone sheets) ≡ None
     → (b : Bool) → (sheet.id == gone) ≡ b
     → sheet_with gone (cond (not b) (sheet ∷ others gone sheets) (others gone sheets)) ≡ None
 none_one gone sheet sheets rest true is = rest
-none_one gone sheet sheets rest false is = not_found (sheet.id == gone) sheet (sheet_with gone (others gone sheets)) is ∙ rest
+none_one gone sheet sheets rest false is =
+    not_found (sheet.id == gone) sheet (sheet_with gone (others gone sheets)) is ∙ rest
 
 -- and it isn't
 none_left : (gone : ℕ) (sheets : List NameSheet) → sheet_with gone (others gone sheets) ≡ None
@@ -79,7 +42,8 @@ cell_kept : (kept : NameContent → NameContent) (row col : ℕ) (found found' :
     → IfSome found (λ sheet. (changed sheet).cells row col ≡ option_map kept (sheet.cells row col))
     → option_and_then (λ sheet. sheet.cells row col) found'
     ≡ option_map kept (option_and_then (λ sheet. sheet.cells row col) found)
-cell_kept kept row col None found' changed is holds = ap (option_and_then (λ (sheet : NameSheet). sheet.cells row col)) is
+cell_kept kept row col None found' changed is holds =
+    ap (option_and_then (λ (sheet : NameSheet). sheet.cells row col)) is
 cell_kept kept row col (Some sheet) found' changed is holds =
     ap (option_and_then (λ (sheet : NameSheet). sheet.cells row col)) is ∙ holds
 
@@ -166,7 +130,8 @@ updated_found orders changed updates id row col sheets leaves =
 deleted_cell : (sheets : List NameSheet) (gone id row col : ℕ) (b : Bool) → (id == gone) ≡ b
     → IsSomeAnd (sheet_with id (map (without_references gone) (others gone sheets)))
     (λ sheet. Contains sheet.rows row × Contains sheet.cols col)
-    → option_and_then (λ sheet. sheet.cells row col) (sheet_with id (map (without_references gone) (others gone sheets)))
+    → option_and_then (λ sheet. sheet.cells row col)
+    (sheet_with id (map (without_references gone) (others gone sheets)))
     ≡ option_map (name_content_without gone) (option_and_then (λ sheet. sheet.cells row col) (sheet_with id sheets))
 deleted_cell sheets gone id row col true is there = absurd (subst
     (λ found. IsSomeAnd found (λ sheet. Contains sheet.rows row × Contains sheet.cols col))
@@ -199,7 +164,8 @@ one_stays named (LinesChanged sheet axis change) id row col leaves there =
     let same = find_kept (sheet_followed to) (followed_id to) id named.book.sheets in
     cell_kept (name_content_followed to) row col (sheet_with id named.book.sheets) _ (sheet_followed to) same
     (if_both (sheet_with id named.book.sheets)
-    (cell_found id row col (map (sheet_followed to) named.book.sheets) (sheet_with id named.book.sheets) (sheet_followed to)
+    (cell_found id row col (map (sheet_followed to) named.book.sheets) (sheet_with id named.book.sheets)
+    (sheet_followed to)
     same there) (λ one both. followed_cell to one row col both.0 both.1))
 one_stays named (SheetAdded at sheet) id row col leaves there =
     ap (option_and_then (λ (one : NameSheet). one.cells row col))
@@ -217,7 +183,8 @@ one_stays named (SheetHidden sheet hidden) id row col leaves there =
     let changed : NameSheet → NameSheet = λ one. cond (one.id == sheet) (marked_hidden hidden one) one in
     cell_kept (λ content. content) row col (sheet_with id named.book.sheets) _ changed
     (find_kept changed (λ one. id_if (one.id == sheet) (marked_hidden hidden one) one refl) id named.book.sheets)
-    (if_some (sheet_with id named.book.sheets) (λ one. cell_if (one.id == sheet) (marked_hidden hidden one) one row col refl
+    (if_some (sheet_with id named.book.sheets)
+    (λ one. cell_if (one.id == sheet) (marked_hidden hidden one) one row col refl
     ∙ kept_as_is (one.cells row col)))
 one_stays named (MergesSet sheet merges) id row col leaves there =
     let by_names : List NameArea = map (area_named (orders_of named.book.sheets)) merges in
@@ -256,6 +223,7 @@ pub all_stay : (named : Named) (changes : List BookChange) (id row col : ℕ) �
 all_stay named [] id row col there leave = kept_as_is (cell_of id row col named.book)
 all_stay named (change ∷ changes) id row col there (leaves, still, later) =
     all_stay (changed_by named change) changes id row col still later
-    ∙ ap (option_map (content_kept_by_all (changed_by named change) changes)) (one_stays named change id row col leaves still)
+    ∙ ap (option_map (content_kept_by_all (changed_by named change) changes))
+    (one_stays named change id row col leaves still)
     ∙ map_twice (content_kept named change) (content_kept_by_all (changed_by named change) changes)
     (cell_of id row col named.book)

@@ -45,7 +45,8 @@ module _ (f : NameSheet → NameSheet) (keeps : KeepsLines f) where
       ∙ lines_stay (sheet_with id sheets) axis))
 
 -- the lines of a sheet that is there
-pub lines_there : (sheets : List NameSheet) (id : ℕ) (axis : Axis) (sheet : NameSheet) → sheet_with id sheets ≡ Some sheet
+pub lines_there : (sheets : List NameSheet) (id : ℕ) (axis : Axis) (sheet : NameSheet) → sheet_with id sheets
+    ≡ Some sheet
     → orders_of sheets id axis ≡ lines_of sheet axis
 lines_there sheets id axis sheet is = ap (λ found. option_map_or (λ sheet. lines_of sheet axis) found []) is
 

@@ -98,7 +98,8 @@ AllZip-behind [] (m ∷ ms) book names all one = absurd all
 AllZip-behind (b ∷ bs) [] book names all one = absurd all
 AllZip-behind (b ∷ bs) (m ∷ ms) book names all one = (all.0, AllZip-behind bs ms book names all.1 one)
 
-below_later : (first later : ℕ) (names : NameBook) → first ≤ later → HasNamesBelow first names → HasNamesBelow later names
+below_later : (first later : ℕ) (names : NameBook) → first ≤ later → HasNamesBelow first names
+    → HasNamesBelow later names
 below_later first later names less called k d there = (
   λ i e inside. let below = (called k d there).0 i e inside in omega (arith, below, less),
   λ i e inside. let below = (called k d there).1 i e inside in omega (arith, below, less),
@@ -111,7 +112,8 @@ all_below first later [] names less all one (suc k) d there = absurd (let no : �
 all_below first later (m ∷ ms) names less all one zero d there =
     below_later first later m less (all zero d (omega arith))
 all_below first later (m ∷ ms) names less all one (suc k) d there =
-    all_below first later ms names less (λ i e inside. all (suc i) e (omega (arith, inside))) one k d (omega (arith, there))
+    all_below first later ms names less (λ i e inside. all (suc i) e (omega (arith, inside))) one k d
+    (omega (arith, there))
 
 pub added_behind : (books : List PlaceBook) (world : NameWorld) (book : PlaceBook) (named : Named)
     → WorldStandsFor books world → NamedStandsFor book named → world.next ≤ named.next

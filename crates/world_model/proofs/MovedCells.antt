@@ -61,7 +61,8 @@ module _ {T N : Type 0} (order after : List ℕ) (goes : ℕ → Option ℕ) (na
       moves.stored old name (own ∙ ap Some same) ∙ ap (option_map named) held
 
   -- where no item came, the line had none
-  left_empty : (place name old : ℕ) (held : Option T) → slice_get after place ≡ Some name → slice_get order old ≡ Some name
+  left_empty : (place name old : ℕ) (held : Option T) → slice_get after place ≡ Some name
+      → slice_get order old ≡ Some name
       → before old ≡ held → moved place ≡ None → option_map named held ≡ None
   left_empty place name old None at own is none = refl
   left_empty place name old (Some item) at own is none =

@@ -35,14 +35,18 @@ pub record LinesGo (change : Change) (order after : List ℕ) : Type 0 where
 row_gone : (gone : Option ℕ) (side row col : ℕ) → option_map {U = ℕ × ℕ} (λ line. (line, side)) gone ≡ Some (row, col)
     → (gone ≡ Some row) × (side ≡ col)
 row_gone None side row col goes = absurd (none-some (row, col) goes)
-row_gone (Some line) side row col goes =
-    (ap (λ (p : ℕ × ℕ). Some p.0) (same_Some (line, side) (row, col) goes), ap (λ (p : ℕ × ℕ). p.1) (same_Some (line, side) (row, col) goes))
+row_gone (Some line) side row col goes = (
+  ap (λ (p : ℕ × ℕ). Some p.0) (same_Some (line, side) (row, col) goes),
+  ap (λ (p : ℕ × ℕ). p.1) (same_Some (line, side) (row, col) goes),
+)
 
 col_gone : (gone : Option ℕ) (side row col : ℕ) → option_map {U = ℕ × ℕ} (λ line. (side, line)) gone ≡ Some (row, col)
     → (gone ≡ Some col) × (side ≡ row)
 col_gone None side row col goes = absurd (none-some (row, col) goes)
-col_gone (Some line) side row col goes =
-    (ap (λ (p : ℕ × ℕ). Some p.1) (same_Some (side, line) (row, col) goes), ap (λ (p : ℕ × ℕ). p.0) (same_Some (side, line) (row, col) goes))
+col_gone (Some line) side row col goes = (
+  ap (λ (p : ℕ × ℕ). Some p.1) (same_Some (side, line) (row, col) goes),
+  ap (λ (p : ℕ × ℕ). p.0) (same_Some (side, line) (row, col) goes),
+)
 
 -- two tables have as many lines on an axis
 pub same_size : {T : Type 0} (on : Axis) (one other : Table T) → one.rows ≡ other.rows → one.cols ≡ other.cols

@@ -158,7 +158,8 @@ module _ (to : LineChange) (next more : ℕ) (less : next ≤ more) (order_below
       (lines_below sheet (below k d there) Rows, lines_below sheet (below k d there) Columns))
 
 -- the law
-pub line_changes_are_changes : ChangesFollow → MoveKeepsLines → (before after : PlaceBook) (id : ℕ) (axis : Axis) (count : ℕ)
+pub line_changes_are_changes : ChangesFollow → MoveKeepsLines
+    → (before after : PlaceBook) (id : ℕ) (axis : Axis) (count : ℕ)
     (change : Change) → Fits change count → IsLineCount axis (count_after change count)
     → IsSomeAnd (place_sheet_with id before.sheets) (λ sheet. lines_on axis sheet.table.rows sheet.table.cols ≡ count)
     → BookChanged id axis count change before after → grid_places after.sheets ≤ most_places
@@ -168,17 +169,21 @@ line_changes_are_changes follow keeps before after id axis count change fits roo
   names = each;
 }
   where
-    each : (named : Named) → NamedStandsFor before named → NamedStandsFor after (changed_by named (BookChange.LinesChanged id axis change))
+    each : (named : Named) → NamedStandsFor before named
+        → NamedStandsFor after (changed_by named (BookChange.LinesChanged id axis change))
     each named stands =
         let sheets = named.book.sheets in
-        let found = found_by_name sheets (λ sheet. lines_on axis sheet.table.rows sheet.table.cols ≡ count) id before.sheets
+        let found =
+        found_by_name sheets (λ sheet. lines_on axis sheet.table.rows sheet.table.cols ≡ count) id before.sheets
         sheets stands.stands.sheets there in
-        let here : orders_of sheets id axis ≡ lines_of found.names axis = lines_there sheets id axis found.names found.is in
+        let here : orders_of sheets id axis ≡ lines_of found.names axis =
+        lines_there sheets id axis found.names found.is in
         let distinct : IsOrder (orders_of sheets id axis) =
         subst IsOrder (sym here) (distinct_on sheets found.sheet found.names axis found.stands) in
         let long : length (orders_of sheets id axis) ≡ count =
         ap length here ∙ sym (as_long sheets found.sheet found.names axis found.stands) ∙ found.holds in
-        let below : AreBelow named.next (orders_of sheets id axis) = orders_below named.next id axis sheets stands.called in
+        let below : AreBelow named.next (orders_of sheets id axis) =
+        orders_below named.next id axis sheets stands.called in
         let new : List ℕ = range_with_len named.next (inserted_lines change) in
         let to : LineChange = line_change sheets id axis (order_change change new) in
         record {

@@ -61,7 +61,8 @@ lines_replaced false axis order sheet = record {
 -- the sheet with an id has it
 first_has_id : (b : Bool) (id : ℕ) (first sheet : NameSheet) (rest : Option NameSheet) → (first.id == id) ≡ b
     → (rest ≡ Some sheet → (sheet.id == id) ≡ true) → cond b (Some first) rest ≡ Some sheet → (sheet.id == id) ≡ true
-first_has_id true id first sheet rest same behind found = ap (λ s. s.id == id) (sym (same_Some first sheet found)) ∙ same
+first_has_id true id first sheet rest same behind found =
+    ap (λ s. s.id == id) (sym (same_Some first sheet found)) ∙ same
 first_has_id false id first sheet rest same behind found = behind found
 
 pub sheet_has_id : (id : ℕ) (sheets : List NameSheet) (sheet : NameSheet) → sheet_with id sheets ≡ Some sheet

@@ -109,9 +109,11 @@ module _ (sheets : List NameSheet) (placed : List PlaceSheet) (all : AllZip (She
       let within = in_orders sheets placed area all on in (
         same,
         has_name (orders_of sheets area.sheet Rows) within.distinct_rows row r
-            (subst (λ n. slice_get (orders_of sheets n Rows) row ≡ Some r) (sym same) at_row) area.rows within.rows rows,
+            (subst (λ n. slice_get (orders_of sheets n Rows) row ≡ Some r) (sym same) at_row) area.rows
+            within.rows rows,
         has_name (orders_of sheets area.sheet Columns) within.distinct_cols col c
-            (subst (λ n. slice_get (orders_of sheets n Columns) col ≡ Some c) (sym same) at_col) area.cols within.cols cols,
+            (subst (λ n. slice_get (orders_of sheets n Columns) col ≡ Some c) (sym same) at_col) area.cols
+            within.cols cols,
       )
 
   covered : (area : Area) → IsOnSheet placed area → CoversCell id r c (named area) → HasCell id row col area
@@ -120,7 +122,8 @@ module _ (sheets : List NameSheet) (placed : List PlaceSheet) (all : AllZip (She
         same,
         (
           has_line (orders_of sheets area.sheet Rows) within.distinct_rows row r
-              (subst (λ n. slice_get (orders_of sheets n Rows) row ≡ Some r) (sym same) at_row) area.rows within.rows rows,
+              (subst (λ n. slice_get (orders_of sheets n Rows) row ≡ Some r) (sym same) at_row) area.rows
+              within.rows rows,
           has_line (orders_of sheets area.sheet Columns) within.distinct_cols col c
               (subst (λ n. slice_get (orders_of sheets n Columns) col ≡ Some c) (sym same) at_col) area.cols within.cols
               cols,
@@ -155,7 +158,8 @@ module _ (sheets : List NameSheet) (placed : List PlaceSheet) (all : AllZip (She
           (covers (get_or one.unprotected k d) (within.1 k d there) opened));
     }
 
-  module _ (user owner : List ℕ) (protections : List Protection) (within : All (IsProtectionWithin placed) protections) where
+  module _ (user owner : List ℕ) (protections : List Protection)
+      (within : All (IsProtectionWithin placed) protections) where
     abbrev by_names : Protection → NameProtection
     by_names = protection_named (orders_of sheets)
 

@@ -38,7 +38,8 @@ protections_stay befores afters areas protections within k d there = (
 
 -- where areas that follow do
 module _ (id : ℕ) (axis : Axis) (count : ℕ) (change : Change) (befores afters : List PlaceSheet)
-    (areas : (area : Area) → IsOnSheet befores area → IfSome (area_followed id axis count change area) (IsOnSheet afters)) where
+    (areas : (area : Area) → IsOnSheet befores area
+    → IfSome (area_followed id axis count change area) (IsOnSheet afters)) where
   followed_within : (protection : Protection) → All (IsOnSheet befores) protection.unprotected → (found : Option Area)
       → IfSome found (IsOnSheet afters)
       → IfSome (option_map (λ area. record protection {
@@ -66,13 +67,15 @@ module _ (deleted : ℕ) (befores afters : List PlaceSheet)
     (areas : (area : Area) → (area.sheet == deleted) ≡ false → IsOnSheet befores area → IsOnSheet afters area) where
   left_within : (b : Bool) (protection : Protection) → (protection.area.sheet == deleted) ≡ b
       → IsProtectionWithin befores protection
-      → IfSome (cond b None (Some (record protection { unprotected = ranges_elsewhere deleted protection.unprotected })))
+      → IfSome
+      (cond b None (Some (record protection { unprotected = ranges_elsewhere deleted protection.unprotected })))
       (IsProtectionWithin afters)
   left_within true protection is within = tt
   left_within false protection is within = (
     areas protection.area is within.0,
     All-left (λ area. not (area.sheet == deleted)) (IsOnSheet befores) (IsOnSheet afters)
-        (λ area elsewhere on. areas area (not-true (area.sheet == deleted) elsewhere) on) protection.unprotected within.1,
+        (λ area elsewhere on. areas area (not-true (area.sheet == deleted) elsewhere) on)
+        protection.unprotected within.1,
   )
 
   pub all_left_within : (protections : List Protection) → AreWithin befores protections
@@ -105,7 +108,8 @@ protections_same sheets orders orders' same protections within =
     let one = get_or protections k d in
     protection_same orders orders' one (area_same sheets orders orders' same one.area (within k d there).0)
     (map_same (area_named orders) (area_named orders') one.unprotected
-    (λ i e inside. area_same sheets orders orders' same (get_or one.unprotected i e) ((within k d there).1 i e inside))))
+    (λ i e inside. area_same sheets orders orders' same (get_or one.unprotected i e)
+    ((within k d there).1 i e inside))))
 
 -- a protection follows with its areas
 module _ (to : LineChange) (count : ℕ) (change : Change) (before after : Orders) where
@@ -204,7 +208,8 @@ module _ (sheets : List NameSheet) (ones others : List PlaceSheet) (stand : AllZ
   one_area : (one other : Area) → IsOnSheet ones one → IsOnSheet others other
       → area_named (orders_of sheets) one ≡ area_named (orders_of sheets) other → one ≡ other
   one_area one other on on' =
-      same_area (orders_of sheets) one other (in_orders sheets ones one stand on) (in_orders sheets others other stand' on')
+      same_area (orders_of sheets) one other (in_orders sheets ones one stand on)
+      (in_orders sheets others other stand' on')
 
   one_protection : (one other : Protection) → IsProtectionWithin ones one → IsProtectionWithin others other
       → protection_named (orders_of sheets) one ≡ protection_named (orders_of sheets) other → one ≡ other
@@ -220,4 +225,5 @@ module _ (sheets : List NameSheet) (ones others : List PlaceSheet) (stand : AllZ
   pub protections_apart : (some more : List Protection) → AreWithin ones some → AreWithin others more
       → map (protection_named (orders_of sheets)) some ≡ map (protection_named (orders_of sheets)) more → some ≡ more
   protections_apart =
-      map_apart (protection_named (orders_of sheets)) (IsProtectionWithin ones) (IsProtectionWithin others) one_protection
+      map_apart (protection_named (orders_of sheets)) (IsProtectionWithin ones) (IsProtectionWithin others)
+      one_protection

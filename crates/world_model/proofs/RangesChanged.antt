@@ -64,7 +64,8 @@ added_changes book range on = record {
       let by_names : NamedRange → NameRange = range_named (orders_of named.book.sheets) in
       with_ranges_stands book (book.ranges ++ range ∷ []) named (named.book.ranges ++ by_names range ∷ []) is
       (All-push (λ (one : NamedRange). IsOnSheet book.sheets one.area) book.ranges range is.stands.sound.ranges on)
-      (ap (λ ranges. ranges ++ by_names range ∷ []) is.stands.ranges ∙ sym (map-append by_names book.ranges (range ∷ [])));
+      (ap (λ ranges. ranges ++ by_names range ∷ []) is.stands.ranges
+      ∙ sym (map-append by_names book.ranges (range ∷ [])));
 }
 
 -- ---- one is changed

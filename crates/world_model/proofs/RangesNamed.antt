@@ -27,7 +27,8 @@ AreOnSheets sheets ranges = All (λ range. IsOnSheet sheets range.area) ranges
 -- ---- lists of what is named
 
 -- what is left of what is named is named what is left
-module _ {A B : Type 0} (f g : A → B) (test : A → Bool) (test' : B → Bool) (same_test : (x : A) → test' (f x) ≡ test x) where
+module _ {A B : Type 0} (f g : A → B) (test : A → Bool) (test' : B → Bool)
+    (same_test : (x : A) → test' (f x) ≡ test x) where
   first_left : (b b' : Bool) (x : A) (xs : List A) (ys : List B) → b' ≡ b → (b ≡ true → f x ≡ g x) → ys ≡ map g xs
       → cond b' (f x ∷ ys) ys ≡ map g (cond b (x ∷ xs) xs)
   first_left true true x xs ys is one rest = ap (λ y. y ∷ ys) (one refl) ∙ ap (λ zs. g x ∷ zs) rest
@@ -86,7 +87,8 @@ module _ {A B : Type 0} (by : A → Option B) (P : B → Type 0) where
 
 -- a range names the lines of its area
 pub range_same : (orders orders' : Orders) (range : NamedRange)
-    → area_named orders range.area ≡ area_named orders' range.area → range_named orders range ≡ range_named orders' range
+    → area_named orders range.area ≡ area_named orders' range.area → range_named orders range
+    ≡ range_named orders' range
 range_same orders orders' range same = ap (λ area. record { id = range.id; name = range.name; area = area }) same
 
 -- where the lines of the sheets stay, ranges name the same ones

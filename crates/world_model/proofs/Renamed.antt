@@ -45,19 +45,22 @@ module _ (old new : List ℕ) where
 
   -- ---- the spreadsheet is sound: no reference is another one
 
-  module _ (befores afters : List PlaceSheet) (areas : (area : Area) → IsOnSheet befores area → IsOnSheet afters area) where
+  module _ (befores afters : List PlaceSheet)
+      (areas : (area : Area) → IsOnSheet befores area → IsOnSheet afters area) where
     word_or_within : (b : Bool) (one : Piece) → IsPieceWithin befores one
         → IsPieceWithin afters (cond b (piece.Word new) one)
     word_or_within true one within = tt
     word_or_within false one within = piece_within befores afters areas one within
 
-    renamed_within : (one : Content) → IsContentWithin befores one → IsContentWithin afters (content_renamed old new one)
+    renamed_within : (one : Content) → IsContentWithin befores one
+        → IsContentWithin afters (content_renamed old new one)
     renamed_within (content.Number number) within = tt
     renamed_within (content.Text text) within = tt
     renamed_within (content.Truth truth) within = tt
     renamed_within (content.Formula formula) within =
         All-map (IsPieceWithin afters) (piece_renamed old new) formula.pieces
-        (λ k d there. word_or_within (is_word old (get_or formula.pieces k d)) (get_or formula.pieces k d) (within k d there))
+        (λ k d there. word_or_within (is_word old (get_or formula.pieces k d)) (get_or formula.pieces k d)
+        (within k d there))
 
   may : (one other : PlaceSheet) → (other ≡ one) ⊎ WordsRenamedIn old new one other
       → (other ≡ one) ⊎ EachBecomes (content_renamed old new) one other
@@ -75,7 +78,8 @@ module _ (old new : List ℕ) where
   pub some_renamed_sound : (before after : PlaceBook) → IsSound before → SomeWordsRenamed old new before after
       → IsSound after
   some_renamed_sound before after sound renamed =
-      some_sound (content_renamed old new) before after (each_may before.sheets after.sheets renamed.sheets) renamed.ranges
+      some_sound (content_renamed old new) before after (each_may before.sheets after.sheets renamed.sheets)
+      renamed.ranges
       renamed.protections renamed.metadata
       (renamed_within before.sheets after.sheets) sound
 
@@ -86,7 +90,8 @@ module _ (old new : List ℕ) where
   all_are_some (s ∷ ss) [] all = absurd all
   all_are_some (s ∷ ss) (o ∷ os) all = (inr all.0, all_are_some ss os all.1)
 
-  pub renamed_sound : (before after : PlaceBook) → IsSound before → PlaceWordsRenamed old new before after → IsSound after
+  pub renamed_sound : (before after : PlaceBook) → IsSound before → PlaceWordsRenamed old new before after
+      → IsSound after
   renamed_sound before after sound renamed =
       some_renamed_sound before after sound (record {
         id = renamed.id;

@@ -189,7 +189,8 @@ module _ (empty : (rows cols row col : ℕ) → item_at (empty_table {T = Conten
   area_stays area on =
       subst (λ found. IsSomeAnd found (λ one. AreaWithin area one.table.rows one.table.cols))
       (sym (find-inserted (λ (one : PlaceSheet). one.id == area.sheet) at new book.sheets
-      (apart_if_found (λ one. AreaWithin area one.table.rows one.table.cols) book.sheets area.sheet sheet.id room.id on)))
+      (apart_if_found (λ one. AreaWithin area one.table.rows one.table.cols) book.sheets area.sheet sheet.id
+      room.id on)))
       on
 
   old_sound : (one : PlaceSheet) → IsSheetSound book.sheets one → IsSheetSound after one
@@ -239,7 +240,8 @@ module _ (empty : (rows cols row col : ℕ) → item_at (empty_table {T = Conten
         (λ k d there. old_sound (get_or book.sheets k d) (sound.sheets k d there));
     few_sheets = let long = length-inserted at new book.sheets in let few = room.few_sheets in
         omega (arith, long, few);
-    few_places = let places = sum_by-insert (λ (one : PlaceSheet). one.table.rows * one.table.cols) book.sheets at new in
+    few_places = let places =
+        sum_by-insert (λ (one : PlaceSheet). one.table.rows * one.table.cols) book.sheets at new in
         let few = room.few_places in
         omega (arith, places, few);
     ranges = λ k d there. area_stays (get_or book.ranges k d).area (sound.ranges k d there);
@@ -271,7 +273,8 @@ module _ (empty : (rows cols row col : ℕ) → item_at (empty_table {T = Conten
         → orders_of named.book.sheets area.sheet ≡ orders_of names area.sheet
     same_area area on =
         same_lines area.sheet
-        (apart_if_found (λ one. AreaWithin area one.table.rows one.table.cols) book.sheets area.sheet sheet.id room.id on)
+        (apart_if_found (λ one. AreaWithin area one.table.rows one.table.cols) book.sheets area.sheet
+        sheet.id room.id on)
 
     old_stands : (one : PlaceSheet) (other : NameSheet) → IsSheetSound book.sheets one → (one.id == sheet.id) ≡ false
         → SheetStandsFor named.book.sheets one other → SheetStandsFor names one other

@@ -103,7 +103,8 @@ module _ (deleted : ℕ) (befores afters : List PlaceSheet)
       All-map (IsPieceWithin afters) (piece_without_sheet deleted) pieces
       (λ k d there. piece_left (get_or pieces k d) (within k d there))
 
-  pub content_left : (one : Content) → IsContentWithin befores one → IsContentWithin afters (content_without deleted one)
+  pub content_left : (one : Content) → IsContentWithin befores one
+      → IsContentWithin afters (content_without deleted one)
   content_left (content.Number number) within = tt
   content_left (content.Text text) within = tt
   content_left (content.Truth truth) within = tt
@@ -139,7 +140,8 @@ deleted_sound before after sheet sound visible gone =
     let places = same_places Goes (λ one other loses. (loses.rows, loses.cols)) left after.sheets gone.sheets in
     let few_sheets = sound.few_sheets in
     let few_places = sound.few_places in
-    let areas : (area : Area) → (area.sheet == sheet) ≡ false → IsOnSheet before.sheets area → IsOnSheet after.sheets area =
+    let areas : (area : Area) → (area.sheet == sheet) ≡ false → IsOnSheet before.sheets area
+    → IsOnSheet after.sheets area =
     λ area apart on.
     still_found Goes (loses_keeps sheet) area.sheet (λ one. AreaWithin area one.table.rows one.table.cols)
     (λ one. AreaWithin area one.table.rows one.table.cols)

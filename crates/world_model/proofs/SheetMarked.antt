@@ -88,9 +88,12 @@ module _ (change : PlaceSheet → PlaceSheet) (keeps : KeepsTable change) where
       rows = subst (λ (table : Table Content). IsLineCount Rows table.rows) (sym same) sound.rows;
       cols = subst (λ (table : Table Content). IsLineCount Columns table.cols) (sym same) sound.cols;
       inside = subst (λ (table : Table Content). HasItemsInside table) (sym same) sound.inside;
-      within = subst (λ (table : Table Content). (row col : ℕ) → IfSome (item_at table row col) (IsContentWithin (map change sheets)))
+      within =
+          subst (λ (table : Table Content). (row col : ℕ)
+          → IfSome (item_at table row col) (IsContentWithin (map change sheets)))
           (sym same)
-          (λ row col. held_within sheets (map change sheets) area_stays (item_at one.table row col) (sound.within row col));
+          (λ row col. held_within sheets (map change sheets) area_stays (item_at one.table row col)
+          (sound.within row col));
       merges = merges_fit one other other.merges id (ap (λ (table : Table Content). table.rows) same)
           (ap (λ (table : Table Content). table.cols) same) merges;
       filter = filter_fits one other other.filter id (ap (λ (table : Table Content). table.rows) same)
@@ -370,7 +373,8 @@ module _ (id : ℕ) (by_names : NameSheet → NameSheet) (by_places : PlaceSheet
     each_stands sheets follows ss ns all.1,
   )
 
-  names_below : (next : ℕ) (sheet : NameSheet) → All (λ name. name < next) sheet.rows × All (λ name. name < next) sheet.cols
+  names_below : (next : ℕ) (sheet : NameSheet) → All (λ name. name < next) sheet.rows
+      × All (λ name. name < next) sheet.cols
       → All (λ name. name < next) (on_names sheet).rows × All (λ name. name < next) (on_names sheet).cols
   names_below next sheet below = (
     subst (All (λ name. name < next)) (sym (on_keeps.lines sheet Rows)) below.0,
@@ -388,12 +392,14 @@ module _ (id : ℕ) (by_names : NameSheet → NameSheet) (by_places : PlaceSheet
       owner = is.stands.owner;
       sheets = each_stands named.book.sheets follows book.sheets named.book.sheets is.stands.sheets;
       ranges = is.stands.ranges
-          ∙ ap (λ orders. map (range_named orders) book.ranges) (sym (orders_stay_same on_names on_keeps named.book.sheets));
+          ∙ ap (λ orders. map (range_named orders) book.ranges)
+          (sym (orders_stay_same on_names on_keeps named.book.sheets));
       protections = is.stands.protections
           ∙ ap (λ orders. map (protection_named orders) book.protections)
           (sym (orders_stay_same on_names on_keeps named.book.sheets));
       metadata = is.stands.metadata
-          ∙ ap (λ orders. map (item_named orders) book.metadata) (sym (orders_stay_same on_names on_keeps named.book.sheets));
+          ∙ ap (λ orders. map (item_named orders) book.metadata)
+          (sym (orders_stay_same on_names on_keeps named.book.sheets));
     };
     called = All-map
         (λ (one : NameSheet). All (λ name. name < named.next) one.rows × All (λ name. name < named.next) one.cols)
@@ -448,7 +454,8 @@ hidden_follows hidden sheets sheet names stands = record {
   filter = stands.filter;
 }
 
-pub titled_changes : (book : PlaceBook) (id : ℕ) (title : List ℕ) → IsSound (on_place_sheet id (place_titled title) book)
+pub titled_changes : (book : PlaceBook) (id : ℕ) (title : List ℕ)
+    → IsSound (on_place_sheet id (place_titled title) book)
     → AreChanges (BookChange.SheetTitled id title ∷ []) book (on_place_sheet id (place_titled title) book)
 titled_changes book id title sound = record {
   id = refl;

@@ -174,7 +174,8 @@ module _ (within : TracksStayWithin) (below : PlacesStayBelow) (stay : FollowedS
 
   -- the sheet that is changed has the changed number of lines on the axis, and all lines across
   size_here : (one other : PlaceSheet) → Goes one other → one.id ≡ id
-      → (lines_on axis other.table.rows other.table.cols ≡ count_after change (lines_on axis one.table.rows one.table.cols))
+      → (lines_on axis other.table.rows other.table.cols
+      ≡ count_after change (lines_on axis one.table.rows one.table.cols))
       × (lines_on (other_axis axis) other.table.rows other.table.cols
       ≡ lines_on (other_axis axis) one.table.rows one.table.cols)
   size_here one other goes same =
@@ -216,7 +217,8 @@ module _ (within : TracksStayWithin) (below : PlacesStayBelow) (stay : FollowedS
   band_here area on is band held =
       with_band_within axis area band afters
       (still_found Goes keeps area.sheet
-      (λ sheet. AreaWithin area sheet.table.rows sheet.table.cols × (lines_on axis sheet.table.rows sheet.table.cols ≡ count))
+      (λ sheet. AreaWithin area sheet.table.rows sheet.table.cols
+      × (lines_on axis sheet.table.rows sheet.table.cols ≡ count))
       (λ sheet. BandsWithin axis band (band_on (other_axis axis) area) sheet.table)
       (λ one other goes same both.
       let sizes = size_here one other goes (eqb-true one.id area.sheet same ∙ eqb-true area.sheet id is) in
@@ -327,7 +329,8 @@ module _ (within : TracksStayWithin) (below : PlacesStayBelow) (stay : FollowedS
   held_stays None inside = tt
   held_stays (Some one) inside = content_stays one inside
 
-  is_some-followed : (held : Option Content) → is_some (option_map (content_followed id axis count change) held) ≡ is_some held
+  is_some-followed : (held : Option Content) → is_some (option_map (content_followed id axis count change) held)
+      ≡ is_some held
   is_some-followed None = refl
   is_some-followed (Some one) = refl
 
@@ -477,9 +480,12 @@ pub changes_stay_sound : TracksStayWithin → PlacesStayBelow → FollowedStayMe
     → IfSome (place_sheet_with id before.sheets) (λ sheet. lines_on axis sheet.table.rows sheet.table.cols ≡ count)
     → BookChanged id axis count change before after → grid_places after.sheets ≤ most_places → IsSound after
 changes_stay_sound within below stay before after id axis count change sound fits room long changed few = record {
-  distinct = distinct_stay (SheetChanged id axis count change) (goes_keeps id axis count change) before.sheets after.sheets changed.sheets sound.distinct;
-  titles = titles_stay (SheetChanged id axis count change) (goes_keeps id axis count change) before.sheets after.sheets changed.sheets sound.titles;
-  visible = visible_stays (SheetChanged id axis count change) (goes_keeps id axis count change) before.sheets after.sheets changed.sheets ∙ sound.visible;
+  distinct = distinct_stay (SheetChanged id axis count change) (goes_keeps id axis count change) before.sheets
+      after.sheets changed.sheets sound.distinct;
+  titles = titles_stay (SheetChanged id axis count change) (goes_keeps id axis count change) before.sheets after.sheets
+      changed.sheets sound.titles;
+  visible = visible_stays (SheetChanged id axis count change) (goes_keeps id axis count change) before.sheets
+      after.sheets changed.sheets ∙ sound.visible;
   sheets = sheets_stay within below stay before.sheets after.sheets id axis count change fits changed.sheets
       sound.distinct long room sound.sheets;
   few_sheets = subst (λ n. n ≤ most_sheets)
@@ -493,6 +499,7 @@ changes_stay_sound within below stay before after id axis count change sound fit
       (protections_stay within below stay before.sheets after.sheets id axis count change fits changed.sheets
       sound.distinct long room before.protections sound.protections);
   metadata = subst (AreItemsWithin after.sheets) (sym changed.metadata)
-      (items_stay within below stay before.sheets after.sheets id axis count change fits changed.sheets sound.distinct long
+      (items_stay within below stay before.sheets after.sheets id axis count change fits changed.sheets
+      sound.distinct long
       room before.metadata sound.metadata);
 }

@@ -115,7 +115,8 @@ one_updated before between id row col content updates so_far = record {
 
 -- ---- sizes
 
-first_size : (b b' : Bool) (one other : PlaceSheet) (rest rest' : Option PlaceSheet) → b ≡ b' → size_of one ≡ size_of other
+first_size : (b b' : Bool) (one other : PlaceSheet) (rest rest' : Option PlaceSheet) → b ≡ b' → size_of one
+    ≡ size_of other
     → option_map size_of rest ≡ option_map size_of rest'
     → option_map size_of (cond b (Some one) rest) ≡ option_map size_of (cond b' (Some other) rest')
 first_size true true one other rest rest' same size behind = ap Some size
@@ -140,7 +141,8 @@ sizes_in id other updates (b ∷ befores) (a ∷ afters) all =
     (sizes_in id other updates befores afters all.1)
 
 pub sizes_stay : (before after : PlaceBook) (id other : ℕ) (updates : Updates) → BookUpdated id updates before after
-    → option_map size_of (place_sheet_with other after.sheets) ≡ option_map size_of (place_sheet_with other before.sheets)
+    → option_map size_of (place_sheet_with other after.sheets)
+    ≡ option_map size_of (place_sheet_with other before.sheets)
 sizes_stay before after id other updates is = sizes_in id other updates before.sheets after.sheets is.sheets
 
 -- ---- only what is made of a place counts
@@ -283,7 +285,8 @@ module _ (sheets : List NameSheet) (id : ℕ) (updates : Updates) where
   same_orders : orders_of (map after sheets) ≡ orders_of sheets
   same_orders = orders_stay_same after keeps sheets
 
-  entry_there : (names : NameSheet) (row col r c : ℕ) → place_in names.rows r ≡ Some row → place_in names.cols c ≡ Some col
+  entry_there : (names : NameSheet) (row col r c : ℕ) → place_in names.rows r ≡ Some row
+      → place_in names.cols c ≡ Some col
       → update_named (orders_of sheets) names updates r c ≡ option_map (option_map named) (updates row col)
   entry_there names row col r c at_row at_col =
       ap (λ place. option_and_then (λ r'. option_and_then (λ c'. option_map (option_map named) (updates r' c'))

@@ -154,8 +154,10 @@ module _ (sheets : List NameSheet) (id row col r c : ℕ) (content : Option Cont
         → (names.id == id) ≡ true
         → (r' == r && c' == c) ≡ eq_by_cmp by_rows (row', col') (row, col)
     same_cell sheet names stands own row' col' r' c' at_row' at_col' is =
-        ap (λ b. b && (c' == c)) (same_line names.rows row row' r r' stands.distinct_rows (row_there names own is) at_row')
-        ∙ ap (λ b. (row' == row) && b) (same_line names.cols col col' c c' stands.distinct_cols (col_there names own is) at_col')
+        ap (λ b. b && (c' == c))
+        (same_line names.rows row row' r r' stands.distinct_rows (row_there names own is) at_row')
+        ∙ ap (λ b. (row' == row) && b)
+        (same_line names.cols col col' c c' stands.distinct_cols (col_there names own is) at_col')
         ∙ sym (same_place row col row' col')
 
     -- the cell that is written is one of the sheet
@@ -169,7 +171,8 @@ module _ (sheets : List NameSheet) (id row col r c : ℕ) (content : Option Cont
           subst (Contains names.cols) (sym (eqb-true c' c parts.1)) (listed names.cols col c (col_there names own is)),
         ))
 
-    pub sheet_follows : (sheet : PlaceSheet) (names : NameSheet) → SheetStandsFor sheets sheet names → IsOwn sheets names
+    pub sheet_follows : (sheet : PlaceSheet) (names : NameSheet) → SheetStandsFor sheets sheet names
+        → IsOwn sheets names
         → SheetStandsFor (map after sheets) (put sheet) (after names)
     sheet_follows sheet names stands own = record {
       id = (put_same sheet).id ∙ stands.id ∙ sym (after_same names).id;

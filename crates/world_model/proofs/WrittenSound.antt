@@ -25,7 +25,8 @@ use Rattle.world_model.proofs.ProtectionsNamed.{protections_stay}
 use Rattle.world_model.proofs.Puts.{SameSheet, put_is_same, item_written, item_chosen, same_place}
 
 -- what is within some sheets is within others if each area is
-module _ (befores afters : List PlaceSheet) (areas : (area : Area) → IsOnSheet befores area → IsOnSheet afters area) where
+module _ (befores afters : List PlaceSheet)
+    (areas : (area : Area) → IsOnSheet befores area → IsOnSheet afters area) where
   pub piece_within : (one : Piece) → IsPieceWithin befores one → IsPieceWithin afters one
   piece_within (piece.Text text) within = tt
   piece_within (piece.Word word) within = tt
@@ -39,7 +40,8 @@ module _ (befores afters : List PlaceSheet) (areas : (area : Area) → IsOnSheet
   content_within (content.Formula formula) within =
       λ k d there. piece_within (get_or formula.pieces k d) (within k d there)
 
-  pub held_within : (held : Option Content) → IfSome held (IsContentWithin befores) → IfSome held (IsContentWithin afters)
+  pub held_within : (held : Option Content) → IfSome held (IsContentWithin befores)
+      → IfSome held (IsContentWithin afters)
   held_within None within = tt
   held_within (Some one) within = content_within one within
 
@@ -111,7 +113,8 @@ module _ (id row col : ℕ) (item : Option Content) where
 
     module _ (within : IfSome item (IsContentWithin sheets)) (sheet : PlaceSheet) (sound : IsSheetSound sheets sheet)
         (there : sheet.id ≡ id → HasPlace sheet.table row col) where
-      place_there : (row' col' : ℕ) → is_some (item_at (put sheet).table row' col') ≡ true → HasPlace sheet.table row' col'
+      place_there : (row' col' : ℕ) → is_some (item_at (put sheet).table row' col') ≡ true
+          → HasPlace sheet.table row' col'
       place_there row' col' some =
           stands_there (HasPlace sheet.table row' col') (sheet.id == id) (row' == row && col' == col) item
           (item_at sheet.table row' col')

@@ -82,7 +82,8 @@ pub record UpdatesAreWrites : Type 0 where
       → BookUpdated id updates before between
       → BookUpdated id (with_update row col content updates) before (book_put id row col content between)
   pub sizes : (before after : PlaceBook) (id other : ℕ) (updates : Updates) → BookUpdated id updates before after
-      → option_map size_of (place_sheet_with other after.sheets) ≡ option_map size_of (place_sheet_with other before.sheets)
+      → option_map size_of (place_sheet_with other after.sheets)
+      ≡ option_map size_of (place_sheet_with other before.sheets)
   pub same : (before after : PlaceBook) (id : ℕ) (updates updates' : Updates) → IsSound before
       → BookUpdated id updates before after
       → IfSome (place_sheet_with id before.sheets) (λ sheet. (row col : ℕ)

@@ -23,6 +23,7 @@ pub mod MergeLaws
 pub mod Making
 pub mod Laws
 pub mod ChangingLaws
+pub mod SheetFound
 pub mod Leaving
 pub mod Protected
 pub mod ProtectionLaws

@@ -39,7 +39,8 @@ pub record FollowsInPlace (sheet : ℕ) (axis : Axis) (count : ℕ) (change : Ch
 -- the items of the sheet that is changed go with their lines, and then each item follows in its place; its merges,
 -- each of which a move leaves whole, become those that they are followed to, and its filter follows or is lost; another
 -- sheet keeps its own
-pub record SheetChanged (changed : ℕ) (axis : Axis) (count : ℕ) (change : Change) (before after : PlaceSheet) : Type 0 where
+pub record SheetChanged (changed : ℕ) (axis : Axis) (count : ℕ) (change : Change) (before after : PlaceSheet) :
+    Type 0 where
   pub id : after.id ≡ before.id
   pub title : after.title ≡ before.title
   pub hidden : after.hidden ≡ before.hidden
@@ -56,7 +57,8 @@ pub record SheetChanged (changed : ℕ) (axis : Axis) (count : ℕ) (change : Ch
 
 -- the sheet with the id, which has `count` lines on the axis, is changed, and each sheet, each range, each protection
 -- and each item of metadata follows
-pub record BookChanged (changed : ℕ) (axis : Axis) (count : ℕ) (change : Change) (before after : PlaceBook) : Type 0 where
+pub record BookChanged (changed : ℕ) (axis : Axis) (count : ℕ) (change : Change) (before after : PlaceBook) :
+    Type 0 where
   pub id : after.id ≡ before.id
   pub title : after.title ≡ before.title
   pub owner : after.owner ≡ before.owner

@@ -4,7 +4,7 @@ use cell_value::{Block, Input, Items, Render, Text};
 use dimension_ops::{Book, Limit, Rule, RuleOr};
 use grid_range::Area;
 use std::alloc::Global;
-use values_api::{Written, range_text, resolve, write_values};
+use values_api::{WrittenCells, range_text, resolve, write_values};
 
 /// A value that is entered.
 #[derive(Clone, Copy, Debug)]
@@ -229,7 +229,7 @@ fn is_written(alloc: Global, book: &mut Book, range: &str, block: &Block, told: 
 }
 
 /// Whether that is the answer.
-fn is_told(alloc: Global, book: &Book, written: &Written, told: Told) -> bool {
+fn is_told(alloc: Global, book: &Book, written: &WrittenCells, told: Told) -> bool {
     match told {
         Ok(wanted) => {
             is_range(alloc, book, &written.area, wanted.0)

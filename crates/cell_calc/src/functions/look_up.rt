@@ -7,7 +7,7 @@ ghost use Rattle.cell_calc.specs.Arguments.{Given, Cells, cells_given};
 ghost use Rattle.cell_calc.specs.Conversion.{error_in, number_of};
 ghost use Rattle.cell_calc.specs.Outcome.{whole, value_by, both};
 ghost use Rattle.cell_calc.specs.Lent.{StandsFor, AreCells, place_and_value, filled_from};
-ghost use Rattle.cell_calc.specs.LookUpFunctions.{row_count, column_count, is_line_of, value_at, indexed_value, is_match, first_place, place_of, searched, matched_place, is_comparison, typed_text, criterion, matches_counted};
+ghost use Rattle.cell_calc.specs.LookUpFunctions.{row_count, column_count, is_line_of, value_at, indexed_value, is_match, first_place, position_of, searched, matched_place, is_comparison, typed_text, criterion, matches_counted};
 ghost use Rattle.cell_calc.specs.Taken.{error_lent};
 ghost use Rattle.cell_calc.specs.Found.{value_in_place, first_match, is_matching};
 
@@ -134,7 +134,7 @@ pub fn matched_place(key: &Value, area: &Argument, search: &Value) -> Value
 
 fn searched(key: &Value, area: &Argument, search: &Value) -> Value
     ensures { (given : Given) → StandsFor area.now given
-        → result ≡ value_by (place_of key.now) (searched (number_of search.now) (cells_given given)) }
+        → result ≡ value_by (position_of key.now) (searched (number_of search.now) (cells_given given)) }
 {
     match number_of(search) {
         Ok(search) if search == 0 => place_in(key, area),
@@ -144,17 +144,17 @@ fn searched(key: &Value, area: &Argument, search: &Value) -> Value
 }
 
 fn place_in(key: &Value, area: &Argument) -> Value
-    ensures { (given : Given) → StandsFor area.now given → result ≡ value_by (place_of key.now) (cells_given given) }
+    ensures { (given : Given) → StandsFor area.now given → result ≡ value_by (position_of key.now) (cells_given given) }
 {
     match area {
         Argument::Single(_) => Value::Error(Kind::Value),
-        Argument::Area(cells) => place_of(key, cells),
+        Argument::Area(cells) => position_of(key, cells),
     }
 }
 
 /// The place of the first cell of one line that matches, counted from 1.
-fn place_of(key: &Value, cells: &AreaCells) -> Value
-    ensures { (all : Cells) → AreCells cells.now all → result ≡ place_of key.now all }
+fn position_of(key: &Value, cells: &AreaCells) -> Value
+    ensures { (all : Cells) → AreCells cells.now all → result ≡ position_of key.now all }
 {
     if is_block(cells.rows, cells.columns) {
         Value::Error(Kind::Na)

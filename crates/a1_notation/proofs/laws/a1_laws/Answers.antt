@@ -1,6 +1,6 @@
 use Rattle.a1_notation.proofs.CanonicalTexts.{area_text_reads_back, canonical_reads_back}
 use Rattle.a1_notation.proofs.ColumnLetters.{column_is_small, letters_name_column}
-use Rattle.a1_notation.proofs.OneRun.{run_is_one}
+use Rattle.a1_notation.specs.OneRun.{run_is_one}
 use Rattle.a1_notation.proofs.QuoteEnds.{up_to_quote_is_one}
 use Rattle.a1_notation.proofs.Readings as readings
 use Rattle.a1_notation.proofs.RowNumbers.{row_is_small, number_names_row}

@@ -11,16 +11,19 @@ pub returns-in_err-area-in-Ok : goal.returns-in_err-area-in-Ok
 returns-in_err-area-in-Ok c =
     let p = err_from_is_err_and c.from_residual.result c.from_residual.ensures.1 in
     rw (p.1, p.2)
-    (subst (λ values. IsUnlessNoMemory (IsDoneTo (IsUpdated c.args.user.now c.args.book.now values) c.args.book.now c.args.book.now)
+    (subst (λ values. IsUnlessNoMemory
+    (IsDoneTo (IsUpdated c.args.user.now c.args.book.now values) c.args.book.now c.args.book.now)
     (Err c.in_err-area-in-Ok.field-0.0)) (sym c.in-Ok.is)
     (change_refused (Resolves c.in-Ok.values.range c.args.book.now) c.args.book.now.sheets
-    (IsUpdate c.args.user.now c.args.book.now c.in-Ok.values.block) c.args.book.now c.args.book.now c.in_err-area-in-Ok.field-0.0
+    (IsUpdate c.args.user.now c.args.book.now c.in-Ok.values.block) c.args.book.now c.args.book.now
+    c.in_err-area-in-Ok.field-0.0
     (subst (λ text. IsUnlessNoMemory (Resolves text c.args.book.now) (Err c.in_err-area-in-Ok.field-0.0))
     c.as_str.ensures c.in_err-area-in-Ok.ensures.resolved)))
 
 pub returns-in_ok-area-in-Ok : goal.returns-in_ok-area-in-Ok
 returns-in_ok-area-in-Ok c =
-    subst (λ values. IsUnlessNoMemory (IsDoneTo (IsUpdated c.args.user.now c.args.book.now values) c.args.book.now c.put.new.book)
+    subst (λ values. IsUnlessNoMemory
+    (IsDoneTo (IsUpdated c.args.user.now c.args.book.now values) c.args.book.now c.put.new.book)
     c.put.result) (sym c.in-Ok.is)
     (done_there (Resolves c.in-Ok.values.range c.args.book.now) c.args.book.now.sheets
     (IsUpdate c.args.user.now c.args.book.now c.in-Ok.values.block) c.args.book.now c.put.new.book

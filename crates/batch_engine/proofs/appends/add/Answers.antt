@@ -6,7 +6,8 @@ pub returns-in_err-table : goal.returns-in_err-table
 returns-in_err-table c =
     let p = err_from_is_err_and c.from_residual.result c.from_residual.ensures.1 in
     rw (p.1, p.2)
-    (append_refused c.args.user.now c.args.insert c.args.block.now c.args.area.now c.args.book.now c.append_values.new.book
+    (append_refused c.args.user.now c.args.insert c.args.block.now c.args.area.now c.args.book.now
+    c.append_values.new.book
     c.in_err-table.field-0.0 c.in_err-table.ensures.appended)
 
 pub returns : goal.returns

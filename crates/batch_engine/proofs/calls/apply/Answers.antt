@@ -11,7 +11,8 @@ use Rattle.batch_engine.proofs.calls.apply.Goals as goal
 pub changed-requires : goal.changed-requires
 changed-requires c =
     subst (λ told. IfOk told (λ done. IsSome (book_with done.1.id c.args.world.now))) (sym c.alone-in-Write.ensures)
-    (write_there _ _ _ _ c.args.world.now c.book_of-book-in-Write.result.now c.args.caller.now c.args.call.now c.in-Write.is
+    (write_there _ _ _ _ c.args.world.now c.book_of-book-in-Write.result.now c.args.caller.now c.args.call.now
+    c.in-Write.is
     (rw c.as_str-in-Write.ensures at c.book_of-book-in-Write.ensures) c.write.result c.in_ok-told-in-Write.told
     (rw (c.as_str-in-Write-2.ensures, c.as_str-user.ensures) at c.write.ensures) c.in_ok-told-in-Write.ensures)
 
@@ -20,34 +21,43 @@ changed-requires-in-Clear c =
     subst (λ told. IfOk told (λ done. IsSome (book_with done.1.id c.args.world.now))) (sym c.alone-in-Clear.ensures)
     (clear_there _ _ c.args.world.now c.book_of-book-in-Clear.result.now c.args.caller.now c.args.call.now
     c.in-Clear.is (rw c.as_str-in-Clear.ensures at c.book_of-book-in-Clear.ensures) c.clear.result
-    c.in_ok-told-in-Clear.told (rw (c.as_str-in-Clear-2.ensures, c.as_str-user-in-Clear.ensures) at c.clear.ensures) c.in_ok-told-in-Clear.ensures)
+    c.in_ok-told-in-Clear.told (rw (c.as_str-in-Clear-2.ensures, c.as_str-user-in-Clear.ensures) at c.clear.ensures)
+    c.in_ok-told-in-Clear.ensures)
 
 pub returns-in_ok-told-in-Read : goal.returns-in_ok-told-in-Read
 returns-in_ok-told-in-Read c =
     read_applied c.args.world.now c.book_of-book.result.now c.args.caller.now c.args.call.now c.unchanged.result.outcome
-    c.unchanged.result.next c.unchanged.ensures.next _ _ _ _ c.in-Read.is (rw c.as_str.ensures at c.book_of-book.ensures)
+    c.unchanged.result.next c.unchanged.ensures.next _ _ _ _ c.in-Read.is
+    (rw c.as_str.ensures at c.book_of-book.ensures)
     c.in_ok-told-in-Read.told
-    (read_judged c.in-Read.range c.in-Read.major_dimension c.in-Read.value_render_option c.book_of-book.result.now c.read.result c.in_ok-told-in-Read.told (rw c.as_str-in-Read.ensures at c.read.ensures)
+    (read_judged c.in-Read.range c.in-Read.major_dimension c.in-Read.value_render_option c.book_of-book.result.now
+    c.read.result c.in_ok-told-in-Read.told (rw c.as_str-in-Read.ensures at c.read.ensures)
     c.in_ok-told-in-Read.ensures)
     (c.unchanged.ensures.outcome ∙ ap told_as c.alone.ensures)
 
 pub returns-in_ok-told-in-Write : goal.returns-in_ok-told-in-Write
 returns-in_ok-told-in-Write c =
     if_ok (λ applied. IsInstalled c.args.world.now c.alone-in-Write.result applied.outcome applied.next)
-    (λ applied. IsApplied c.args.caller.now c.args.call.now c.args.world.now applied.outcome applied.next) c.changed.result
-    (λ applied installed. write_applied _ _ _ _ c.args.world.now c.book_of-book-in-Write.result.now c.args.caller.now c.args.call.now
+    (λ applied. IsApplied c.args.caller.now c.args.call.now c.args.world.now applied.outcome applied.next)
+    c.changed.result
+    (λ applied installed. write_applied _ _ _ _ c.args.world.now c.book_of-book-in-Write.result.now c.args.caller.now
+    c.args.call.now
     c.in-Write.is (rw c.as_str-in-Write.ensures at c.book_of-book-in-Write.ensures) c.write.result
-    c.in_ok-told-in-Write.told (rw (c.as_str-in-Write-2.ensures, c.as_str-user.ensures) at c.write.ensures) c.in_ok-told-in-Write.ensures
+    c.in_ok-told-in-Write.told (rw (c.as_str-in-Write-2.ensures, c.as_str-user.ensures) at c.write.ensures)
+    c.in_ok-told-in-Write.ensures
     applied.outcome applied.next (subst (λ told. IsInstalled c.args.world.now told applied.outcome applied.next)
     c.alone-in-Write.ensures installed)) c.changed.ensures
 
 pub returns-in_ok-told-in-Clear : goal.returns-in_ok-told-in-Clear
 returns-in_ok-told-in-Clear c =
     if_ok (λ applied. IsInstalled c.args.world.now c.alone-in-Clear.result applied.outcome applied.next)
-    (λ applied. IsApplied c.args.caller.now c.args.call.now c.args.world.now applied.outcome applied.next) c.changed-in-Clear.result
-    (λ applied installed. clear_applied _ _ c.args.world.now c.book_of-book-in-Clear.result.now c.args.caller.now c.args.call.now
+    (λ applied. IsApplied c.args.caller.now c.args.call.now c.args.world.now applied.outcome applied.next)
+    c.changed-in-Clear.result
+    (λ applied installed. clear_applied _ _ c.args.world.now c.book_of-book-in-Clear.result.now c.args.caller.now
+    c.args.call.now
     c.in-Clear.is (rw c.as_str-in-Clear.ensures at c.book_of-book-in-Clear.ensures) c.clear.result
-    c.in_ok-told-in-Clear.told (rw (c.as_str-in-Clear-2.ensures, c.as_str-user-in-Clear.ensures) at c.clear.ensures) c.in_ok-told-in-Clear.ensures
+    c.in_ok-told-in-Clear.told (rw (c.as_str-in-Clear-2.ensures, c.as_str-user-in-Clear.ensures) at c.clear.ensures)
+    c.in_ok-told-in-Clear.ensures
     applied.outcome applied.next (subst (λ told. IsInstalled c.args.world.now told applied.outcome applied.next)
     c.alone-in-Clear.ensures installed)) c.changed-in-Clear.ensures
 
@@ -56,76 +66,107 @@ changed-requires-in-Append c =
     subst (λ told. IfOk told (λ done. IsSome (book_with done.1.id c.args.world.now))) (sym c.alone-in-Append.ensures)
     (lone_there _ c.args.world.now c.book_of-book-in-Append.result.now c.args.caller.now c.args.call.now
     (IsAppendOf c.args.caller.now.user c.in-Append.range c.in-Append.insert_data_option c.in-Append.values)
-    (λ answered effect holds. subst (λ one. IsAnswered c.args.caller.now one c.args.world.now answered effect) (sym c.in-Append.is) holds)
+    (λ answered effect holds. subst (λ one. IsAnswered c.args.caller.now one c.args.world.now answered effect)
+    (sym c.in-Append.is) holds)
     (rw c.as_str-in-Append.ensures at c.book_of-book-in-Append.ensures) c.append.result c.in_ok-told-in-Append.told
-    (rw (c.as_str-in-Append-2.ensures, c.as_str-user-in-Append.ensures) at c.append.ensures) c.in_ok-told-in-Append.ensures)
+    (rw (c.as_str-in-Append-2.ensures, c.as_str-user-in-Append.ensures) at c.append.ensures)
+    c.in_ok-told-in-Append.ensures)
 
 pub returns-in_ok-told-in-Append : goal.returns-in_ok-told-in-Append
 returns-in_ok-told-in-Append c =
     if_ok (λ applied. IsInstalled c.args.world.now c.alone-in-Append.result applied.outcome applied.next)
-    (λ applied. IsApplied c.args.caller.now c.args.call.now c.args.world.now applied.outcome applied.next) c.changed-in-Append.result
-    (λ applied installed. lone_applied _ c.args.world.now c.book_of-book-in-Append.result.now c.args.caller.now c.args.call.now
+    (λ applied. IsApplied c.args.caller.now c.args.call.now c.args.world.now applied.outcome applied.next)
+    c.changed-in-Append.result
+    (λ applied installed. lone_applied _ c.args.world.now c.book_of-book-in-Append.result.now c.args.caller.now
+    c.args.call.now
     (IsAppendOf c.args.caller.now.user c.in-Append.range c.in-Append.insert_data_option c.in-Append.values)
-    (λ answered effect holds. subst (λ one. IsAnswered c.args.caller.now one c.args.world.now answered effect) (sym c.in-Append.is) holds)
+    (λ answered effect holds. subst (λ one. IsAnswered c.args.caller.now one c.args.world.now answered effect)
+    (sym c.in-Append.is) holds)
     (rw c.as_str-in-Append.ensures at c.book_of-book-in-Append.ensures) c.append.result c.in_ok-told-in-Append.told
-    (rw (c.as_str-in-Append-2.ensures, c.as_str-user-in-Append.ensures) at c.append.ensures) c.in_ok-told-in-Append.ensures
+    (rw (c.as_str-in-Append-2.ensures, c.as_str-user-in-Append.ensures) at c.append.ensures)
+    c.in_ok-told-in-Append.ensures
     applied.outcome applied.next (subst (λ told. IsInstalled c.args.world.now told applied.outcome applied.next)
     c.alone-in-Append.ensures installed)) c.changed-in-Append.ensures
 
 pub changed-requires-in-ClearMany : goal.changed-requires-in-ClearMany
 changed-requires-in-ClearMany c =
-    change_there c.args.caller.now c.args.call.now _ c.args.world.now (IsClearManyOf c.args.caller.now.user c.in-ClearMany.ranges)
-    (λ answered effect holds. subst (λ one. IsAnswered c.args.caller.now one c.args.world.now answered effect) (sym c.in-ClearMany.is) holds)
+    change_there c.args.caller.now c.args.call.now _ c.args.world.now
+    (IsClearManyOf c.args.caller.now.user c.in-ClearMany.ranges)
+    (λ answered effect holds. subst (λ one. IsAnswered c.args.caller.now one c.args.world.now answered effect)
+    (sym c.in-ClearMany.is) holds)
     c.book_of-book-in-ClearMany.result.now (rw c.as_str-in-ClearMany.ensures at c.book_of-book-in-ClearMany.ensures)
-    c.in_ok-clear_many-in-ClearMany.field-0 (rw (c.as_slice-in-ClearMany.ensures, c.as_str-user-in-ClearMany.ensures) at c.in_ok-clear_many-in-ClearMany.ensures)
+    c.in_ok-clear_many-in-ClearMany.field-0
+    (rw (c.as_slice-in-ClearMany.ensures, c.as_str-user-in-ClearMany.ensures)
+    at c.in_ok-clear_many-in-ClearMany.ensures)
 
 pub returns-in_ok-clear_many-in-ClearMany : goal.returns-in_ok-clear_many-in-ClearMany
 returns-in_ok-clear_many-in-ClearMany c =
     if_ok (λ applied. IsInstalled c.args.world.now c.in_ok-clear_many-in-ClearMany.field-0 applied.outcome applied.next)
-    (λ applied. IsApplied c.args.caller.now c.args.call.now c.args.world.now applied.outcome applied.next) c.changed-in-ClearMany.result
-    (λ applied installed. applied_change c.args.caller.now c.args.call.now _ c.args.world.now (IsClearManyOf c.args.caller.now.user c.in-ClearMany.ranges)
-    (λ answered effect holds. subst (λ one. IsAnswered c.args.caller.now one c.args.world.now answered effect) (sym c.in-ClearMany.is) holds)
+    (λ applied. IsApplied c.args.caller.now c.args.call.now c.args.world.now applied.outcome applied.next)
+    c.changed-in-ClearMany.result
+    (λ applied installed. applied_change c.args.caller.now c.args.call.now _ c.args.world.now
+    (IsClearManyOf c.args.caller.now.user c.in-ClearMany.ranges)
+    (λ answered effect holds. subst (λ one. IsAnswered c.args.caller.now one c.args.world.now answered effect)
+    (sym c.in-ClearMany.is) holds)
     c.book_of-book-in-ClearMany.result.now (rw c.as_str-in-ClearMany.ensures at c.book_of-book-in-ClearMany.ensures)
     c.in_ok-clear_many-in-ClearMany.field-0 applied.outcome applied.next
-    (rw (c.as_slice-in-ClearMany.ensures, c.as_str-user-in-ClearMany.ensures) at c.in_ok-clear_many-in-ClearMany.ensures) installed) c.changed-in-ClearMany.ensures
+    (rw (c.as_slice-in-ClearMany.ensures, c.as_str-user-in-ClearMany.ensures)
+    at c.in_ok-clear_many-in-ClearMany.ensures) installed) c.changed-in-ClearMany.ensures
 
 pub changed-requires-in-WriteMany : goal.changed-requires-in-WriteMany
 changed-requires-in-WriteMany c =
-    change_there c.args.caller.now c.args.call.now _ c.args.world.now (IsWriteManyOf c.args.caller.now.user c.in-WriteMany.data)
-    (λ answered effect holds. subst (λ one. IsAnswered c.args.caller.now one c.args.world.now answered effect) (sym c.in-WriteMany.is) holds)
+    change_there c.args.caller.now c.args.call.now _ c.args.world.now
+    (IsWriteManyOf c.args.caller.now.user c.in-WriteMany.data)
+    (λ answered effect holds. subst (λ one. IsAnswered c.args.caller.now one c.args.world.now answered effect)
+    (sym c.in-WriteMany.is) holds)
     c.book_of-book-in-WriteMany.result.now (rw c.as_str-in-WriteMany.ensures at c.book_of-book-in-WriteMany.ensures)
-    c.in_ok-write_many-in-WriteMany.field-0 (rw (c.as_slice-in-WriteMany.ensures, c.as_str-user-in-WriteMany.ensures) at c.in_ok-write_many-in-WriteMany.ensures)
+    c.in_ok-write_many-in-WriteMany.field-0
+    (rw (c.as_slice-in-WriteMany.ensures, c.as_str-user-in-WriteMany.ensures)
+    at c.in_ok-write_many-in-WriteMany.ensures)
 
 pub returns-in_ok-write_many-in-WriteMany : goal.returns-in_ok-write_many-in-WriteMany
 returns-in_ok-write_many-in-WriteMany c =
     if_ok (λ applied. IsInstalled c.args.world.now c.in_ok-write_many-in-WriteMany.field-0 applied.outcome applied.next)
-    (λ applied. IsApplied c.args.caller.now c.args.call.now c.args.world.now applied.outcome applied.next) c.changed-in-WriteMany.result
-    (λ applied installed. applied_change c.args.caller.now c.args.call.now _ c.args.world.now (IsWriteManyOf c.args.caller.now.user c.in-WriteMany.data)
-    (λ answered effect holds. subst (λ one. IsAnswered c.args.caller.now one c.args.world.now answered effect) (sym c.in-WriteMany.is) holds)
+    (λ applied. IsApplied c.args.caller.now c.args.call.now c.args.world.now applied.outcome applied.next)
+    c.changed-in-WriteMany.result
+    (λ applied installed. applied_change c.args.caller.now c.args.call.now _ c.args.world.now
+    (IsWriteManyOf c.args.caller.now.user c.in-WriteMany.data)
+    (λ answered effect holds. subst (λ one. IsAnswered c.args.caller.now one c.args.world.now answered effect)
+    (sym c.in-WriteMany.is) holds)
     c.book_of-book-in-WriteMany.result.now (rw c.as_str-in-WriteMany.ensures at c.book_of-book-in-WriteMany.ensures)
     c.in_ok-write_many-in-WriteMany.field-0 applied.outcome applied.next
-    (rw (c.as_slice-in-WriteMany.ensures, c.as_str-user-in-WriteMany.ensures) at c.in_ok-write_many-in-WriteMany.ensures) installed) c.changed-in-WriteMany.ensures
+    (rw (c.as_slice-in-WriteMany.ensures, c.as_str-user-in-WriteMany.ensures)
+    at c.in_ok-write_many-in-WriteMany.ensures) installed) c.changed-in-WriteMany.ensures
 
 pub changed-requires-in-Batch : goal.changed-requires-in-Batch
 changed-requires-in-Batch c =
-    change_there c.args.caller.now c.args.call.now _ c.args.world.now (IsBatchOf c.args.caller.now.user c.args.caller.now.project c.in-Batch.requests)
-    (λ answered effect holds. subst (λ one. IsAnswered c.args.caller.now one c.args.world.now answered effect) (sym c.in-Batch.is) holds)
+    change_there c.args.caller.now c.args.call.now _ c.args.world.now
+    (IsBatchOf c.args.caller.now.user c.args.caller.now.project c.in-Batch.requests)
+    (λ answered effect holds. subst (λ one. IsAnswered c.args.caller.now one c.args.world.now answered effect)
+    (sym c.in-Batch.is) holds)
     c.book_of-book-in-Batch.result.now (rw c.as_str-in-Batch.ensures at c.book_of-book-in-Batch.ensures)
-    c.in_ok-batch-in-Batch.field-0 (rw (c.as_slice-in-Batch.ensures, c.as_str-user-in-Batch.ensures, c.as_str-project.ensures) at c.in_ok-batch-in-Batch.ensures)
+    c.in_ok-batch-in-Batch.field-0
+    (rw (c.as_slice-in-Batch.ensures, c.as_str-user-in-Batch.ensures, c.as_str-project.ensures)
+    at c.in_ok-batch-in-Batch.ensures)
 
 pub returns-in_ok-batch-in-Batch : goal.returns-in_ok-batch-in-Batch
 returns-in_ok-batch-in-Batch c =
     if_ok (λ applied. IsInstalled c.args.world.now c.in_ok-batch-in-Batch.field-0 applied.outcome applied.next)
-    (λ applied. IsApplied c.args.caller.now c.args.call.now c.args.world.now applied.outcome applied.next) c.changed-in-Batch.result
-    (λ applied installed. applied_change c.args.caller.now c.args.call.now _ c.args.world.now (IsBatchOf c.args.caller.now.user c.args.caller.now.project c.in-Batch.requests)
-    (λ answered effect holds. subst (λ one. IsAnswered c.args.caller.now one c.args.world.now answered effect) (sym c.in-Batch.is) holds)
+    (λ applied. IsApplied c.args.caller.now c.args.call.now c.args.world.now applied.outcome applied.next)
+    c.changed-in-Batch.result
+    (λ applied installed. applied_change c.args.caller.now c.args.call.now _ c.args.world.now
+    (IsBatchOf c.args.caller.now.user c.args.caller.now.project c.in-Batch.requests)
+    (λ answered effect holds. subst (λ one. IsAnswered c.args.caller.now one c.args.world.now answered effect)
+    (sym c.in-Batch.is) holds)
     c.book_of-book-in-Batch.result.now (rw c.as_str-in-Batch.ensures at c.book_of-book-in-Batch.ensures)
     c.in_ok-batch-in-Batch.field-0 applied.outcome applied.next
-    (rw (c.as_slice-in-Batch.ensures, c.as_str-user-in-Batch.ensures, c.as_str-project.ensures) at c.in_ok-batch-in-Batch.ensures) installed) c.changed-in-Batch.ensures
+    (rw (c.as_slice-in-Batch.ensures, c.as_str-user-in-Batch.ensures, c.as_str-project.ensures)
+    at c.in_ok-batch-in-Batch.ensures) installed) c.changed-in-Batch.ensures
 
 pub returns-in_ok-shown-in-Get : goal.returns-in_ok-shown-in-Get
 returns-in_ok-shown-in-Get c =
-    look_applied c.args.world.now c.book_of-book-in-Get.result.now c.args.caller.now c.args.call.now c.unchanged-in-Get.result.outcome
+    look_applied c.args.world.now c.book_of-book-in-Get.result.now c.args.caller.now c.args.call.now
+    c.unchanged-in-Get.result.outcome
     c.unchanged-in-Get.result.next c.unchanged-in-Get.ensures.next _ _ c.in-Get.is
     (rw c.as_str-in-Get.ensures at c.book_of-book-in-Get.ensures)
     c.in_ok-shown-in-Get.shown (subst

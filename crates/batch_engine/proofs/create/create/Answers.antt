@@ -7,5 +7,6 @@ use Rattle.batch_engine.proofs.create.create.Goals as goal
 pub returns-in-Ok : goal.returns-in-Ok
 returns-in-Ok c =
     subst (λ spreadsheet. IsUnlessNoMemory
-    (IsMaking (IsCreateOf c.args.owner.now spreadsheet c.args.world.now) c.args.world.now) c.make.result) (sym c.in-Ok.is)
+    (IsMaking (IsCreateOf c.args.owner.now spreadsheet c.args.world.now) c.args.world.now) c.make.result)
+    (sym c.in-Ok.is)
     c.make.ensures

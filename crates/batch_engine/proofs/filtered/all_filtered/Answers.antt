@@ -31,7 +31,8 @@ loop-at-preserved c =
           c.loop-at-test.true given c.in-Ok.shown
           (subst (Is (get_or filters at given)) c.in-Ok.is
           (subst (λ (one : Reading DataFilter). Is one c.in_ok-shown.field-0) c.index-filters-at.is
-          (told_so (Is given) c.filtered.result c.in_ok-shown.field-0 c.filtered.ensures.shown c.in_ok-shown.ensures)))),
+          (told_so (Is given) c.filtered.result c.in_ok-shown.field-0 c.filtered.ensures.shown
+          c.in_ok-shown.ensures)))),
       judged_ok _ c.filtered.result c.in_ok-shown.field-0 c.in-Ok.shown c.in_ok-shown.ensures c.in-Ok.is
           c.filtered.ensures.table,
     )

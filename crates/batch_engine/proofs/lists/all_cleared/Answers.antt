@@ -13,8 +13,10 @@ returns-in-Err c =
     broken_there c.changes_in_turn.ensures (IsCleared c.args.user.now) members c.args.book.now at
     c.loop-at.cleared.items c.loop-at.book c.loop-at.invariant (Ok [])
     c.in-Err.rule c.cleared_range.new.book c.loop-at-test.true
-    (subst (IsDoneTo (IsCleared c.args.user.now c.loop-at.book (get_or members at (Ok []))) c.loop-at.book c.cleared_range.new.book) c.in-Err.is
-    (done_so (IsCleared c.args.user.now) (get_or members at (Ok [])) c.index-ranges-at.result c.loop-at.book c.cleared_range.new.book
+    (subst (IsDoneTo (IsCleared c.args.user.now c.loop-at.book (get_or members at (Ok []))) c.loop-at.book
+    c.cleared_range.new.book) c.in-Err.is
+    (done_so (IsCleared c.args.user.now) (get_or members at (Ok [])) c.index-ranges-at.result c.loop-at.book
+    c.cleared_range.new.book
     c.cleared_range.result c.in_ok-range.field-0
     (get_or_read members at c.index-ranges-at.result c.loop-at-test.true c.index-ranges-at.is (Ok []))
     c.cleared_range.ensures c.in_ok-range.ensures))
@@ -23,10 +25,13 @@ pub loop-at-preserved : goal.loop-at-preserved
 loop-at-preserved c =
     let members = c.args.ranges.now in
     let at = c.loop-at.at in
-    let (changes, holds, made) : IsDoneTo (IsCleared c.args.user.now c.loop-at.book (get_or members at (Ok []))) c.loop-at.book
+    let (changes, holds, made) : IsDoneTo (IsCleared c.args.user.now c.loop-at.book (get_or members at (Ok [])))
+    c.loop-at.book
     c.cleared_range.new.book (Ok c.in-Ok.range) =
-    subst (IsDoneTo (IsCleared c.args.user.now c.loop-at.book (get_or members at (Ok []))) c.loop-at.book c.cleared_range.new.book) c.in-Ok.is
-    (done_so (IsCleared c.args.user.now) (get_or members at (Ok [])) c.index-ranges-at.result c.loop-at.book c.cleared_range.new.book
+    subst (IsDoneTo (IsCleared c.args.user.now c.loop-at.book (get_or members at (Ok []))) c.loop-at.book
+    c.cleared_range.new.book) c.in-Ok.is
+    (done_so (IsCleared c.args.user.now) (get_or members at (Ok [])) c.index-ranges-at.result c.loop-at.book
+    c.cleared_range.new.book
     c.cleared_range.result c.in_ok-range.field-0
     (get_or_read members at c.index-ranges-at.result c.loop-at-test.true c.index-ranges-at.is (Ok []))
     c.cleared_range.ensures c.in_ok-range.ensures) in
@@ -38,7 +43,8 @@ loop-at-preserved c =
 
 pub returns : goal.returns
 returns c =
-    subst (λ all. AreDone (IsCleared c.args.user.now) c.args.ranges.now c.args.book.now c.loop-at.book (Ok all)) (sym c.of.ensures)
+    subst (λ all. AreDone (IsCleared c.args.user.now) c.args.ranges.now c.args.book.now c.loop-at.book (Ok all))
+    (sym c.of.ensures)
     (all_done c.changes_in_turn.ensures (IsCleared c.args.user.now)
     c.args.ranges.now c.args.book.now c.loop-at.at c.loop-at.cleared.items c.loop-at.book
     c.loop-at.invariant c.loop-at-test.false)

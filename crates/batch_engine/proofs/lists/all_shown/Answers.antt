@@ -9,11 +9,15 @@ pub returns-in-Err : goal.returns-in-Err
 returns-in-Err c =
     let ranges = c.args.ranges.now in
     let at = c.loop-at.at in
-    broken_told (IsShown c.args.dimension c.args.render c.args.book.now) ranges at c.loop-at.all.items c.loop-at.invariant.0
+    broken_told (IsShown c.args.dimension c.args.render c.args.book.now) ranges at c.loop-at.all.items
+    c.loop-at.invariant.0
     [] c.in-Err.rule c.loop-at-test.true
     (subst (IsShown c.args.dimension c.args.render c.args.book.now (get_or ranges at [])) c.in-Err.is
-    (shown_so c.args.dimension c.args.render c.args.book.now (get_or ranges at []) c.as_str-range.result.now c.shown.result
-    c.in_ok-range.field-0 (c.as_str-range.ensures ∙ get_or_read ranges at c.index-ranges-at.result c.loop-at-test.true c.index-ranges-at.is []) c.shown.ensures.shown c.in_ok-range.ensures))
+    (shown_so c.args.dimension c.args.render c.args.book.now (get_or ranges at []) c.as_str-range.result.now
+    c.shown.result
+    c.in_ok-range.field-0
+    (c.as_str-range.ensures ∙ get_or_read ranges at c.index-ranges-at.result c.loop-at-test.true
+    c.index-ranges-at.is []) c.shown.ensures.shown c.in_ok-range.ensures))
 
 pub loop-at-preserved : goal.loop-at-preserved
 loop-at-preserved c =
@@ -23,9 +27,13 @@ loop-at-preserved c =
       subst (SoFar Is ranges (at + 1)) (sym c.in_ok-push-in-Ok.ensures.items)
           (one_more Is ranges at c.loop-at.all.items c.loop-at.invariant.0 [] c.in-Ok.range c.loop-at-test.true
           (subst (Is (get_or ranges at [])) c.in-Ok.is
-          (shown_so c.args.dimension c.args.render c.args.book.now (get_or ranges at []) c.as_str-range.result.now c.shown.result
-          c.in_ok-range.field-0 (c.as_str-range.ensures ∙ get_or_read ranges at c.index-ranges-at.result c.loop-at-test.true c.index-ranges-at.is []) c.shown.ensures.shown c.in_ok-range.ensures))),
-      judged_ok _ c.shown.result c.in_ok-range.field-0 c.in-Ok.range c.in_ok-range.ensures c.in-Ok.is c.shown.ensures.table,
+          (shown_so c.args.dimension c.args.render c.args.book.now (get_or ranges at []) c.as_str-range.result.now
+          c.shown.result
+          c.in_ok-range.field-0
+          (c.as_str-range.ensures ∙ get_or_read ranges at c.index-ranges-at.result c.loop-at-test.true
+          c.index-ranges-at.is []) c.shown.ensures.shown c.in_ok-range.ensures))),
+      judged_ok _ c.shown.result c.in_ok-range.field-0 c.in-Ok.range c.in_ok-range.ensures c.in-Ok.is
+          c.shown.ensures.table,
     )
 
 pub returns : goal.returns

@@ -14,8 +14,10 @@ returns-in-Err c =
     broken_there c.changes_in_turn.ensures (IsUpdated c.args.user.now) members c.args.book.now at
     c.loop-at.writes.items c.loop-at.book c.loop-at.invariant (Err BadShape)
     c.in-Err.rule c.updated.new.book c.loop-at-test.true
-    (subst (IsDoneTo (IsUpdated c.args.user.now c.loop-at.book (get_or members at (Err BadShape))) c.loop-at.book c.updated.new.book) c.in-Err.is
-    (done_so (IsUpdated c.args.user.now) (get_or members at (Err BadShape)) c.index-blocks-at.result c.loop-at.book c.updated.new.book
+    (subst (IsDoneTo (IsUpdated c.args.user.now c.loop-at.book (get_or members at (Err BadShape))) c.loop-at.book
+    c.updated.new.book) c.in-Err.is
+    (done_so (IsUpdated c.args.user.now) (get_or members at (Err BadShape)) c.index-blocks-at.result c.loop-at.book
+    c.updated.new.book
     c.updated.result c.in_ok-write.field-0
     (get_or_read members at c.index-blocks-at.result c.loop-at-test.true c.index-blocks-at.is (Err BadShape))
     c.updated.ensures c.in_ok-write.ensures))
@@ -24,10 +26,13 @@ pub loop-at-preserved : goal.loop-at-preserved
 loop-at-preserved c =
     let members = c.args.blocks.now in
     let at = c.loop-at.at in
-    let (changes, holds, made) : IsDoneTo (IsUpdated c.args.user.now c.loop-at.book (get_or members at (Err BadShape))) c.loop-at.book
+    let (changes, holds, made) : IsDoneTo (IsUpdated c.args.user.now c.loop-at.book (get_or members at (Err BadShape)))
+    c.loop-at.book
     c.updated.new.book (Ok c.in-Ok.write) =
-    subst (IsDoneTo (IsUpdated c.args.user.now c.loop-at.book (get_or members at (Err BadShape))) c.loop-at.book c.updated.new.book) c.in-Ok.is
-    (done_so (IsUpdated c.args.user.now) (get_or members at (Err BadShape)) c.index-blocks-at.result c.loop-at.book c.updated.new.book
+    subst (IsDoneTo (IsUpdated c.args.user.now c.loop-at.book (get_or members at (Err BadShape))) c.loop-at.book
+    c.updated.new.book) c.in-Ok.is
+    (done_so (IsUpdated c.args.user.now) (get_or members at (Err BadShape)) c.index-blocks-at.result c.loop-at.book
+    c.updated.new.book
     c.updated.result c.in_ok-write.field-0
     (get_or_read members at c.index-blocks-at.result c.loop-at-test.true c.index-blocks-at.is (Err BadShape))
     c.updated.ensures c.in_ok-write.ensures) in
@@ -39,7 +44,8 @@ loop-at-preserved c =
 
 pub returns : goal.returns
 returns c =
-    subst (λ all. AreDone (IsUpdated c.args.user.now) c.args.blocks.now c.args.book.now c.loop-at.book (Ok all)) (sym c.of.ensures)
+    subst (λ all. AreDone (IsUpdated c.args.user.now) c.args.blocks.now c.args.book.now c.loop-at.book (Ok all))
+    (sym c.of.ensures)
     (all_done c.changes_in_turn.ensures (IsUpdated c.args.user.now)
     c.args.blocks.now c.args.book.now c.loop-at.at c.loop-at.writes.items c.loop-at.book
     c.loop-at.invariant c.loop-at-test.false)

@@ -6,5 +6,7 @@ use Rattle.batch_engine.proofs.lists.cleared_range.Goals as goal
 
 pub returns-in-Ok : goal.returns-in-Ok
 returns-in-Ok c =
-    subst (λ range. IsUnlessNoMemory (IsDoneTo (IsCleared c.args.user.now c.args.book.now range) c.args.book.now c.emptied.new.book) c.emptied.result)
+    subst (λ range. IsUnlessNoMemory
+    (IsDoneTo (IsCleared c.args.user.now c.args.book.now range) c.args.book.now c.emptied.new.book)
+    c.emptied.result)
     (sym c.in-Ok.is) (rw c.as_str.ensures at c.emptied.ensures)

@@ -17,5 +17,6 @@ returns-in_ok-all-in-Ok c =
 
 pub returns-in-Err : goal.returns-in-Err
 returns-in-Err c =
-    search_broken c.args.project.now c.args.book.now c.args.filters.now c.in_ok-searched.field-0 c.in_ok-searched.ensures
+    search_broken c.args.project.now c.args.book.now c.args.filters.now c.in_ok-searched.field-0
+    c.in_ok-searched.ensures
     c.in-Err.at c.in-Err.rule c.in-Err.is

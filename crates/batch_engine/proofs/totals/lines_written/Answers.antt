@@ -11,7 +11,8 @@ loop-write-preserved c =
     let writes = c.args.writes.now in
     let at = c.loop-write.write-index in
     let wrote = c.write-item.result in
-    let lines : Wrote → List (ℕ × ℕ) = λ wrote. map (λ line. (wrote.1.area.sheet, line)) (lines_on c.args.axis wrote.1) in
+    let lines : Wrote → List (ℕ × ℕ) =
+    λ wrote. map (λ line. (wrote.1.area.sheet, line)) (lines_on c.args.axis wrote.1) in
     c.in_ok-add_lines.ensures
     ∙ ap (λ before. before ++ lines wrote) c.loop-write.invariant
     ∙ ap (λ more. flat_map lines (take at writes) ++ more) (sym (append-nil (lines wrote)))

@@ -8,7 +8,8 @@ use Rattle.cell_calc.proofs.calculation.calculate.Goals as goal
 pub returns : goal.returns
 returns g c =
     let contents = g.C.CellsOf.contents c.args.cells.now in
-    let same = c.as_slice-2.ensures.value ∙ c.in_ok-areas.ensures ∙ ap (map whole_sheet) (c.as_slice.ensures ∙ c.sheets.ensures) in
+    let same = c.as_slice-2.ensures.value ∙ c.in_ok-areas.ensures
+    ∙ ap (map whole_sheet) (c.as_slice.ensures ∙ c.sheets.ensures) in
     IfOk-weaker c.calculate_for.result _ _
     (λ table values. are_all_values contents c.stay_sound.ensures (values_of table)
     (subst (λ l. AreValues contents l (values_of table)) same values))

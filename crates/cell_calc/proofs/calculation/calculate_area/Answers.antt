@@ -12,7 +12,8 @@ returns g c =
     let stored = c.in_ok-stored.stored.items in
     on_ok_weaker c.settle_all.result
     (λ settles. all_of_area contents c.args.area.now stored c.in_ok-stored.ensures _ _
-    (subst (λ l. SettlesAll contents c.args.area.now.sheet l (marks_of c.args.table.now) (marks_of c.settle_all.new.table))
+    (subst (λ l. SettlesAll contents c.args.area.now.sheet l (marks_of c.args.table.now)
+    (marks_of c.settle_all.new.table))
     c.as_slice.ensures.value settles))
     c.settle_all.ensures
 

@@ -11,7 +11,8 @@ loop-area-init g c = nothing_known _ _ c.new-table.ensures.none
 
 pub loop-area-preserved : goal.loop-area-preserved
 loop-area-preserved g c =
-    one_more_area _ c.args.areas.now c.loop-area.area-index _ (record { sheet = 0; rows = Whole; cols = Whole }) c.loop-area-test.true refl _ _ c.loop-area.invariant c.in_ok-calculate_area.ensures
+    one_more_area _ c.args.areas.now c.loop-area.area-index _ (record { sheet = 0; rows = Whole; cols = Whole })
+    c.loop-area-test.true refl _ _ c.loop-area.invariant c.in_ok-calculate_area.ensures
 
 pub returns : goal.returns
 returns g c =

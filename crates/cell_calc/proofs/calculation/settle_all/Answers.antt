@@ -14,5 +14,6 @@ settle_content-requires g c =
 
 pub loop-cell-preserved : goal.loop-cell-preserved
 loop-cell-preserved g c =
-    one_more_cell _ _ c.args.stored.now c.loop-cell.cell-index _ c.cell-item.result c.loop-cell-test.true c.cell-item.is _ _ _
+    one_more_cell _ _ c.args.stored.now c.loop-cell.cell-index _ c.cell-item.result c.loop-cell-test.true
+    c.cell-item.is _ _ _
     c.loop-cell.invariant c.in_ok-settle_content.ensures.goes c.in_ok-settle_content.ensures.met

@@ -9,7 +9,8 @@ use Rattle.cell_calc.proofs.content_value.tree_within.Goals as goal
 pub returns-in-Ok : goal.returns-in-Ok
 returns-in-Ok c =
     within c.args.text.now _
-    (keeps c.args.text.now (λ symbols fault are passes. never_both _ _ _ (c.in-Ok.ensures.limits symbols fault are passes)))
+    (keeps c.args.text.now
+    (λ symbols fault are passes. never_both _ _ _ (c.in-Ok.ensures.limits symbols fault are passes)))
     c.in-Ok.ensures.tree
 
 pub returns-in-Err : goal.returns-in-Err

@@ -12,5 +12,7 @@ returns g c = λ cell is.
     let book = g.R.CellReader.book c.args.reader.now in
     let read = g.R.CellReader.read c.args.reader.now in
     subst (λ x. IfOk c.value_by_tree.result (λ value. value ≡ value_of_cell book read x))
-    (ap formula (one_answer (IsTreeWithin c.args.text.now) (option_map expression_of c.in_ok-tree.tree) is.0 c.in_ok-tree.ensures is.1)
+    (ap formula
+    (one_answer (IsTreeWithin c.args.text.now) (option_map expression_of c.in_ok-tree.tree) is.0
+    c.in_ok-tree.ensures is.1)
     ∙ sym is.2) c.value_by_tree.ensures

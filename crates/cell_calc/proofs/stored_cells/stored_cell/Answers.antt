@@ -12,7 +12,8 @@ returns-in-Some g c =
     IfOk-weaker c.alone.result _ _
     (λ cells is. subst (AreStoredCells contents area) (sym is)
     (one_stored contents c.args.sheet c.args.row c.args.column
-    (record { row = c.args.row; column = c.args.column; content = c.in-Some.content }) refl refl (sym c.in-Some.ensures)))
+    (record { row = c.args.row; column = c.args.column; content = c.in-Some.content }) refl refl
+    (sym c.in-Some.ensures)))
     c.alone.ensures
 
 pub returns-in-None : goal.returns-in-None

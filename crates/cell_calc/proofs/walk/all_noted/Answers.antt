@@ -10,7 +10,8 @@ loop-cell-init c = no_cell_seen _ _ _ _ c.new-noted.ensures.items
 
 pub loop-cell-preserved : goal.loop-cell-preserved
 loop-cell-preserved c =
-    one_more_seen _ _ c.args.cells.now c.loop-cell.cell-index c.cell-item.result _ c.loop-cell-test.true c.cell-item.is _ _ c.loop-cell.invariant
+    one_more_seen _ _ c.args.cells.now c.loop-cell.cell-index c.cell-item.result _ c.loop-cell-test.true c.cell-item.is
+    _ _ c.loop-cell.invariant
     c.in_ok-look_at.ensures
 
 pub returns : goal.returns

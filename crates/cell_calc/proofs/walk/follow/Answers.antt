@@ -17,5 +17,6 @@ loop-turn-preserved g c =
 
 pub returns-in-None : goal.returns-in-None
 returns-in-None g c =
-    subst (Goes (g.C.CellsOf.contents c.args.cells.now) (marks_of c.args.table.now) c.args.path.items (marks_of c.loop-turn.table))
+    subst (Goes (g.C.CellsOf.contents c.args.cells.now) (marks_of c.args.table.now) c.args.path.items
+    (marks_of c.loop-turn.table))
     (no_rest c.loop-turn.path.items (omega (arith, c.loop-turn.path.ok, c.in-None.ensures.cases))) c.loop-turn.invariant

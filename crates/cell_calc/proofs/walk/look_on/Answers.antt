@@ -5,7 +5,12 @@ use Rattle.cell_calc.proofs.walk.look_on.Goals as goal
 pub returns-in-Some : goal.returns-in-Some
 returns-in-Some g c =
     c.wait_for.ensures c.args.frame
-    (record { place = refl; tree = refl; rest = cut_off _ _ c.pop.result c.in-Some.area c.pop.ensures.items c.in-Some.is }) refl
+    (record {
+      place = refl;
+      tree = refl;
+      rest =
+          cut_off _ _ c.pop.result c.in-Some.area c.pop.ensures.items c.in-Some.is;
+    }) refl
 
 pub returns-in-None : goal.returns-in-None
 returns-in-None g c =

@@ -1,5 +1,5 @@
 use Rattle.std.proofs.Common.{sym, subst}
-use Rattle.cell_calc.specs.Marks.{place_of, marks_of}
+use Rattle.cell_calc.specs.Marks.{keyed_place, marks_of}
 use Rattle.cell_calc.specs.Walk.{Meets}
 use Rattle.cell_calc.proofs.Popped.{both_on_ok}
 use Rattle.cell_calc.proofs.Closing.{found_new}
@@ -13,7 +13,9 @@ pub returns-in-Circular : goal.returns-in-Circular
 returns-in-Circular g c = λ at.
     let contents = g.C.CellsOf.contents c.args.cells.now in
     both_on_ok c.close.result
-    (λ closes none. subst (Meets contents (place_of c.args.place) (marks_of c.args.table.now) c.args.path.now.items (marks_of c.close.new.table))
+    (λ closes none.
+    subst (Meets contents (keyed_place c.args.place) (marks_of c.args.table.now) c.args.path.now.items
+    (marks_of c.close.new.table))
     (sym none) (closed contents _ _ _ (sym c.in-Circular.ensures) _ closes))
     c.close.ensures.all c.close.ensures.none
 

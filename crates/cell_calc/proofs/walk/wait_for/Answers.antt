@@ -12,7 +12,8 @@ returns-then-is_empty g c = λ whole cut same.
     let marks = marks_of c.args.table.now in
     let below = c.args.path.now.items in
     let stored = c.in_ok-stored.stored in
-    let notes = subst (λ l. Notes marks c.args.area.sheet l l c.in_ok-noted.noted.items) c.as_slice.ensures.value c.in_ok-noted.ensures in
+    let notes = subst (λ l. Notes marks c.args.area.sheet l l c.in_ok-noted.noted.items) c.as_slice.ensures.value
+    c.in_ok-noted.ensures in
     let nought = is_nought _ (sym c.is_empty.ensures ∙ c.if-is_empty.true) in
     let none = no_rest c.in_ok-noted.noted.items (omega (arith, c.in_ok-noted.noted.ok, nought)) in
     subst (Goes contents marks (whole ∷ below) marks) (sym c.in_ok-push_front.ensures.items)
@@ -25,7 +26,8 @@ returns g c = λ whole cut same.
     let marks = marks_of c.args.table.now in
     let below = c.args.path.now.items in
     let stored = c.in_ok-stored.stored in
-    let notes = subst (λ l. Notes marks c.args.area.sheet l l c.in_ok-noted.noted.items) c.as_slice.ensures.value c.in_ok-noted.ensures in
+    let notes = subst (λ l. Notes marks c.args.area.sheet l l c.in_ok-noted.noted.items) c.as_slice.ensures.value
+    c.in_ok-noted.ensures in
     on_ok_weaker c.put_back.result
     (λ found. subst (Goes contents marks (whole ∷ below) marks) (sym found.3)
     (put_back contents whole c.args.frame c.args.area cut found.0 found.1

@@ -9,7 +9,8 @@ pub returns-in_err-journal : goal.returns-in_err-journal
 returns-in_err-journal c = λ words has. rw c.from_residual.ensures
     (none_found (λ command. IsOf (codes "replay") command words) (λ command of.
     let needs = replay_needs has.0 words has.1 command of in
-    missing needs.0 _ _ (ap option_copied (sym c.in_err-journal.was) ∙ c.get_str.ensures) (has.2 (codes "journal")) needs.1))
+    missing needs.0 _ _ (ap option_copied (sym c.in_err-journal.was) ∙ c.get_str.ensures)
+    (has.2 (codes "journal")) needs.1))
 
 pub returns : goal.returns
 returns c = λ words has. some_only (replay c.in_ok-journal.journal.now) (codes "replay") words

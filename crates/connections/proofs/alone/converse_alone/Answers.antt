@@ -18,7 +18,9 @@ returns-in-Ok-clause-served g c =
       served_alone g.E.Engine.plain (λ (keeper : List ℕ). 0) _ made.desk c.args.users.now made.ensures.callers
           made.ensures.pair (λ keeper. refl) (number_of made.pass) (seen_by made.pass) c.args.most
           (g.L.Source.left before) (g.L.Sink.written before) (g.L.Sink.sink_shortages before) after spoken.result.0
-          made.ensures.pass.2 (made.ensures.pass.1 ∙ made.ensures.empty (ap Some (c.new-keeper.ensures ∙ c.new.ensures.items))) spoken.ensures.served,
+          made.ensures.pass.2
+          (made.ensures.pass.1 ∙ made.ensures.empty (ap Some (c.new-keeper.ensures ∙ c.new.ensures.items)))
+          spoken.ensures.served,
     )
 
 -- where there is no memory for a desk, nothing is done

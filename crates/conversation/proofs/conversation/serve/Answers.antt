@@ -37,7 +37,8 @@ loop-ended-preserved g c = record {
       (g.L.Sink.sink_shortages c.loop-ended.link))
       (at_moment (g.P.Replies.at c.exchange-next.result.0) (g.L.Sink.written c.exchange-next.new.link)
       (g.L.Sink.sink_shortages c.exchange-next.new.link))
-      c.loop-ended.invariant.answered (rw (c.loop-ended.invariant.about, c.in-None.is) at c.exchange-next.ensures.exchange);
+      c.loop-ended.invariant.answered
+      (rw (c.loop-ended.invariant.about, c.in-None.is) at c.exchange-next.ensures.exchange);
   input = Counts-then _ _ _ _ _ _ c.loop-ended.invariant.input c.exchange-next.ensures.input;
   output = Counts-then _ _ _ _ _ _ c.loop-ended.invariant.output c.exchange-next.ensures.output;
   shortages = omega (arith, c.loop-ended.invariant.shortages, c.exchange-next.ensures.shortages);
@@ -57,13 +58,16 @@ returns-in-Some-clause-left g c =
 
 pub returns-in-Some-clause-served : goal.returns-in-Some-clause-served
 returns-in-Some-clause-served g c =
-    IsConversation-behind (g.P.Replies.answers (g.P.Replies.about c.args.replies)) (room_of c.args.most c.args.buffer.now)
+    IsConversation-behind (g.P.Replies.answers (g.P.Replies.about c.args.replies))
+    (room_of c.args.most c.args.buffer.now)
     (room_of c.args.most c.loop-ended.buffer)
     (stream_of c.args.buffer.now (g.L.Source.left c.args.link.now))
     (stream_of c.loop-ended.buffer (g.L.Source.left c.loop-ended.link))
-    (at_moment (g.P.Replies.at c.args.replies) (g.L.Sink.written c.args.link.now) (g.L.Sink.sink_shortages c.args.link.now))
+    (at_moment (g.P.Replies.at c.args.replies) (g.L.Sink.written c.args.link.now)
+    (g.L.Sink.sink_shortages c.args.link.now))
     (at_moment (g.P.Replies.at c.loop-ended.replies) (g.L.Sink.written c.loop-ended.link)
     (g.L.Sink.sink_shortages c.loop-ended.link))
     (at_moment (g.P.Replies.at c.exchange-next.result.0) (g.L.Sink.written c.exchange-next.new.link)
     (g.L.Sink.sink_shortages c.exchange-next.new.link))
-    c.in-Some.ended c.loop-ended.invariant.answered (rw (c.loop-ended.invariant.about, c.in-Some.is) at c.exchange-next.ensures.exchange)
+    c.in-Some.ended c.loop-ended.invariant.answered
+    (rw (c.loop-ended.invariant.about, c.in-Some.is) at c.exchange-next.ensures.exchange)

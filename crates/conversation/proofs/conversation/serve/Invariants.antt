@@ -18,7 +18,8 @@ invariant-loop-ended g l = record {
   output : Counts (g.L.Sink.sink_faults l.initial.link) (g.L.Sink.sink_faults l.link)
       (g.L.Sink.sink_steady l.initial.link) (g.L.Sink.sink_steady l.link);
   shortages : g.L.Sink.sink_shortages l.initial.link ≤ g.L.Sink.sink_shortages l.link;
-  left : LosesFirst (stream_of l.initial.buffer (g.L.Source.left l.initial.link)) (stream_of l.buffer (g.L.Source.left l.link));
+  left : LosesFirst (stream_of l.initial.buffer (g.L.Source.left l.initial.link))
+      (stream_of l.buffer (g.L.Source.left l.link));
   references : g.L.Duplex.references l.link ≡ g.L.Duplex.references l.initial.link;
 }
 

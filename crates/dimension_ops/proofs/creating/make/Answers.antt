@@ -27,7 +27,8 @@ loop-properties-preserved c =
           (are_more (take k asked) [] before one placed c.loop-properties.invariant.0 is)),
       subst (AreFaults c.or-faults.result) (sym each)
           (faults_more (broken_each (take k asked) [] before) (sheet_added_broken one (sheets_made before))
-          c.loop-properties.faults c.in_ok-judge.field-0 c.or-faults.result c.loop-properties.invariant.1 c.in_ok-judge.ensures
+          c.loop-properties.faults c.in_ok-judge.field-0 c.or-faults.result c.loop-properties.invariant.1
+          c.in_ok-judge.ensures
           c.or-faults.ensures.bad_range c.or-faults.ensures.id_taken c.or-faults.ensures.bad_name
           c.or-faults.ensures.name_taken c.or-faults.ensures.last_line),
     )

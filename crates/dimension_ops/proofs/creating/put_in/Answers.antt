@@ -13,7 +13,8 @@ insert-requires c =
     (map arc_value c.loop-one.sheets.items) c.requires.places c.loop-one-test.true c.one-item.is c.loop-one.invariant in
     let long = length-map c.loop-one.sheets.items arc_value in
     let at = c.place.ensures in
-    let held : Rattle.std.specs.Vec.vec_len c.loop-one.sheets ≡ length c.loop-one.sheets.items = c.loop-one.sheets.ok.0 in
+    let held : Rattle.std.specs.Vec.vec_len c.loop-one.sheets ≡ length c.loop-one.sheets.items =
+    c.loop-one.sheets.ok.0 in
     omega (arith, there, long, at, held)
 
 pub loop-one-preserved : goal.loop-one-preserved
@@ -21,7 +22,8 @@ loop-one-preserved c =
     let one = c.one-item.result in
     ap (map arc_value) c.in_ok-insert.ensures.items
     ∙ map_with arc_value c.place.result c.in_ok-sheet.sheet c.loop-one.sheets.items
-    ∙ ap (λ (sheet : PlaceSheet). insert (map arc_value c.loop-one.sheets.items) c.place.result sheet) c.in_ok-sheet.ensures
+    ∙ ap (λ (sheet : PlaceSheet). insert (map arc_value c.loop-one.sheets.items) c.place.result sheet)
+    c.in_ok-sheet.ensures
     ∙ ap (λ at. insert (map arc_value c.loop-one.sheets.items) at (new_place_sheet one.1)) c.place.ensures
     ∙ ap (λ (sheets : List PlaceSheet). insert sheets one.0 (new_place_sheet one.1)) c.loop-one.invariant
     ∙ sym (made_next c.args.placed.now c.loop-one.one-index one c.loop-one-test.true c.one-item.is)

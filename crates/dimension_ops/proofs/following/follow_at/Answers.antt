@@ -17,4 +17,5 @@ returns-in-Ok-clause-formulas c =
     let still : formulas_at (Some c.follow_content.new.content) ≡ formulas_at (Some c.in-Ok.content.now) =
     ap (λ b. cond b 1 0) alike in
     keeps_at c.args.cells.now.table _ c.args.row c.args.column c.in-Ok.content.now
-    c.follow_content.new.content made c.in-Ok.ensures.item alike (ap formulas_in made ∙ omega (arith, written, was, still))
+    c.follow_content.new.content made c.in-Ok.ensures.item alike
+    (ap formulas_in made ∙ omega (arith, written, was, still))

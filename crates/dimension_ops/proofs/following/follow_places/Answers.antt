@@ -22,7 +22,8 @@ loop-place-preserved c =
     let at = followed_at c.args.by.now.sheet c.args.by.now.axis c.args.by.now.count c.args.by.now.change.now in
     record {
       followed = c.in_ok-follow_at.ensures.followed ∙ ap (λ table. at table place) c.loop-place.invariant.followed
-          ∙ sym (fold_more at c.args.cells.now.table c.args.places.now c.loop-place.place-index (0, 0) c.loop-place-test.true);
+          ∙ sym (fold_more at c.args.cells.now.table c.args.places.now c.loop-place.place-index (0, 0)
+          c.loop-place-test.true);
       others = λ k d behind there.
           let other : ℕ × ℕ = get_or c.args.places.now k d in
           let held = item_at c.loop-place.cells.table other.0 other.1 in

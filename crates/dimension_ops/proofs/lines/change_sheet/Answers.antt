@@ -1,7 +1,8 @@
 use Rattle.std.proofs.Common.{◌≤◌, sym, ap, subst, Ok, Err}
 use Rattle.std.specs.Option.{option_map_or}
 use Rattle.world_model.specs.Sound.{most_places, place_sheet_with}
-use Rattle.dimension_ops.proofs.Changed.{by_its_lines, has_places, has_sizes}
+use Rattle.dimension_ops.specs.SizeLaws.{has_places, has_sizes}
+use Rattle.dimension_ops.proofs.Changed.{by_its_lines}
 use Rattle.dimension_ops.proofs.lines.change_sheet.Goals as goal
 
 pub returns : goal.returns

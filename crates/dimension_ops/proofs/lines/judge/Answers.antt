@@ -3,8 +3,8 @@ use Rattle.std.specs.Prelude.{IfSome}
 use Rattle.cell_store.specs.Moved.{lines_on}
 use Rattle.merge_ranges.specs.Following.{AreWithin}
 use Rattle.world_model.specs.Sound.{IsSheetSound}
+use Rattle.dimension_ops.specs.FollowLaws.{merges_within}
 use Rattle.dimension_ops.specs.Lines.{lines_of_sheet}
-use Rattle.dimension_ops.proofs.Changed.{merges_within}
 use Rattle.dimension_ops.proofs.PastLines.{found_holds}
 use Rattle.dimension_ops.proofs.lines.judge.Goals as goal
 

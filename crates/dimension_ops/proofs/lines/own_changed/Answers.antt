@@ -13,7 +13,8 @@ follow-requires-clause-within c =
 
 pub follow-requires-clause-places : goal.follow-requires-clause-places
 follow-requires-clause-places c =
-    subst (AreReferring c.args.by.now.sheet c.in_ok-moved.moved.table) (sym c.deref.ensures.value) c.in_ok-places.ensures
+    subst (AreReferring c.args.by.now.sheet c.in_ok-moved.moved.table) (sym c.deref.ensures.value)
+    c.in_ok-places.ensures
 
 pub returns-then-keeps_places : goal.returns-then-keeps_places
 returns-then-keeps_places c = record {

@@ -2,7 +2,7 @@ use Rattle.std.proofs.Common.{ap, ◌∙◌}
 use Rattle.std.specs.Arc.{arc_value}
 use Rattle.std.specs.Prelude.{IfOk, Ok, Err, Result}
 use Rattle.world_model.specs.Sheet.{PlaceSheet}
-use Rattle.dimension_ops.proofs.Changed.{another_changed}
+use Rattle.dimension_ops.specs.FollowLaws.{another_changed}
 use Rattle.dimension_ops.proofs.lines.sheet_changed.Goals as goal
 
 also_ok : {A E : Type 0} (P Q : A → Type 0) (answer : Result A E) → ((value : A) → P value → Q value) → IfOk answer P

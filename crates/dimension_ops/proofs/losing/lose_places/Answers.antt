@@ -9,7 +9,8 @@ loop-place-preserved c =
     let place : ℕ × ℕ = get_or c.args.places.now c.loop-place.place-index (0, 0) in
     record {
       lost = c.in_ok-lose_at.ensures.lost ∙ ap (λ table. lost_at c.args.sheet table place) c.loop-place.invariant.lost
-          ∙ sym (fold_more (lost_at c.args.sheet) c.args.cells.now.table c.args.places.now c.loop-place.place-index (0, 0)
+          ∙ sym (fold_more (lost_at c.args.sheet) c.args.cells.now.table c.args.places.now
+          c.loop-place.place-index (0, 0)
           c.loop-place-test.true);
       formulas = keeps_on c.args.cells.now.table c.loop-place.cells.table c.lose_at.new.cells.table
           c.loop-place.invariant.formulas c.lose_at.ensures.formulas;

@@ -11,7 +11,8 @@ use Rattle.dimension_ops.proofs.losing.sheets_left.Goals as goal
 pub loop-sheet-preserved-in_ok-push : goal.loop-sheet-preserved-in_ok-push
 loop-sheet-preserved-in_ok-push c =
     subst (λ items. AllZip (LosesReferences c.args.deleted)
-    (other_sheets c.args.deleted (map arc_value (c.loop-sheet.yielded ++ (c.in-Some.sheet ∷ [])))) (map arc_value items))
+    (other_sheets c.args.deleted (map arc_value (c.loop-sheet.yielded ++ (c.in-Some.sheet ∷ []))))
+    (map arc_value items))
     (sym c.in_ok-push.ensures.items)
     (lost_more arc_value c.args.deleted c.loop-sheet.yielded c.loop-sheet.left.items c.in-Some.sheet
     c.in_ok-sheet_left.field-0

@@ -10,7 +10,8 @@ pub returns-then-lines-given-clause-sized : goal.returns-then-lines-given-clause
 returns-then-lines-given-clause-sized c =
     on_ok c.make.result _ _
     (λ gets size others sized. subst (λ now. IsSized c.args.sheet now others c.make.new.book.sheets)
-    (sym (ap (λ b. cond b (size_after c.args.axis (Insert c.args.lines (c.args.given - c.args.lines)) size.0 size.1) size)
+    (sym (ap
+    (λ b. cond b (size_after c.args.axis (Insert c.args.lines (c.args.given - c.args.lines)) size.0 size.1) size)
     (lt-ltb c.args.lines c.args.given c.if-lines-given.true)))
     (gets size others sized))
     c.make.ensures.sized

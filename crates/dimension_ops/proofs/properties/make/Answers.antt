@@ -1,6 +1,6 @@
 use Rattle.std.proofs.Common.{◌≤◌, sym, subst}
 use Rattle.world_model.specs.Sound.{most_places}
-use Rattle.dimension_ops.proofs.Changed.{has_places}
+use Rattle.dimension_ops.specs.SizeLaws.{has_places}
 use Rattle.dimension_ops.proofs.Setting.{gets_size, on_ok}
 use Rattle.dimension_ops.proofs.properties.make.Goals as goal
 

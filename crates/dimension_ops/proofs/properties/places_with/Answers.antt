@@ -1,8 +1,9 @@
 use Rattle.std.proofs.Common.{◌≡◌, ℕ, ap, sym, ◌∙◌, ◌*◌, arith}
-use Rattle.dimension_ops.proofs.Setting.{places_given}
+use Rattle.dimension_ops.specs.SizeLaws.{places_given}
 use Rattle.dimension_ops.proofs.properties.places_with.Goals as goal
 
-product : (places one other one' other' : ℕ) → places ≡ one * other → one ≡ one' → other ≡ other' → places ≡ one' * other'
+product : (places one other one' other' : ℕ) → places ≡ one * other → one ≡ one' → other ≡ other' → places
+    ≡ one' * other'
 product places one other one' other' is same same' = is ∙ ap (λ n. n * other) same ∙ ap (λ n. one' * n) same'
 
 pub overflow_sub-result : goal.overflow_sub-result

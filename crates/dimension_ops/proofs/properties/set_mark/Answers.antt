@@ -2,8 +2,9 @@ use Rattle.std.proofs.Common.{refl, sym, subst, [], ◌∷◌}
 use Rattle.world_model.specs.Book.{PlaceBook}
 use Rattle.world_model.specs.BookChange.{AreChanges, BookChange}
 use Rattle.world_model.specs.SheetChange.{place_marked_hidden}
+use Rattle.dimension_ops.specs.PropertyLaws.{one_visible, size_kept}
 use Rattle.dimension_ops.specs.SetProperties.{IsMarkFor, KeepsSize, mark_set}
-use Rattle.dimension_ops.proofs.Setting.{on_ok, one_visible, size_kept}
+use Rattle.dimension_ops.proofs.Setting.{on_ok}
 use Rattle.dimension_ops.proofs.properties.set_mark.Goals as goal
 
 pub mark_hidden-requires-clause-sound : goal.mark_hidden-requires-clause-sound

@@ -3,9 +3,10 @@ use Rattle.std.specs.Prelude.{Some}
 use Rattle.world_model.specs.Book.{PlaceBook}
 use Rattle.world_model.specs.BookChange.{AreChanges, BookChange}
 use Rattle.world_model.specs.SheetChange.{place_titled}
+use Rattle.dimension_ops.specs.NewSheetLaws.{has_bytes}
+use Rattle.dimension_ops.specs.PropertyLaws.{others_free, size_kept}
 use Rattle.dimension_ops.specs.SetProperties.{IsTitleFor, KeepsSize, title_set}
-use Rattle.dimension_ops.proofs.Setting.{on_ok, others_free, size_kept}
-use Rattle.dimension_ops.proofs.SheetRoom.{has_bytes}
+use Rattle.dimension_ops.proofs.Setting.{on_ok}
 use Rattle.dimension_ops.proofs.properties.set_title.Goals as goal
 
 pub retitle-requires-clause-sound : goal.retitle-requires-clause-sound

@@ -8,7 +8,8 @@ use Rattle.dimension_ops.proofs.renaming.naming.Goals as goal
 pub returns : goal.returns
 returns c =
     subst (AreNaming c.args.word.now c.args.cells.now.table)
-    (sym (filter_same _ (has_word_at c.args.word.now c.args.cells.now.table) _ (λ x b f' k. (search rules, search rules)) _ _
+    (sym (filter_same _ (has_word_at c.args.word.now c.args.cells.now.table) _
+    (λ x b f' k. (search rules, search rules)) _ _
     c.retain.ensures.filtered))
     (such_marked (has_word c.args.word.now) (formula_then c.args.word.now) c.args.cells.now.table c.args.marks.now.table
     c.in_ok-places.places.items c.requires c.in_ok-places.ensures)

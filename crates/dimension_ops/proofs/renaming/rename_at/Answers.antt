@@ -11,7 +11,8 @@ returns-in-Ok-clause-formulas c =
     let written = c.formulas_counted.ensures.written c.args.cells.now.table c.args.row c.args.column
     (Some c.rename_in.new.content) in
     let was = ap formulas_at c.in-Ok.ensures.item in
-    let alike = still_formula c.args.old.now c.args.new.now c.rename_in.result c.in-Ok.content.now c.rename_in.new.content
+    let alike =
+    still_formula c.args.old.now c.args.new.now c.rename_in.result c.in-Ok.content.now c.rename_in.new.content
     c.rename_in.ensures.renamed c.rename_in.ensures.unchanged in
     let still : formulas_at (Some c.rename_in.new.content) ≡ formulas_at (Some c.in-Ok.content.now) =
     ap (λ b. cond b 1 0) alike in

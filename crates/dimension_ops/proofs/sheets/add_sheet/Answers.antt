@@ -1,7 +1,7 @@
 use Rattle.std.proofs.Common.{refl}
 use Rattle.dimension_ops.specs.Broken.{first_broken}
+use Rattle.dimension_ops.specs.JudgingLaws.{judged_wrong}
 use Rattle.dimension_ops.specs.SheetRequests.{sheet_added_broken}
-use Rattle.dimension_ops.proofs.Judging.{judged_wrong}
 use Rattle.dimension_ops.proofs.sheets.add_sheet.Goals as goal
 
 pub returns-in-Err-clause-judged : goal.returns-in-Err-clause-judged

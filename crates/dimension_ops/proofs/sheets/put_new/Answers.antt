@@ -5,10 +5,10 @@ use Rattle.world_model.specs.Sheet.{PlaceSheet}
 use Rattle.world_model.specs.SheetChange.{new_place_sheet, place_sheet_added}
 use Rattle.world_model.specs.Sound.{IsSound, place_sheet_with}
 use Rattle.std.proofs.lemmas.Bool.{ltb-false}
+use Rattle.dimension_ops.specs.JudgingLaws.{breaks_none}
+use Rattle.dimension_ops.specs.NewSheetLaws.{few_lines, room_for}
 use Rattle.dimension_ops.specs.SheetRequests.{new_place, sheet_added_broken}
-use Rattle.dimension_ops.proofs.Judging.{breaks_none}
 use Rattle.dimension_ops.proofs.NewSheets.{found_added}
-use Rattle.dimension_ops.proofs.SheetRoom.{few_lines, room_for}
 use Rattle.dimension_ops.proofs.sheets.put_new.Goals as goal
 
 pub new_sheet-requires : goal.new_sheet-requires

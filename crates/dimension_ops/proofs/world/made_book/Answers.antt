@@ -23,7 +23,8 @@ with_sheets-requires c =
     (sym (same_book (book_id c.args.others) c.args.title.now c.args.owner.now c.args.making.now c.in_ok-id.id
     c.in_ok-called.called c.in_ok-owned.owned (map arc_value c.in_ok-sheets.sheets.items) c.in_ok-id.ensures
     c.in_ok-called.ensures c.in_ok-owned.ensures (c.in_ok-sheets.ensures ∙ ap sheets_made c.placed.ensures)))
-    (c.books_made.ensures.sound (book_id c.args.others) c.args.title.now c.args.owner.now c.args.making.now c.requires.can)
+    (c.books_made.ensures.sound (book_id c.args.others) c.args.title.now c.args.owner.now c.args.making.now
+    c.requires.can)
 
 pub returns : goal.returns
 returns c =

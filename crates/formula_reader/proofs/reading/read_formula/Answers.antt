@@ -9,7 +9,9 @@ use Rattle.formula_reader.proofs.reading.read_formula.Goals as goal
 
 pub returns-in-Some-clause-tokens : goal.returns-in-Some-clause-tokens
 returns-in-Some-clause-tokens g c =
-    λ tokens are. subst (λ list. (c.formula_of.result ≡ formula_of (g.S.SheetNames.sheets c.args.names.now) c.args.here c.args.text.now list)
+    λ tokens are.
+    subst (λ list.
+    (c.formula_of.result ≡ formula_of (g.S.SheetNames.sheets c.args.names.now) c.args.here c.args.text.now list)
     ⊎ (c.formula_of.result ≡ Err fault.NoMemory))
     (tokens_of_once c.a1_laws.ensures c.args.text.now c.in-Some.tokens tokens
     (rw c.in-Some.is at c.in_ok-tokens.ensures.tokens) are) c.formula_of.ensures
@@ -21,31 +23,36 @@ returns-in-Some-clause-text g c =
 pub returns-in-Some-clause-bytes : goal.returns-in-Some-clause-bytes
 returns-in-Some-clause-bytes g c =
     let are = rw c.in-Some.is at c.in_ok-tokens.ensures.tokens in
-    read_spells (g.S.SheetNames.sheets c.args.names.now) c.args.here c.args.text.now are.0 c.in-Some.tokens c.formula_of.result
+    read_spells (g.S.SheetNames.sheets c.args.names.now) c.args.here c.args.text.now are.0 c.in-Some.tokens
+    c.formula_of.result
     are.1 are.2 c.formula_of.ensures
 
 pub returns-in-Some-clause-references : goal.returns-in-Some-clause-references
 returns-in-Some-clause-references g c =
     let are = rw c.in-Some.is at c.in_ok-tokens.ensures.tokens in
-    read_references c.a1_laws.ensures (g.S.SheetNames.sheets c.args.names.now) c.args.here c.args.text.now are.0 c.in-Some.tokens
+    read_references c.a1_laws.ensures (g.S.SheetNames.sheets c.args.names.now) c.args.here c.args.text.now are.0
+    c.in-Some.tokens
     c.formula_of.result are.1 are.2 c.formula_of.ensures
 
 pub returns-in-Some-clause-tree : goal.returns-in-Some-clause-tree
 returns-in-Some-clause-tree g c =
     let are = rw c.in-Some.is at c.in_ok-tokens.ensures.tokens in
-    read_tree c.a1_laws.ensures (g.S.SheetNames.sheets c.args.names.now) c.args.here c.args.text.now are.0 c.in-Some.tokens
+    read_tree c.a1_laws.ensures (g.S.SheetNames.sheets c.args.names.now) c.args.here c.args.text.now are.0
+    c.in-Some.tokens
     c.formula_of.result are.1 are.2 c.formula_of.ensures
 
 pub returns-in-Some-clause-limits : goal.returns-in-Some-clause-limits
 returns-in-Some-clause-limits g c =
     let are = rw c.in-Some.is at c.in_ok-tokens.ensures.tokens in
-    read_within c.a1_laws.ensures (g.S.SheetNames.sheets c.args.names.now) c.args.here c.args.text.now are.0 c.in-Some.tokens
+    read_within c.a1_laws.ensures (g.S.SheetNames.sheets c.args.names.now) c.args.here c.args.text.now are.0
+    c.in-Some.tokens
     c.formula_of.result are.1 are.2 c.formula_of.ensures
 
 pub returns-in-Some-clause-again : goal.returns-in-Some-clause-again
 returns-in-Some-clause-again g c =
     let are = rw c.in-Some.is at c.in_ok-tokens.ensures.tokens in
-    read_readable c.a1_laws.ensures (g.S.SheetNames.sheets c.args.names.now) c.args.here c.args.text.now are.0 c.in-Some.tokens
+    read_readable c.a1_laws.ensures (g.S.SheetNames.sheets c.args.names.now) c.args.here c.args.text.now are.0
+    c.in-Some.tokens
     c.formula_of.result are.1 are.2 c.formula_of.ensures
 
 pub returns-in_ok-one_text-in-None-clause-tokens : goal.returns-in_ok-one_text-in-None-clause-tokens

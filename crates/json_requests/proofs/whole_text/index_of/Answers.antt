@@ -13,7 +13,8 @@ returns-in-Ok c =
 past : (c : goal.In-Err) → nat_le (digits_value 10 c.args.text.now) greatest_index ≡ false
 past c = elim (cases_Bool (nat_le (digits_value 10 c.args.text.now) greatest_index)) [
   | inl small ↦ absurd (c.in-Err.ensures.value.0 (
-      subst (λ text. IsNumeral 10 text × (digits_value 10 text < 2 ^ 64)) (sym (without_plus c.args.text.now c.requires)) (
+      subst (λ text. IsNumeral 10 text × (digits_value 10 text < 2 ^ 64))
+      (sym (without_plus c.args.text.now c.requires)) (
         digits_are_numeral c.args.text.now c.requires,
         omega (arith, leb-true (digits_value 10 c.args.text.now) greatest_index small),
       )

@@ -9,5 +9,6 @@ use Rattle.json_shapes.proofs.mask.takes.Goals as goal
 pub returns : goal.returns
 returns c =
     any_from_yields_List (λ other. bytes_eq other c.args.path.now || is_every other) _ _ _ c.any.ensures.ran
-    (YieldsList-from_str_split 44 c.args.mask.now (lit< tt) c.split.ensures.text c.split.ensures.has_more c.split.ensures.pattern)
+    (YieldsList-from_str_split 44 c.args.mask.now (lit< tt) c.split.ensures.text c.split.ensures.has_more
+    c.split.ensures.pattern)
     (λ x b q k. search (rules, tests))

@@ -18,7 +18,8 @@ returns c =
     record {
       request = λ user project book asked reply changes none is.
           left_stay stays [] (TouchedCells book.sheets asked) book changes
-          (by_kind_leave c.changes_apart.ensures c.changes_in_turn.ensures user project book reply changes asked none is);
+          (by_kind_leave c.changes_apart.ensures c.changes_in_turn.ensures user project book reply changes
+          asked none is);
       rows = λ user sheet at count rows book area reply changes written.
           left_stay stays (added_on sheet Rows at count) (WriteCells written.between.sheets true area rows) book changes
           (rows_leave user sheet at count rows book area reply changes written);

@@ -1,4 +1,4 @@
-use Rattle.merge_ranges.proofs.Merging.{by_first_total}
+use Rattle.merge_ranges.specs.FirstCells.{by_first_total}
 use Rattle.merge_ranges.proofs.Ordered.{sorted_same}
 use Rattle.merge_ranges.proofs.laws.lists_are_same.Goals as goal
 

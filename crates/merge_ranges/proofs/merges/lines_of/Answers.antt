@@ -6,8 +6,8 @@ use Rattle.grid_range.specs.Area.{band_on}
 use Rattle.grid_range.specs.Band.{first_line}
 use Rattle.grid_range.specs.declared.area.Area.{Area}
 use Rattle.grid_range.specs.declared.axis.Axis.{Axis}
+use Rattle.merge_ranges.specs.EndsLaws.{ends_on, rises}
 use Rattle.merge_ranges.specs.Tests.{has_many_cells, line_of, lines_of, past_line}
-use Rattle.merge_ranges.proofs.Rectangles.{ends_on, rises}
 use Rattle.merge_ranges.proofs.merges.lines_of.Goals as goal
 
 abbrev areas_from : Axis → Area → ℕ → ℕ → List Area
@@ -41,5 +41,6 @@ returns c =
     let some = rises band (ends_on c.args.axis c.args.area.now c.requires) in
     let below = c.loop-line.auto.line-end (omega (arith, first, past, some)) in
     c.loop-line.invariant
-    ∙ all_lines c.args.axis c.args.area.now c.first_line-first.result c.past_line-past.result c.loop-line.line first past
+    ∙ all_lines c.args.axis c.args.area.now c.first_line-first.result c.past_line-past.result
+    c.loop-line.line first past
     (omega (arith, below, c.loop-line-test.false))

@@ -9,4 +9,5 @@ returns-then-count-eq0 c =
 pub returns-in-Ok : goal.returns-in-Ok
 returns-in-Ok c =
     let some = c.if-count-eq0.false in
-    found_some_added c.args.sheet c.args.count c.args.book.now c.append_lines.new.book (omega (arith, some)) c.in-Ok.ensures
+    found_some_added c.args.sheet c.args.count c.args.book.now c.append_lines.new.book (omega (arith, some))
+    c.in-Ok.ensures

@@ -13,7 +13,8 @@ pub returns-in_ok-clear_behind-in-All : goal.returns-in_ok-clear_behind-in-All
 returns-in_ok-clear_behind-in-All c =
     let area : Area = c.args.area.now in
     on_ok_so c.clear_behind-in-All.result c.clear_behind-in-All.ensures.cleared
-    (λ later. subst (λ (updates : Updates). BookUpdated area.sheet updates c.args.book.now c.clear_behind-in-All.new.book)
+    (λ later.
+    subst (λ (updates : Updates). BookUpdated area.sheet updates c.args.book.now c.clear_behind-in-All.new.book)
     (sym (ap (λ type. covered_cleared type area) c.in-All.is))
     (updated_both area.sheet (behind_cleared axis.Rows area) (behind_cleared axis.Columns area)
     (covered_cleared merge.All area) (whole_emptied area c.requires.ends) c.args.book.now c.clear_behind.new.book

@@ -1,4 +1,4 @@
-use Rattle.request_kinds.proofs.LocationsWithin.{spots_within}
+use Rattle.request_kinds.specs.LocationsWithin.{spots_within}
 use Rattle.request_kinds.proofs.metadata.broken_by_locations.Goals as goal
 
 pub returns-clause-within : goal.returns-clause-within

@@ -6,7 +6,7 @@ use Rattle.world_model.specs.Sound.{IsFilterOf}
 use Rattle.dimension_ops.specs.Broken.{judged_by}
 use Rattle.request_kinds.specs.Rows.{cut_on}
 use Rattle.request_kinds.specs.SetBasicFilter.{broken_by_filter}
-use Rattle.request_kinds.specs.FoundLaws.{sheet_has_id}
+use Rattle.values_api.specs.FoundLaws.{sheet_has_id}
 use Rattle.request_kinds.proofs.FilterPut.{no_sheet_told, with_criteria}
 use Rattle.request_kinds.proofs.set_basic_filter.judge.Goals as goal
 

@@ -1,7 +1,7 @@
 use Rattle.std.proofs.Common.{sym, ap, subst, ◌∙◌}
 use Rattle.grid_range.specs.Area.{AreaWithin}
 use Rattle.grid_range.specs.declared.area.Area.{Area}
-use Rattle.request_kinds.proofs.FilterPut.{none_past}
+use Rattle.request_kinds.specs.FilterLaws.{none_past}
 use Rattle.request_kinds.proofs.set_basic_filter.judge_on.Goals as goal
 
 pub returns-in-Some-clause-of : goal.returns-in-Some-clause-of

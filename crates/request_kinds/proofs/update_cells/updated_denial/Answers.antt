@@ -8,7 +8,8 @@ use Rattle.request_kinds.proofs.update_cells.updated_denial.Goals as goal
 
 pub returns-in-Err : goal.returns-in-Err
 returns-in-Err c =
-    subst (λ area. IsDenial c.args.user.now c.args.book.now (UpdatedCells c.args.rows.now area c.args.book.now.sheets) None)
+    subst (λ area. IsDenial c.args.user.now c.args.book.now
+    (UpdatedCells c.args.rows.now area c.args.book.now.sheets) None)
     (sym c.in-Start.is)
     (none_written_denied c.args.user.now c.args.book.now c.args.rows.now c.in-Start.cell c.in-Err.field-0
     (rw c.area_from.ensures at c.in-Err.ensures.found))
@@ -28,7 +29,8 @@ returns-in-Ok-area_on c =
 
 pub returns-in-Err-area_on : goal.returns-in-Err-area_on
 returns-in-Err-area_on c =
-    subst (λ area. IsDenial c.args.user.now c.args.book.now (UpdatedCells c.args.rows.now area c.args.book.now.sheets) None)
+    subst (λ area. IsDenial c.args.user.now c.args.book.now
+    (UpdatedCells c.args.rows.now area c.args.book.now.sheets) None)
     (sym c.in-Range.is)
     (none_filled_denied c.args.user.now c.args.book.now c.args.rows.now c.in-Range.range c.in-Err-area_on.field-0
     c.in-Err-area_on.ensures.found)

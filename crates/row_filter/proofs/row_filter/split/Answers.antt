@@ -14,7 +14,8 @@ loop-criterion-preserved c =
     let more : c.push-in-loop-criterion.new.self.items ≡ ready ++ one ∷ [] = c.in_ok-push-2.ensures.items in
     record {
       ready = subst (AllZip IsReady (take (at + 1) criteria)) (sym more)
-          (IsReady-push criteria at c.criterion-item.result ready one c.loop-criterion-test.true (sym c.criterion-item.is)
+          (IsReady-push criteria at c.criterion-item.result ready one c.loop-criterion-test.true
+          (sym c.criterion-item.is)
           c.in_ok-one.ensures c.loop-criterion.invariant.ready);
       left = grind (arith, common_steps);
     }

@@ -6,7 +6,8 @@ use Rattle.serving.proofs.accepting.admit.Goals as goal
 pub serve_here-requires-in_default-lend-clause-asked : goal.serve_here-requires-in_default-lend-clause-asked
 serve_here-requires-in_default-lend-clause-asked g c κs within =
     asked_again (IsAnswer g.E.Engine.plain g.K.Keeper.failures g.K.Keeper.steady) _ _ _
-    (asked_as (IsAnswer g.E.Engine.plain g.K.Keeper.failures g.K.Keeper.steady) _ _ _ _ c.acceptor.view_is c.requires.asked)
+    (asked_as (IsAnswer g.E.Engine.plain g.K.Keeper.failures g.K.Keeper.steady) _ _ _ _ c.acceptor.view_is
+    c.requires.asked)
     _ refl refl refl c.reserve.ensures.items c.lend.ensures.old c.lend.ensures.same.1
     (record {
       drawing = c.lend.ensures.same.2;
@@ -19,12 +20,14 @@ serve_here-requires-in_default-lend-clause-asked g c κs within =
 pub take_back-requires-clause-away : goal.take_back-requires-clause-away
 take_back-requires-clause-away g c κs within =
     asked_away (IsAnswer g.E.Engine.plain g.K.Keeper.failures g.K.Keeper.steady) _ _ _
-    (asked_as (IsAnswer g.E.Engine.plain g.K.Keeper.failures g.K.Keeper.steady) _ _ _ _ c.acceptor.view_is c.requires.asked)
+    (asked_as (IsAnswer g.E.Engine.plain g.K.Keeper.failures g.K.Keeper.steady) _ _ _ _ c.acceptor.view_is
+    c.requires.asked)
 
 pub returns-in-Ok-start-clause-stands : goal.returns-in-Ok-start-clause-stands
 returns-in-Ok-start-clause-stands g c =
     started (IsAnswer g.E.Engine.plain g.K.Keeper.failures g.K.Keeper.steady) _ _ _
-    (asked_as (IsAnswer g.E.Engine.plain g.K.Keeper.failures g.K.Keeper.steady) _ _ _ _ c.acceptor.view_is c.requires.asked)
+    (asked_as (IsAnswer g.E.Engine.plain g.K.Keeper.failures g.K.Keeper.steady) _ _ _ _ c.acceptor.view_is
+    c.requires.asked)
     c.lend.new.from c.in-Ok.pass
     (record {
       pass_is = c.lend.ensures.old;
@@ -47,7 +50,8 @@ returns-in-Ok-start-clause-stands g c =
 pub returns-in-Err-clause-stands : goal.returns-in-Err-clause-stands
 returns-in-Err-clause-stands g c =
     handed_back (IsAnswer g.E.Engine.plain g.K.Keeper.failures g.K.Keeper.steady) _ _ _
-    (asked_as (IsAnswer g.E.Engine.plain g.K.Keeper.failures g.K.Keeper.steady) _ _ _ _ c.acceptor.view_is c.requires.asked)
+    (asked_as (IsAnswer g.E.Engine.plain g.K.Keeper.failures g.K.Keeper.steady) _ _ _ _ c.acceptor.view_is
+    c.requires.asked)
     c.lend.new.from c.in-Ok.pass
     (record {
       pass_is = c.lend.ensures.old;

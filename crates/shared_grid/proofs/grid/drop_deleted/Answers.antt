@@ -18,5 +18,6 @@ returns-then-end-first-clause-steps g c =
     let within = deleted_within c.args.change.now c.args.lines.now.count c.requires.fits in
     let first = ap (λ (lines : ℕ × ℕ). lines.0) c.deleted-first.ensures in
     let last = ap (λ (lines : ℕ × ℕ). lines.1) c.deleted-first.ensures in
-    on_ok (λ few. omega (arith, few, within.0, within.1, first, last, c.if-first-end.false, c.if-end-first.true, c.count.ensures))
+    on_ok (λ few. omega
+    (arith, few, within.0, within.1, first, last, c.if-first-end.false, c.if-end-first.true, c.count.ensures))
     c.drop_all.result c.drop_all.ensures.steps

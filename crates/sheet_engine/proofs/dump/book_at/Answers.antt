@@ -1,4 +1,4 @@
-use Rattle.std.proofs.Common.{◌≡◌, ◌∙◌, ap, get_or, sym, subst}
+use Rattle.std.proofs.Common.{◌∙◌, ap, sym, subst}
 use Rattle.std.specs.Option.{IsSome, option_copied}
 use Rattle.std.proofs.lemmas.Option.{get_or_from_slice_get}
 use Rattle.dimension_ops.specs.World.{book_with}
@@ -10,4 +10,5 @@ returns-clause-there c =
     let books = c.args.world.now in
     let one = c.unwrap.result.now in
     subst (λ book. IsSome (book_with book.id books))
-    (get_or_from_slice_get books c.args.at one one (sym c.at.ensures ∙ ap option_copied c.unwrap.ensures)) (found_there books c.args.at one c.requires)
+    (get_or_from_slice_get books c.args.at one one (sym c.at.ensures ∙ ap option_copied c.unwrap.ensures))
+    (found_there books c.args.at one c.requires)

@@ -10,5 +10,6 @@ loop-at-preserved c =
     let d = c.book_at.result.now in
     let there : at < length books = omega (arith, c.loop-at-test.true, c.count-at-end.ensures.count) in
     next_book books books at d c.loop-at.text c.push_book.new.text there c.loop-at.invariant
-    (subst (λ book. Grows books (calls_on book book.sheets) c.loop-at.text c.push_book.new.text) (c.book_at.ensures.book d)
+    (subst (λ book. Grows books (calls_on book book.sheets) c.loop-at.text c.push_book.new.text)
+    (c.book_at.ensures.book d)
     c.in_ok-push_book.ensures)

@@ -8,7 +8,8 @@ use Rattle.sheet_engine.proofs.dump.push_book.Goals as goal
 pub loop-at-init : goal.loop-at-init
 loop-at-init c =
     let book = c.args.book.now in
-    one_line c.args.world.now (owner_of book, look_at book) c.in_ok-look.look c.args.text.now c.extend_from_slice.new.self
+    one_line c.args.world.now (owner_of book, look_at book) c.in_ok-look.look c.args.text.now
+    c.extend_from_slice.new.self
     c.in_ok-look.ensures
     (c.in_ok-extend_from_slice.ensures.ok ∙ ap (λ more. c.args.text.now ++ more) c.as_slice.ensures)
 
@@ -19,7 +20,8 @@ loop-at-preserved c =
     let at = c.loop-at.at in
     let d = c.sheet_at.result.now in
     let there = subst (λ count. at < count)
-    (ap length (c.as_slice-at-end.ensures ∙ c.sheets.ensures) ∙ length-map book.sheets (λ (sheet : PlaceSheet). sheet.id))
+    (ap length (c.as_slice-at-end.ensures ∙ c.sheets.ensures)
+    ∙ length-map book.sheets (λ (sheet : PlaceSheet). sheet.id))
     c.loop-at-test.true in
     next_sheet books book book.sheets at d c.args.text.now c.loop-at.text c.extend_from_slice-in-loop-at.new.self
     c.in_ok-read.read there c.loop-at.invariant

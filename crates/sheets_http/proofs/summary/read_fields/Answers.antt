@@ -15,5 +15,6 @@ returns-in-Ok-Complete c =
 
 pub returns-in-Err : goal.returns-in-Err
 returns-in-Err c =
-    let room : length c.new-request.result.headers.now ≡ length c.args.room.now = ap length c.new-request.ensures.room in
+    let room : length c.new-request.result.headers.now ≡ length c.args.room.now =
+    ap length c.new-request.ensures.room in
     of_other_text (overflow_is_no_head c.args.head.now _ (rw room c.requires.room) c.in-Err.ensures.no_room) refl

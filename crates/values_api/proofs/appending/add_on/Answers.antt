@@ -4,12 +4,14 @@ use Rattle.values_api.proofs.appending.add_on.Goals as goal
 
 pub returns-then-count-eq0-clause-added : goal.returns-then-count-eq0-clause-added
 returns-then-count-eq0-clause-added c =
-    none_added c.args.sheet c.args.axis c.args.at c.args.count c.changes_in_turn.ensures c.args.book.now c.if-count-eq0.true
+    none_added c.args.sheet c.args.axis c.args.at c.args.count c.changes_in_turn.ensures c.args.book.now
+    c.if-count-eq0.true
 
 pub returns-in-Err-clause-refused : goal.returns-in-Err-clause-refused
 returns-in-Err-clause-refused c =
     let some : 0 < c.args.count = omega (arith, c.if-count-eq0.false) in
-    only_no_memory c.args.sheet c.args.axis c.args.at c.args.count c.args.book.now c.change_sheet.new.book c.in-Err.fault
+    only_no_memory c.args.sheet c.args.axis c.args.at c.args.count c.args.book.now c.change_sheet.new.book
+    c.in-Err.fault
     c.in-Err.ensures c.requires some
 
 pub returns-in-Ok-clause-added : goal.returns-in-Ok-clause-added

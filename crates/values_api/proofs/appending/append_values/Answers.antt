@@ -29,27 +29,33 @@ write_values-requires c =
 pub returns-in-Ok-clause-appended : goal.returns-in-Ok-clause-appended
 returns-in-Ok-clause-appended c =
     done_told c.args.insert c.args.area.now c.args.block.now c.args.book.now c.in_ok-plan.plan c.in_ok-plan.ensures
-    c.add_lines.new.book c.in_ok-add_lines.ensures.added c.args.user.now c.changes_in_turn.ensures c.updates_are_changes.ensures
+    c.add_lines.new.book c.in_ok-add_lines.ensures.added c.args.user.now c.changes_in_turn.ensures
+    c.updates_are_changes.ensures
     c.write_values.new.book c.in-Ok.written c.table_area-table.result c.table_area-table.ensures
     (subst (λ (area : Area). IsSomeAnd (place_sheet_with area.sheet c.add_lines.new.book.sheets)
-    (λ own. IsWriteBy c.args.user.now true area c.args.block.now own c.add_lines.new.book c.write_values.new.book (Ok c.in-Ok.written)))
+    (λ own. IsWriteBy c.args.user.now true area c.args.block.now own c.add_lines.new.book c.write_values.new.book
+    (Ok c.in-Ok.written)))
     c.cell_area-cell.ensures c.in-Ok.ensures.written)
 
 pub returns-in-Ok-clause-table : goal.returns-in-Ok-clause-table
 returns-in-Ok-clause-table c =
     table_stays c.args.insert c.args.area.now c.args.block.now c.args.book.now c.in_ok-plan.plan c.in_ok-plan.ensures
-    c.add_lines.new.book c.in_ok-add_lines.ensures.added c.args.user.now c.stays_sound.ensures c.write_values.new.book c.in-Ok.written
+    c.add_lines.new.book c.in_ok-add_lines.ensures.added c.args.user.now c.stays_sound.ensures c.write_values.new.book
+    c.in-Ok.written
     c.table_area-table.result c.table_area-table.ensures
     (subst (λ (area : Area). IsSomeAnd (place_sheet_with area.sheet c.add_lines.new.book.sheets)
-    (λ own. IsWriteBy c.args.user.now true area c.args.block.now own c.add_lines.new.book c.write_values.new.book (Ok c.in-Ok.written)))
+    (λ own. IsWriteBy c.args.user.now true area c.args.block.now own c.add_lines.new.book c.write_values.new.book
+    (Ok c.in-Ok.written)))
     c.cell_area-cell.ensures c.in-Ok.ensures.written)
 
 pub returns-in-Err-clause-appended : goal.returns-in-Err-clause-appended
 returns-in-Err-clause-appended c =
     done_refused c.args.insert c.args.area.now c.args.block.now c.args.book.now c.in_ok-plan.plan c.in_ok-plan.ensures
-    c.add_lines.new.book c.in_ok-add_lines.ensures.added c.args.user.now c.changes_in_turn.ensures c.updates_are_changes.ensures
+    c.add_lines.new.book c.in_ok-add_lines.ensures.added c.args.user.now c.changes_in_turn.ensures
+    c.updates_are_changes.ensures
     c.write_values.new.book c.in-Err.fault
     (subst (λ (area : Area). IsSomeAnd (place_sheet_with area.sheet c.add_lines.new.book.sheets)
-    (λ own. IsUnlessNoMemory (IsWriteBy c.args.user.now true area c.args.block.now own c.add_lines.new.book c.write_values.new.book)
+    (λ own. IsUnlessNoMemory
+    (IsWriteBy c.args.user.now true area c.args.block.now own c.add_lines.new.book c.write_values.new.book)
     (Err c.in-Err.fault)))
     c.cell_area-cell.ensures c.in-Err.ensures.written)

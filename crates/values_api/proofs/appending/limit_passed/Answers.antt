@@ -1,6 +1,6 @@
 use Rattle.std.proofs.Common.{◌≡◌, ◌+◌, ◌*◌, sym, ap, ◌∙◌, arith}
 use Rattle.values_api.specs.Appends.{places_added, size_added}
-use Rattle.values_api.proofs.Finding.{sound_sheet}
+use Rattle.values_api.specs.FoundLaws.{sound_sheet}
 use Rattle.values_api.proofs.Sizes.{cells_told, cols_told, none_passed, places_swapped}
 use Rattle.values_api.proofs.appending.limit_passed.Goals as goal
 

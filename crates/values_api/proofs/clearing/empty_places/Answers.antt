@@ -17,7 +17,8 @@ loop-place-preserved c =
     (listed_next (λ row col. Some None) c.as_slice-place-items.result.now c.loop-place.place-index place None
     c.loop-place-test.true refl refl)
     (subst (BookUpdated c.args.area.now.sheet _ c.args.book.now) (sym c.in_ok-put.ensures.put)
-    (c.updates_are_writes.ensures.put c.args.book.now c.loop-place.book c.args.area.now.sheet place.0 place.1 _ _ c.loop-place.invariant))
+    (c.updates_are_writes.ensures.put c.args.book.now c.loop-place.book c.args.area.now.sheet place.0 place.1 _ _
+    c.loop-place.invariant))
 
 pub put-requires-clause-there : goal.put-requires-clause-there
 put-requires-clause-there c =
@@ -32,7 +33,8 @@ put-requires-clause-there c =
 pub returns : goal.returns
 returns c =
     let places = c.as_slice-place-items.result.now in
-    let all : take c.loop-place.place-index places ≡ places = take_all c.loop-place.place-index places c.loop-place-test.false in
+    let all : take c.loop-place.place-index places ≡ places =
+    take_all c.loop-place.place-index places c.loop-place-test.false in
     let updated = c.updates_are_writes.ensures.same c.args.book.now c.loop-place.book c.args.area.now.sheet
     (emptied places) (cleared c.args.area.now) c.stays_sound.ensures
     (subst (λ list. BookUpdated c.args.area.now.sheet (emptied list) c.args.book.now c.loop-place.book) all

@@ -13,5 +13,6 @@ loop-kept-preserved g c =
 pub returns-else-is_empty : goal.returns-else-is_empty
 returns-else-is_empty g c =
     let none = last_filled g.T.MayBeEmpty.empty c.args.things.now c.loop-kept.kept c.index-things-kept.result
-    c.loop-kept-test.true c.loop-kept.invariant.0 c.index-things-kept.is (sym c.is_empty.ensures ∙ c.if-is_empty.false) in
+    c.loop-kept-test.true c.loop-kept.invariant.0 c.index-things-kept.is
+    (sym c.is_empty.ensures ∙ c.if-is_empty.false) in
     omega arith

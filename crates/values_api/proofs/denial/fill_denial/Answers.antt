@@ -16,5 +16,6 @@ returns c =
     subst (IsDenial c.args.user.now c.args.book.now (FilledCells sheets c.args.area.now c.args.block.now))
     (sym c.lesser.ensures)
     (denial_of_either c.args.user.now c.args.book.now (WriteCells sheets false c.args.area.now c.args.block.now)
-    (RestCells sheets c.args.area.now c.args.block.now) c.in_ok-written.written c.in_ok-rest.rest c.in_ok-written.ensures
+    (RestCells sheets c.args.area.now c.args.block.now) c.in_ok-written.written c.in_ok-rest.rest
+    c.in_ok-written.ensures
     c.in_ok-rest.ensures)

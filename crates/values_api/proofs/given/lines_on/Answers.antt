@@ -22,7 +22,8 @@ returns c =
       exactly = λ line. (
         (λ has.
             subst (λ list. Contains list line) all
-            (Contains-permutation _ _ line (IsPermutation-sym _ _ moved) (Contains-from_dedup _ _ line (rw is at has)))),
+            (Contains-permutation _ _ line (IsPermutation-sym _ _ moved)
+            (Contains-from_dedup _ _ line (rw is at has)))),
         (λ has.
             rw is (Contains-dedup_nat _ line (Contains-permutation _ _ line moved
             (subst (λ list. Contains list line) (sym all) has)))),

@@ -5,8 +5,8 @@ use Rattle.a1_notation.specs.declared.column.TheConstants.{NAMED_COLUMNS}
 use Rattle.a1_notation.specs.declared.row.TheConstants.{NUMBERED_ROWS}
 use Rattle.grid_range.specs.Band.{Within, first_line, end_line}
 use Rattle.world_model.specs.Sound.{place_sheet_with}
+use Rattle.values_api.specs.FoundLaws.{sound_sheet}
 use Rattle.values_api.proofs.AreaText.{on_sheet, pair_is, stretch, text_is}
-use Rattle.values_api.proofs.Finding.{sound_sheet}
 use Rattle.values_api.proofs.printed.range_text.Goals as goal
 
 pub ends-rows-requires : goal.ends-rows-requires

@@ -3,8 +3,9 @@ use Rattle.std.specs.Option.{option_copied}
 use Rattle.std.specs.Str.{str_eq_ignore_ascii_case}
 use Rattle.named_ranges.specs.Listed.{with_name}
 use Rattle.world_model.specs.Sheet.{PlaceSheet}
+use Rattle.values_api.specs.FoundLaws.{range_there}
 use Rattle.values_api.specs.Ranges.{FoundArea, IsThere}
-use Rattle.values_api.proofs.Finding.{answer_there, range_there}
+use Rattle.values_api.proofs.Finding.{answer_there}
 use Rattle.values_api.proofs.ranges.part_called.Goals as goal
 
 pub returns-in-Some-clause-there : goal.returns-in-Some-clause-there

@@ -6,7 +6,8 @@ use Rattle.values_api.proofs.ranges.part_of.Goals as goal
 
 pub returns-in-Some-clause-there : goal.returns-in-Some-clause-there
 returns-in-Some-clause-there c =
-    answer_there (λ (sheet : PlaceSheet). str_eq_ignore_ascii_case sheet.title c.as_str.result.now) c.args.book.now.sheets
+    answer_there (λ (sheet : PlaceSheet). str_eq_ignore_ascii_case sheet.title c.as_str.result.now)
+    c.args.book.now.sheets
     _ c.part_of_sheet.result (c.ids_find.ensures.finds c.args.book.now c.stays_sound.ensures) c.titled.ensures
     c.part_of_sheet.ensures.there
 

@@ -31,7 +31,8 @@ loop-place-preserved c =
     let k = c.loop-place.place-index in
     let place = get_or places k (0, 0) in
     elim c.if-not-is_reached.branch [
-      | then-not-is_reached+in_ok-put w ↦ subst (BookUpdated id (listed_of items (take (k + 1) places)) before) (sym w.book-is)
+      | then-not-is_reached+in_ok-put w ↦
+          subst (BookUpdated id (listed_of items (take (k + 1) places)) before) (sym w.book-is)
           (subst (λ updates. BookUpdated id updates before w.put.new.self)
           (listed_next items places k place None c.loop-place-test.true refl
           (unreached_some c.args.area.now c.args.block.now place.0 place.1

@@ -11,7 +11,8 @@ loop-line-preserved c =
     let line = c.loop-line.line in
     let block = c.args.block.now in
     let sheet = c.args.area.now.sheet in
-    let there : line < length c.as_slice-values.result.now = omega (arith, c.loop-line-test.true, c.min-count.ensures) in
+    let there : line < length c.as_slice-values.result.now =
+    omega (arith, c.loop-line-test.true, c.min-count.ensures) in
     let long : length c.as_slice-length.result.now ≡ length (get_or block.values line []) =
     ap length (c.as_slice-length.ensures
     ∙ get_or_read c.as_slice-values.result.now line c.index-values-line.result there c.index-values-line.is []
@@ -20,7 +21,8 @@ loop-line-preserved c =
       lines = so_far.lines;
       places = so_far.places;
       behind = elim c.if-length-places.branch [
-        | then-length-places+in_ok-push w ↦ line_added block.columns_first sheet block.values _ _ line c.loop-line.rest.items
+        | then-length-places+in_ok-push w ↦
+            line_added block.columns_first sheet block.values _ _ line c.loop-line.rest.items
             so_far.behind (length c.as_slice-length.result.now) c.if-length-places.rest.items long
             (ap (λ (vec : Vec Area Global). vec.items) w.rest-is ∙ w.in_ok-push.ensures.items
             ∙ ap (λ one. c.loop-line.rest.items ++ one ∷ []) w.rest_area.ensures)

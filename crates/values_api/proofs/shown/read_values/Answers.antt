@@ -17,8 +17,10 @@ returns-clause-values c = elim c.match-sheet.branch [
       let area = c.args.area.now in
       let told = values_of c.args.table.now in
       let sheet = w.in-Some.sheet.now in
-      let there : place_sheet_with area.sheet book.sheets ≡ Some sheet = sym c.sheet.ensures ∙ ap option_copied w.in-Some.is in
-      subst (λ found. IfSome found (λ one. IsAreaShown book area c.args.columns_first c.args.render one c.match-sheet.values))
+      let there : place_sheet_with area.sheet book.sheets ≡ Some sheet = sym c.sheet.ensures
+      ∙ ap option_copied w.in-Some.is in
+      subst (λ found. IfSome found
+      (λ one. IsAreaShown book area c.args.columns_first c.args.render one c.match-sheet.values))
       (sym there) (record {
         values = value_told area sheet told;
         values_are = values_shown c.stored_values.ensures book area sheet there told c.args.render c.requires.told;

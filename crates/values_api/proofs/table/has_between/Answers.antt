@@ -22,7 +22,8 @@ returns-else-place-line c =
       (λ has.
           let first = first_there c.args.places.now c.requires c.args.line c.args.from c.args.to
           c.start.result c.start.ensures has in
-          eq-eqb c.in-Some.place.now.0 c.args.line (rw (is.1 c.in-Some.place.now) (first.same_line c.in-Some.place.now))),
+          eq-eqb c.in-Some.place.now.0 c.args.line
+          (rw (is.1 c.in-Some.place.now) (first.same_line c.in-Some.place.now))),
     )
 
 pub returns-in-None : goal.returns-in-None

@@ -11,5 +11,6 @@ returns c =
       cols = c.in_ok-lines_on-2.field-0;
       cells = length c.args.cells.now;
     }) c.requires.cells
-    (ap (λ fit. broken_by_write c.args.limit fit c.args.book.now) (sym c.fits.ensures) ∙ sym c.broken.ensures ∙ c.in_default.is)
+    (ap (λ fit. broken_by_write c.args.limit fit c.args.book.now) (sym c.fits.ensures) ∙ sym c.broken.ensures
+    ∙ c.in_default.is)
     c.rectangle.ensures c.in_ok-lines_on.ensures c.in_ok-lines_on-2.ensures refl

@@ -10,6 +10,7 @@ returns c = record {
   stays = λ before after id axis count change sound fits room long changed few.
       sound_after.changes_stay_sound c.tracks_stay_within.ensures c.places_stay_below.ensures
       c.followed_stay_merges.ensures before after id axis count change sound fits room
-      (if_there (λ sheet. lines_on axis sheet.table.rows sheet.table.cols ≡ count) (place_sheet_with id before.sheets) long)
+      (if_there (λ sheet. lines_on axis sheet.table.rows sheet.table.cols ≡ count)
+      (place_sheet_with id before.sheets) long)
       changed few;
 }

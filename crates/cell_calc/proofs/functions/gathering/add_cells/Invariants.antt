@@ -5,4 +5,5 @@ use Rattle.cell_calc.proofs.functions.gathering.add_cells.Given as goal
 
 abbrev pub invariant-loop-cell : goal.invariant-loop-cell
 invariant-loop-cell l =
-    values_of l.values.items ≡ values_of l.initial.values.items ++ flat_map (cell_taken l.taking) (take l.cell-index l.cells)
+    values_of l.values.items ≡ values_of l.initial.values.items
+    ++ flat_map (cell_taken l.taking) (take l.cell-index l.cells)

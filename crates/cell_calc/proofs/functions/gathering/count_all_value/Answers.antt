@@ -10,4 +10,5 @@ pub returns : goal.returns
 returns c = λ given stand.
     c.values_counted.ensures
     ∙ ap (λ (values : List Value). whole (pos (length values)))
-    (ap values_of c.as_slice.ensures.value ∙ c.in_ok-values.ensures ∙ all_taken_given Filled c.args.arguments.now given stand)
+    (ap values_of c.as_slice.ensures.value ∙ c.in_ok-values.ensures
+    ∙ all_taken_given Filled c.args.arguments.now given stand)

@@ -12,4 +12,5 @@ pub returns : goal.returns
 returns c = λ given stand.
     c.numbers_counted.ensures
     ∙ ap (λ (values : List Value). whole (pos (count_by (λ value. is_ok (number_of value)) values)))
-    (ap values_of c.as_slice.ensures.value ∙ c.in_ok-values.ensures ∙ all_taken_given Numbers c.args.arguments.now given stand)
+    (ap values_of c.as_slice.ensures.value ∙ c.in_ok-values.ensures
+    ∙ all_taken_given Numbers c.args.arguments.now given stand)

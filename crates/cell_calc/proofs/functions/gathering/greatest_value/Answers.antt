@@ -5,4 +5,5 @@ use Rattle.cell_calc.specs.GatheringFunctions.{best_of}
 use Rattle.cell_calc.proofs.functions.gathering.greatest_value.Goals as goal
 
 pub returns : goal.returns
-returns c = λ given stand. c.greatest_of.ensures ∙ ap (value_by (λ numbers. whole (best_of int_max numbers))) (c.in_ok-gathered.ensures given stand)
+returns c = λ given stand. c.greatest_of.ensures
+    ∙ ap (value_by (λ numbers. whole (best_of int_max numbers))) (c.in_ok-gathered.ensures given stand)

@@ -5,4 +5,5 @@ use Rattle.cell_calc.specs.GatheringFunctions.{best_of}
 use Rattle.cell_calc.proofs.functions.gathering.least_value.Goals as goal
 
 pub returns : goal.returns
-returns c = λ given stand. c.least_of.ensures ∙ ap (value_by (λ numbers. whole (best_of int_min numbers))) (c.in_ok-gathered.ensures given stand)
+returns c = λ given stand. c.least_of.ensures
+    ∙ ap (value_by (λ numbers. whole (best_of int_min numbers))) (c.in_ok-gathered.ensures given stand)

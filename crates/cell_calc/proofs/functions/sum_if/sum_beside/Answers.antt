@@ -20,4 +20,5 @@ returns-in_ok-all_read c = λ x y are are_others.
     ∙ ap (flat_map (value_if test)) c.as_slice-then-cells-others-2.ensures.value))
     ∙ sum_is c.args.key.now test c.args.cells.now c.args.others.now x y are are_others
     c.if-cells-others.true c.if-cells-others-2.true
-    (λ place. c.in_ok-places.ensures place ∙ ap (λ cells. matches_in c.args.key.now cells place) c.as_slice.ensures.value)
+    (λ place. c.in_ok-places.ensures place
+    ∙ ap (λ cells. matches_in c.args.key.now cells place) c.as_slice.ensures.value)

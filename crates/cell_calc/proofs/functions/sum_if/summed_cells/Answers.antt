@@ -8,7 +8,8 @@ use Rattle.cell_calc.proofs.functions.sum_if.summed_cells.Goals as goal
 
 pub returns-in-Ok : goal.returns-in-Ok
 returns-in-Ok c = λ all y are stands.
-    subst (λ k. IfOk c.summed_others.result (λ value. value ≡ value_by (λ found. sum_beside found.0 all found.1) (both k (cells_given y))))
+    subst (λ k. IfOk c.summed_others.result
+    (λ value. value ≡ value_by (λ found. sum_beside found.0 all found.1) (both k (cells_given y))))
     (sym c.in-Ok.is)
     (subst (λ x. IfOk c.summed_others.result (λ value. value ≡ x)) (with_key all c.in-Ok.key (cells_given y))
     (c.summed_others.ensures all y are stands))

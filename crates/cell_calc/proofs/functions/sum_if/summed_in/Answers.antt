@@ -11,7 +11,8 @@ pub returns-in_ok-criterion-in-Area : goal.returns-in_ok-criterion-in-Area
 returns-in_ok-criterion-in-Area c = λ x y stands stand.
     let lent = subst (λ argument. StandsFor argument x) c.in-Area.is stands in
     subst (λ r. IfOk c.summed_cells.result (λ value. value ≡ r))
-    (ap (λ k. value_by (λ found. sum_beside found.0 lent.0 found.1) (both k (cells_given y))) c.in_ok-criterion-in-Area.ensures
+    (ap (λ k. value_by (λ found. sum_beside found.0 lent.0 found.1) (both k (cells_given y)))
+    c.in_ok-criterion-in-Area.ensures
     ∙ with_first lent.0 (both (criterion c.args.key.now) (cells_given y))
     ∙ ap (λ g. value_by (λ found. sum_beside found.1.0 found.0 found.1.1)
     (both (cells_given g) (both (criterion c.args.key.now) (cells_given y)))) (sym lent.1))

@@ -14,10 +14,13 @@ returns-in-len2 c = λ given stand.
     let blank = single Blank in
     let x = get_or given 0 blank in
     let y = get_or given 1 blank in
-    let count : length given ≡ 2 = omega (arith, as_many lent given stand, c.in-len2.len_at_least, c.in-len2.len_below) in
-    let one = stands_at lent given stand 0 c.one-item-then-arguments-lt3.result blank (omega (arith, c.in-len2.len_at_least)) in
+    let count : length given ≡ 2 =
+    omega (arith, as_many lent given stand, c.in-len2.len_at_least, c.in-len2.len_below) in
+    let one = stands_at lent given stand 0 c.one-item-then-arguments-lt3.result blank
+    (omega (arith, c.in-len2.len_at_least)) in
     let other = stands_at lent given stand 1 c.other-item.result blank (omega (arith, c.in-len2.len_at_least)) in
-    subst (λ l. IfOk c.of_two.result (λ value. value ≡ function_value c.args.function l)) (sym (of_two_elements given blank count))
+    subst (λ l. IfOk c.of_two.result (λ value. value ≡ function_value c.args.function l))
+    (sym (of_two_elements given blank count))
     (c.of_two.ensures x y
     (subst (λ a. StandsFor a x) (sym c.one-item-then-arguments-lt3.is) one)
     (subst (λ a. StandsFor a y) (sym c.other-item.is) other))
@@ -29,11 +32,15 @@ returns-in-len3 c = λ given stand.
     let x = get_or given 0 blank in
     let y = get_or given 1 blank in
     let z = get_or given 2 blank in
-    let count : length given ≡ 3 = omega (arith, as_many lent given stand, c.in-len3.len_at_least, c.in-len3.len_below) in
-    let one = stands_at lent given stand 0 c.one-item-then-arguments-lt4.result blank (omega (arith, c.in-len3.len_at_least)) in
-    let other = stands_at lent given stand 1 c.other-item-then-arguments-lt4.result blank (omega (arith, c.in-len3.len_at_least)) in
+    let count : length given ≡ 3 =
+    omega (arith, as_many lent given stand, c.in-len3.len_at_least, c.in-len3.len_below) in
+    let one = stands_at lent given stand 0 c.one-item-then-arguments-lt4.result blank
+    (omega (arith, c.in-len3.len_at_least)) in
+    let other = stands_at lent given stand 1 c.other-item-then-arguments-lt4.result blank
+    (omega (arith, c.in-len3.len_at_least)) in
     let third = stands_at lent given stand 2 c.third-item.result blank (omega (arith, c.in-len3.len_at_least)) in
-    subst (λ l. IfOk c.of_three.result (λ value. value ≡ function_value c.args.function l)) (sym (of_three_elements given blank count))
+    subst (λ l. IfOk c.of_three.result (λ value. value ≡ function_value c.args.function l))
+    (sym (of_three_elements given blank count))
     (c.of_three.ensures x y z
     (subst (λ a. StandsFor a x) (sym c.one-item-then-arguments-lt4.is) one)
     (subst (λ a. StandsFor a y) (sym c.other-item-then-arguments-lt4.is) other)

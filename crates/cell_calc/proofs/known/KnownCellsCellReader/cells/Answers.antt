@@ -27,6 +27,7 @@ returns g c =
       all = rows_long read area.sheet columns rows;
       filled = c.in_ok-filled.ensures
           ∙ ap (λ n. flat_map (cell_read known area n) c.as_slice.result.now) columns_are
-          ∙ ap (flat_map (cell_read known area (end_line area.cols size.1 - first_line area.cols))) c.as_slice.ensures.value
+          ∙ ap (flat_map (cell_read known area (end_line area.cols size.1 - first_line area.cols)))
+          c.as_slice.ensures.value
           ∙ area_filled contents known c.stay_sound.ensures area c.in_ok-stored.stored.items c.in_ok-stored.ensures;
     }

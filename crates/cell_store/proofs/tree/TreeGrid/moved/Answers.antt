@@ -7,8 +7,9 @@ use Rattle.std.proofs.lemmas.Map.Keys.{IsDistinct-from_sorted}
 use Rattle.grid_range.specs.Change.{Fits}
 use Rattle.cell_store.specs.Moved.{GoesWithLines, lines_on}
 use Rattle.grid_range.specs.Area.{by_rows}
+use Rattle.grid_range.specs.ByRows.{by_rows_total}
 use Rattle.cell_store.specs.Entries.{HasEntriesInside, table_of}
-use Rattle.cell_store.proofs.Cells.{by_rows_total, len-cells-most}
+use Rattle.cell_store.proofs.Cells.{len-cells-most}
 use Rattle.cell_store.proofs.Tables.{filled-view}
 use Rattle.cell_store.proofs.Filling.{FillsTo}
 use Rattle.cell_store.proofs.Moving.{moved, fills_moved, inside-moved, goes_with_lines}

@@ -33,12 +33,14 @@ returns-clause-call g c =
     record {
       told = state.list;
       begins = c.take-turn.ensures.list;
-      others = others_behind (callers_at desk) (number_of pass) (list_at desk) (seen_by pass) state.list c.requires.begins
+      others =
+          others_behind (callers_at desk) (number_of pass) (list_at desk) (seen_by pass) state.list c.requires.begins
           c.take-turn.ensures.own c.take-turn.ensures.callers;
       happens = subst
           (λ (l : List Noted). Happens g.E.Engine.plain (pair_at desk) (number_of pass) ask state.list l reply)
           (sym c.leave.ensures.seen)
-          (subst (λ (n : ℕ). Happens g.E.Engine.plain (pair_at desk) n ask state.list after reply) c.number-caller.ensures
+          (subst (λ (n : ℕ). Happens g.E.Engine.plain (pair_at desk) n ask state.list after reply)
+          c.number-caller.ensures
           (subst (λ (p : ℕ × ℕ). Happens g.E.Engine.plain p c.number-caller.result ask state.list after reply)
           c.take-turn.ensures.pair c.step-reply.ensures.happens));
     }

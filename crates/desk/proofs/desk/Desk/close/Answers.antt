@@ -16,6 +16,7 @@ returns g c =
       counted = ap g.K.Keeper.failures c.into_history.ensures.keeper ∙ c.into_history.ensures.counted
           ∙ ap (λ (pair : ℕ × ℕ). last_counted pair.1 last.list) c.close.ensures.pair;
       accepted = c.into_history.ensures.accepted;
-      keeps = subst (λ (pair : ℕ × ℕ). Keeps g.E.Engine.plain pair.0 (g.K.Keeper.kept c.into_history.result.1) last.list)
+      keeps = subst (λ (pair : ℕ × ℕ). Keeps g.E.Engine.plain pair.0
+          (g.K.Keeper.kept c.into_history.result.1) last.list)
           c.close.ensures.pair c.into_history.ensures.kept;
     }

@@ -28,7 +28,8 @@ returns-in-None-clause-torn g c =
     let a = c.in_ok-status.ensures (entries_of t.list) world_is in
     let refused = answers_none g.E.Engine.plain g.E.Engine.stands (entries_of t.list) ask c.in_ok-status.field-0 a
     c.in-None.is in
-    λ unavailable. absurd (steps_not_503 g.E.Engine.plain c.served_outcomes.ensures t.pair.0 (entries_of t.list) ask a.outcome
+    λ unavailable.
+    absurd (steps_not_503 g.E.Engine.plain c.served_outcomes.ensures t.pair.0 (entries_of t.list) ask a.outcome
     (a.outcome, a.plainly, within_refused t.pair.0 (entries_of t.list) ask a.outcome refused)
     (sym (c.reply.ensures.reply.0 ∙ a.status_is) ∙ unavailable))
 

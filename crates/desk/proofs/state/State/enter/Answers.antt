@@ -28,7 +28,8 @@ returns-then-self-total-clause-happens g c =
     let s = c.self.inside in let inv = c.self.invariant in let t = c.args.self.now in let ask = c.args.ask.now in
     let full = full_journal s.limit s.bytes c.entry_size.result c.saturating_add-total.result (entries_of s.list.items)
     ask inv.bytes_is c.entry_size.ensures c.saturating_add-total.ensures inv.limit_is c.if-self-total.true in
-    let full_now = subst (λ (u : Telling _). is_full u.pair.0 (entries_of u.list) (entry_of 0 ask) ≡ true) c.self.view_is
+    let full_now =
+    subst (λ (u : Telling _). is_full u.pair.0 (entries_of u.list) (entry_of 0 ask) ≡ true) c.self.view_is
     full in
     let made : Outcome = record { status = c.args.status; body = c.args.body; accepts = true } in
     stepped g.E.Engine.plain t.pair c.args.caller ask t.list t.list c.reply.result history_full
@@ -37,7 +38,8 @@ returns-then-self-total-clause-happens g c =
     c.reply.ensures.counts
 
 -- the place of the piece
-place_at : (g : given.Over) (c : goal.After-as_slice g) → c.if-first.at ≡ journal_end (entries_of c.self.inside.list.items)
+place_at : (g : given.Over) (c : goal.After-as_slice g) → c.if-first.at
+    ≡ journal_end (entries_of c.self.inside.list.items)
 place_at g c =
     let s = c.self.inside in let inv = c.self.invariant in
     elim c.if-first.branch [
@@ -92,7 +94,8 @@ kept_state g c =
     let total = total_journal s.limit s.bytes c.entry_size.result c.saturating_add-total.result es c.args.ask.now
     inv.bytes_is c.entry_size.ensures c.saturating_add-total.ensures inv.limit_is c.args.caller
     c.if-self-total.false in
-    sound_entry g.E.Engine.plain g.E.Engine.stands s.world c.args.world s.list.items c.put_noted.new.list.items s.entries s.bytes
+    sound_entry g.E.Engine.plain g.E.Engine.stands s.world c.args.world s.list.items c.put_noted.new.list.items
+    s.entries s.bytes
     c.saturating_add-total.result s.limit s.opened (g.K.Keeper.failures s.keeper)
     (g.K.Keeper.failures c.put_noted.new.keeper) (g.K.Keeper.kept s.keeper) (g.K.Keeper.kept c.put_noted.new.keeper)
     e c.as_slice.result.now c.if-first.at inv
@@ -122,7 +125,8 @@ returns-in-Kept-clause-happens g c =
     let s = c.self.inside in let inv = c.self.invariant in let t = c.args.self.now in let ask = c.args.ask.now in
     let room = room_journal s.limit s.bytes c.entry_size.result c.saturating_add-total.result (entries_of s.list.items)
     ask inv.bytes_is c.entry_size.ensures c.saturating_add-total.ensures inv.limit_is c.if-self-total.false in
-    let room_now = subst (λ (u : Telling _). is_full u.pair.0 (entries_of u.list) (entry_of 0 ask) ≡ false) c.self.view_is
+    let room_now =
+    subst (λ (u : Telling _). is_full u.pair.0 (entries_of u.list) (entry_of 0 ask) ≡ false) c.self.view_is
     room in
     let put = noted_kept _ c.in-Kept.is c.in_ok-put_noted.ensures.noted in
     let made : Outcome = record { status = c.args.status; body = c.args.body; accepts = true } in
@@ -136,7 +140,8 @@ returns-in-Kept-clause-happens g c =
 
 -- the state where the keeper failed
 marked_state : (g : given.Over) (c : goal.After-drop-world-in-Marked-1 g)
-    → IsSound g.E.Engine.plain g.E.Engine.stands c.self.inside.world c.put_noted.new.list.items c.self.inside.entries c.self.inside.bytes
+    → IsSound g.E.Engine.plain g.E.Engine.stands c.self.inside.world c.put_noted.new.list.items c.self.inside.entries
+    c.self.inside.bytes
     c.self.inside.limit c.self.inside.opened (g.K.Keeper.failures c.put_noted.new.keeper)
     (g.K.Keeper.kept c.put_noted.new.keeper)
 marked_state g c =
@@ -147,7 +152,8 @@ marked_state g c =
     inv.bytes_is c.entry_size.ensures c.saturating_add-total.ensures inv.limit_is c.args.caller
     c.if-self-total.false in
     let put = noted_marked _ c.in-Marked.before c.in-Marked.after c.in-Marked.is c.in_ok-put_noted.ensures.noted in
-    sound_mark g.E.Engine.plain g.E.Engine.stands s.world s.list.items c.put_noted.new.list.items s.entries s.bytes s.limit s.opened
+    sound_mark g.E.Engine.plain g.E.Engine.stands s.world s.list.items c.put_noted.new.list.items s.entries s.bytes
+    s.limit s.opened
     (g.K.Keeper.failures s.keeper) (g.K.Keeper.failures c.put_noted.new.keeper) (g.K.Keeper.kept s.keeper)
     (g.K.Keeper.kept c.put_noted.new.keeper) _ c.in-Marked.before c.in-Marked.after c.as_slice.result.now
     c.if-first.at inv
@@ -172,7 +178,8 @@ returns-in-Marked-clause-happens g c =
     let s = c.self.inside in let inv = c.self.invariant in let t = c.args.self.now in let ask = c.args.ask.now in
     let room = room_journal s.limit s.bytes c.entry_size.result c.saturating_add-total.result (entries_of s.list.items)
     ask inv.bytes_is c.entry_size.ensures c.saturating_add-total.ensures inv.limit_is c.if-self-total.false in
-    let room_now = subst (λ (u : Telling _). is_full u.pair.0 (entries_of u.list) (entry_of 0 ask) ≡ false) c.self.view_is
+    let room_now =
+    subst (λ (u : Telling _). is_full u.pair.0 (entries_of u.list) (entry_of 0 ask) ≡ false) c.self.view_is
     room in
     let put = noted_marked _ c.in-Marked.before c.in-Marked.after c.in-Marked.is c.in_ok-put_noted.ensures.noted in
     let made : Outcome = record { status = c.args.status; body = c.args.body; accepts = true } in

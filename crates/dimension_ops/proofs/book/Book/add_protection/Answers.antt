@@ -9,8 +9,8 @@ use Rattle.protection.specs.declared.range.Protection.{Protection}
 use Rattle.world_model.specs.Book.{PlaceBook}
 use Rattle.world_model.specs.ProtectionLaws.{place_protections_set}
 use Rattle.world_model.specs.Sound.{IsProtectionWithin}
+use Rattle.dimension_ops.specs.ProtectionLaws.{more_within, protections_become, protections_sound}
 use Rattle.dimension_ops.specs.ProtectionRequests.{IsPatchWithin, ProtectionsBecome}
-use Rattle.dimension_ops.proofs.KeptProtections.{more_within, protections_become, protections_sound}
 use Rattle.dimension_ops.proofs.Marking.{kept_book}
 use Rattle.dimension_ops.proofs.book.Book.add_protection.Goals.{After-add}
 use Rattle.dimension_ops.proofs.book.Book.add_protection.Goals as goal

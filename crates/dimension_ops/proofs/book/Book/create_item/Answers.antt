@@ -8,8 +8,8 @@ use Rattle.dev_metadata.specs.declared.types.Item.{Item}
 use Rattle.world_model.specs.Book.{PlaceBook}
 use Rattle.world_model.specs.MetadataLaws.{place_metadata_set}
 use Rattle.world_model.specs.Sound.{IsItemWithin, IsSpotWithin}
+use Rattle.dimension_ops.specs.MetadataLaws.{metadata_becomes, metadata_sound, more_within}
 use Rattle.dimension_ops.specs.MetadataRequests.{MetadataBecomes}
-use Rattle.dimension_ops.proofs.KeptMetadata.{metadata_becomes, metadata_sound, more_within}
 use Rattle.dimension_ops.proofs.Marking.{kept_book}
 use Rattle.dimension_ops.proofs.book.Book.create_item.Goals.{After-create}
 use Rattle.dimension_ops.proofs.book.Book.create_item.Goals as goal

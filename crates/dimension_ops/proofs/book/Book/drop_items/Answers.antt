@@ -7,7 +7,7 @@ use Rattle.dev_metadata.specs.Listed.{not_found}
 use Rattle.dev_metadata.specs.declared.types.Item.{Item}
 use Rattle.world_model.specs.Book.{PlaceBook}
 use Rattle.world_model.specs.Sound.{IsItemWithin}
-use Rattle.dimension_ops.proofs.KeptMetadata.{fewer_within, metadata_becomes, metadata_sound}
+use Rattle.dimension_ops.specs.MetadataLaws.{fewer_within, metadata_becomes, metadata_sound}
 use Rattle.dimension_ops.proofs.Marking.{kept_book}
 use Rattle.dimension_ops.proofs.book.Book.drop_items.Goals.{After-drop}
 use Rattle.dimension_ops.proofs.book.Book.drop_items.Goals as goal

@@ -7,7 +7,7 @@ use Rattle.protection.specs.Listed.{without_id}
 use Rattle.protection.specs.declared.range.Protection.{Protection}
 use Rattle.world_model.specs.Book.{PlaceBook}
 use Rattle.world_model.specs.Sound.{IsProtectionWithin}
-use Rattle.dimension_ops.proofs.KeptProtections.{fewer_within, protections_become, protections_sound}
+use Rattle.dimension_ops.specs.ProtectionLaws.{fewer_within, protections_become, protections_sound}
 use Rattle.dimension_ops.proofs.Marking.{kept_book}
 use Rattle.dimension_ops.proofs.book.Book.drop_protection.Goals.{After-drop}
 use Rattle.dimension_ops.proofs.book.Book.drop_protection.Goals as goal

@@ -18,5 +18,6 @@ overflow_add-filled c =
     let few : filled_of (map arc_value c.deref-sheet-items.result.now) ≤ most_places =
     subst (λ list. filled_of (map arc_value list) ≤ most_places) (sym c.deref-sheet-items.ensures.value)
     (le_trans (c.filled_within_places.ensures.book
-    (kept_book c.self.inside (map arc_value c.self.inside.sheets.items)) c.self.invariant.0) c.self.invariant.0.few_places) in
+    (kept_book c.self.inside (map arc_value c.self.inside.sheets.items)) c.self.invariant.0)
+    c.self.invariant.0.few_places) in
     omega (arith, within, few)

@@ -18,5 +18,6 @@ overflow_add-formulas c =
     subst (λ list. formulas_of (map arc_value list) ≤ most_places) (sym c.deref-sheet-items.ensures.value)
     (le_trans (c.formulas_counted.ensures.all_within (map arc_value c.self.inside.sheets.items))
     (le_trans (c.filled_within_places.ensures.book
-    (kept_book c.self.inside (map arc_value c.self.inside.sheets.items)) c.self.invariant.0) c.self.invariant.0.few_places)) in
+    (kept_book c.self.inside (map arc_value c.self.inside.sheets.items)) c.self.invariant.0)
+    c.self.invariant.0.few_places)) in
     omega (arith, within, few)

@@ -7,4 +7,5 @@ use Rattle.dimension_ops.proofs.book.Book.grid_places.Given as goal
 -- the places of the sheets so far are counted
 abbrev pub invariant-loop-sheet : goal.invariant-loop-sheet
 invariant-loop-sheet l =
-    l.places ≡ so_far (λ (sheet : PlaceSheet). sheet.table.rows * sheet.table.cols) arc_value l.sheet-index l.sheet-items
+    l.places
+    ≡ so_far (λ (sheet : PlaceSheet). sheet.table.rows * sheet.table.cols) arc_value l.sheet-index l.sheet-items

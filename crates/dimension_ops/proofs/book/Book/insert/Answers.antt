@@ -30,7 +30,8 @@ invariant_of-self-2 c = (
   c.in_ok-ids.ensures
       ∙ ap (insert c.self.inside.ids c.args.at) c.id.ensures
       ∙ ap (λ ids. insert ids c.args.at c.args.sheet.id) c.self.invariant.1
-      ∙ sym (map-insert (λ (sheet : PlaceSheet). sheet.id) (map arc_value c.self.inside.sheets.items) c.args.at c.args.sheet)
+      ∙ sym (map-insert (λ (sheet : PlaceSheet). sheet.id) (map arc_value c.self.inside.sheets.items) c.args.at
+      c.args.sheet)
       ∙ sym (ap (map (λ (sheet : PlaceSheet). sheet.id)) (sheets_after c)),
 )
 

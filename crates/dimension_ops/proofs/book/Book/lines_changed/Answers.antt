@@ -5,7 +5,8 @@ use Rattle.world_model.specs.Book.{PlaceBook}
 use Rattle.world_model.specs.Sound.{most_places, place_sheet_with}
 use Rattle.dimension_ops.specs.Lines.{lines_of_sheet, places_changed}
 use Rattle.dimension_ops.specs.References.{TearsNone}
-use Rattle.dimension_ops.proofs.Changed.{all_can, has_places, items_below, protections_within, same_ids}
+use Rattle.dimension_ops.specs.SizeLaws.{has_places}
+use Rattle.dimension_ops.proofs.Changed.{all_can, items_below, protections_within, same_ids}
 use Rattle.dimension_ops.proofs.Marking.{as_book, kept_book}
 use Rattle.dimension_ops.proofs.book.Book.lines_changed.Goals as goal
 
@@ -44,7 +45,8 @@ invariant_of-result c =
       c.changes_stay_sound.ensures.stays before after c.args.by.now.sheet c.args.by.now.axis c.args.by.now.count
           c.args.by.now.change.now c.self.invariant.0 c.requires.fits c.requires.room
           (subst (λ (book : PlaceBook). IsSomeAnd (place_sheet_with c.args.by.now.sheet book.sheets)
-          (λ sheet. lines_of_sheet c.args.by.now.axis sheet ≡ c.args.by.now.count)) (sym c.self.view_is) c.requires.long)
+          (λ sheet. lines_of_sheet c.args.by.now.axis sheet ≡ c.args.by.now.count)) (sym c.self.view_is)
+          c.requires.long)
           (record {
             id = refl;
             title = refl;
@@ -55,7 +57,8 @@ invariant_of-result c =
             metadata = c.change-3.ensures.followed;
           })
           (subst (λ n. n ≤ most_places)
-          (sym (has_places c.args.by.now.sheet c.args.by.now.axis c.args.by.now.count c.args.by.now.change.now before.sheets
+          (sym (has_places c.args.by.now.sheet c.args.by.now.axis c.args.by.now.count c.args.by.now.change.now
+          before.sheets
           after.sheets c.in_ok-sheets.ensures))
           (subst (λ (book : PlaceBook). places_changed c.args.by.now.sheet c.args.by.now.axis c.args.by.now.change.now
           book.sheets ≤ most_places) (sym c.self.view_is) c.requires.few)),

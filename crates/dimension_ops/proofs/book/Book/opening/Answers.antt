@@ -25,7 +25,8 @@ pub invariant_of-result : goal.invariant_of-result
 invariant_of-result c =
     let one : map arc_value c.in_ok-sheets.sheets.items ≡ opening_sheet ∷ [] =
     c.in_ok-sheets.ensures
-    ∙ ap (λ (sheet : PlaceSheet). sheet ∷ []) (c.in_ok-sheet.ensures ∙ ap titled (c.of-title.ensures ∙ c.in_ok-from_str.ensures.ok)) in (
+    ∙ ap (λ (sheet : PlaceSheet). sheet ∷ [])
+    (c.in_ok-sheet.ensures ∙ ap titled (c.of-title.ensures ∙ c.in_ok-from_str.ensures.ok)) in (
       subst (λ ranges. IsSound (as_book c.of.result c.of-2.result c.of-3.result ranges c.new-2.result c.new-3.result
           (map arc_value c.in_ok-sheets.sheets.items)))
           (sym c.new.ensures)

@@ -19,4 +19,5 @@ returns c =
     c.all.ensures.ran (YieldsList-from_slice _ c.iter.ensures.rest) (λ x b q k. search (rules, tests))
     ∙ ap (λ list. list_all (λ sheet. passes c.args.sheet (arc_value sheet)) list) c.deref.ensures.value
     ∙ others_are_hidden arc_value c.args.sheet c.self.inside.sheets.items
-    ∙ ap (λ book. list_all (λ (sheet : PlaceSheet). sheet.hidden) (other_sheets c.args.sheet book.sheets)) c.self.view_is
+    ∙ ap (λ book. list_all (λ (sheet : PlaceSheet). sheet.hidden) (other_sheets c.args.sheet book.sheets))
+    c.self.view_is

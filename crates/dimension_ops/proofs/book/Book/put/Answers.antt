@@ -28,7 +28,8 @@ found slice items id place same at = found_at (λ (sheet : PlaceSheet). sheet.id
 pub index_mut-requires : goal.index_mut-requires
 index_mut-requires c =
     let there = there_seen (λ sheet. sheet.id == c.args.sheet) arc_value c.self.inside.sheets.items c.in-Some.place
-    (found c.deref.result.now c.self.inside.sheets.items c.args.sheet c.in-Some.place c.deref.ensures.value c.in-Some.ensures) in
+    (found c.deref.result.now c.self.inside.sheets.items c.args.sheet c.in-Some.place c.deref.ensures.value
+    c.in-Some.ensures) in
     let long : length c.self.inside.sheets.items ≡ Rattle.std.specs.Vec.vec_len c.self.inside.sheets =
     ap length (sym c.deref.ensures.value) ∙ c.deref.ensures.len in
     omega (arith, there, long)
@@ -48,20 +49,24 @@ if_there (Some sheet) row col h = h
 
 pub put_shared-requires : goal.put_shared-requires
 put_shared-requires c =
-    let at = found c.deref.result.now c.self.inside.sheets.items c.args.sheet c.in-Some.place c.deref.ensures.value c.in-Some.ensures in
+    let at = found c.deref.result.now c.self.inside.sheets.items c.args.sheet c.in-Some.place c.deref.ensures.value
+    c.in-Some.ensures in
     record {
       inside = there_at (map arc_value c.self.inside.sheets.items) c.args.sheet c.in-Some.place c.args.row c.args.column
           (arc_value c.index_mut.result.now) at
-          (subst (λ (book : PlaceBook). IsSomeAnd (place_sheet_with c.args.sheet book.sheets) (λ sheet. HasPlace sheet.table c.args.row c.args.column))
+          (subst (λ (book : PlaceBook). IsSomeAnd (place_sheet_with c.args.sheet book.sheets)
+          (λ sheet. HasPlace sheet.table c.args.row c.args.column))
           (sym c.self.view_is) c.requires.there)
-          (seen_stands arc_value c.self.inside.sheets.items c.in-Some.place c.index_mut.result.now c.index_mut.result.now
+          (seen_stands arc_value c.self.inside.sheets.items c.in-Some.place c.index_mut.result.now
+          c.index_mut.result.now
           c.index_mut.ensures.value at.there);
       room = room_at (map arc_value c.self.inside.sheets.items) c.in-Some.place (arc_value c.index_mut.result.now)
           (le_trans (c.filled_within_places.ensures.book
           (kept_book c.self.inside (map arc_value c.self.inside.sheets.items)) c.self.invariant.0)
           c.self.invariant.0.few_places)
           at.there
-          (seen_stands arc_value c.self.inside.sheets.items c.in-Some.place c.index_mut.result.now c.index_mut.result.now
+          (seen_stands arc_value c.self.inside.sheets.items c.in-Some.place c.index_mut.result.now
+          c.index_mut.result.now
           c.index_mut.ensures.value at.there);
     }
 
@@ -71,7 +76,8 @@ written : (c : In_ok-put_shared) → map arc_value (set c.self.inside.sheets.ite
 written c = seen_written arc_value c.self.inside.sheets.items c.in-Some.place c.index_mut.result.now
     c.put_shared.new.sheet c.index_mut.ensures.value c.args.sheet c.args.row c.args.column c.args.content
     c.self.invariant.0.distinct
-    (found c.deref.result.now c.self.inside.sheets.items c.args.sheet c.in-Some.place c.deref.ensures.value c.in-Some.ensures) c.in_ok-put_shared.ensures.put
+    (found c.deref.result.now c.self.inside.sheets.items c.args.sheet c.in-Some.place c.deref.ensures.value
+    c.in-Some.ensures) c.in_ok-put_shared.ensures.put
 
 pub invariant_of-self : goal.invariant_of-self
 invariant_of-self c = (
@@ -79,12 +85,15 @@ invariant_of-self c = (
       (c.writes_stay_sound.ensures.stays
       (kept_book c.self.inside (map arc_value c.self.inside.sheets.items))
       c.args.sheet c.args.row c.args.column c.args.content c.self.invariant.0
-      (subst (λ (book : PlaceBook). IfSome c.args.content (IsContentWithin book.sheets)) (sym c.self.view_is) c.requires.within)
+      (subst (λ (book : PlaceBook). IfSome c.args.content (IsContentWithin book.sheets)) (sym c.self.view_is)
+      c.requires.within)
       (if_there (place_sheet_with c.args.sheet (map arc_value c.self.inside.sheets.items)) c.args.row c.args.column
-      (subst (λ (book : PlaceBook). IsSomeAnd (place_sheet_with c.args.sheet book.sheets) (λ sheet. HasPlace sheet.table c.args.row c.args.column))
+      (subst (λ (book : PlaceBook). IsSomeAnd (place_sheet_with c.args.sheet book.sheets)
+      (λ sheet. HasPlace sheet.table c.args.row c.args.column))
       (sym c.self.view_is) c.requires.there))),
   seen_ids arc_value c.self.inside.sheets.items c.in-Some.place c.index_mut.result.now c.put_shared.new.sheet
-      c.index_mut.ensures.value c.args.sheet c.args.row c.args.column c.args.content c.self.inside.ids (written c) c.self.invariant.1,
+      c.index_mut.ensures.value c.args.sheet c.args.row c.args.column c.args.content c.self.inside.ids (written c)
+      c.self.invariant.1,
 )
 
 -- the sheets as they were
@@ -118,7 +127,8 @@ returns-in_ok-put_shared-clause-put c =
 pub returns-in_ok-put_shared-clause-names : goal.returns-in_ok-put_shared-clause-names
 returns-in_ok-put_shared-clause-names c = record {
   written = λ names r c' stands at_row at_col.
-      subst (λ (book : PlaceBook). BookStandsFor book (book_written c.args.sheet r c' (option_map (content_named (orders_of names.sheets)) c.args.content) names))
+      subst (λ (book : PlaceBook). BookStandsFor book
+      (book_written c.args.sheet r c' (option_map (content_named (orders_of names.sheets)) c.args.content) names))
       (sym (ap (kept_book c.self.inside) (written c)
       ∙ ap (book_put c.args.sheet c.args.row c.args.column c.args.content) c.self.view_is))
       (c.writes_follow.ensures.follows c.args.self.now names c.args.sheet c.args.row c.args.column r c' c.args.content
@@ -136,10 +146,13 @@ not_there sheets id row col None none is has =
     (none_from (λ (sheet : PlaceSheet). sheet.id == id) sheets 0 (sym is)) has
 
 no_default : (c : Joined-content) → ⊥
-no_default c = not_there c.args.self.now.sheets c.args.sheet c.args.row c.args.column c.sheet_place.result c.in_default.not-Some
+no_default c =
+    not_there c.args.self.now.sheets c.args.sheet c.args.row c.args.column c.sheet_place.result c.in_default.not-Some
     (c.sheet_place.ensures
-    ∙ ap (λ list. position_from (λ (sheet : PlaceSheet). sheet.id == c.args.sheet) 0 (map arc_value list)) c.deref.ensures.value
-    ∙ ap (λ (book : PlaceBook). position_from (λ (sheet : PlaceSheet). sheet.id == c.args.sheet) 0 book.sheets) c.self.view_is)
+    ∙ ap (λ list. position_from (λ (sheet : PlaceSheet). sheet.id == c.args.sheet) 0 (map arc_value list))
+    c.deref.ensures.value
+    ∙ ap (λ (book : PlaceBook). position_from (λ (sheet : PlaceSheet). sheet.id == c.args.sheet) 0 book.sheets)
+    c.self.view_is)
     c.requires.there
 
 pub returns-in_default-clause-put : goal.returns-in_default-clause-put

@@ -16,7 +16,8 @@ invariant_of-result c =
     let left = map arc_value c.in_ok-sheets.sheets.items in (
       c.sheets_deleted.ensures.stays
           (kept_book c.self.inside before)
-          (as_book c.self.inside.id c.self.inside.title c.self.inside.owner c.lose_sheet.new.self c.lose_sheet-2.new.self
+          (as_book c.self.inside.id c.self.inside.title c.self.inside.owner c.lose_sheet.new.self
+          c.lose_sheet-2.new.self
           c.lose_sheet-3.new.self left)
           c.args.sheet c.self.invariant.0
           (marks_left c.args.sheet (other_sheets c.args.sheet before) left c.in_ok-sheets.ensures
@@ -32,7 +33,8 @@ invariant_of-result c =
             metadata = c.lose_sheet-3.ensures;
           }),
       c.of.ensures
-          ∙ filter_same _ (λ id. not (id == c.args.sheet)) _ (λ x b f' k. (search (rules, tests), search (rules, tests))) _ _
+          ∙ filter_same _ (λ id. not (id == c.args.sheet)) _
+          (λ x b f' k. (search (rules, tests), search (rules, tests))) _ _
           c.retain.ensures.filtered
           ∙ ap (filter (λ id. not (id == c.args.sheet))) (c.into_vec-ids.ensures ∙ c.self.invariant.1)
           ∙ other_ids c.args.sheet before

@@ -53,7 +53,8 @@ pub invariant_of-self : goal.invariant_of-self
 invariant_of-self c = (
   subst IsSound (sym (after c)) c.requires.sound,
   c.self.invariant.1
-      ∙ sym (ids_kept c.args.sheet (with_part c.args.part) (keeps_id c.args.part) (map arc_value c.self.inside.sheets.items))
+      ∙ sym (ids_kept c.args.sheet (with_part c.args.part) (keeps_id c.args.part)
+      (map arc_value c.self.inside.sheets.items))
       ∙ ap (λ (book : PlaceBook). map (λ (sheet : PlaceSheet). sheet.id)
       (on_place_sheet c.args.sheet (with_part c.args.part) book).sheets) c.self.view_is
       ∙ sym (ap (λ (book : PlaceBook). map (λ (sheet : PlaceSheet). sheet.id) book.sheets) (after c)),

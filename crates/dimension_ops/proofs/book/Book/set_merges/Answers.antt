@@ -28,11 +28,13 @@ set-requires-clause-there c =
 pub set-requires-clause-sound : goal.set-requires-clause-sound
 set-requires-clause-sound c =
     c.merges_are_set.ensures.stays c.args.self.now c.args.sheet c.args.merges c.stays_sound.ensures
-    (can_have c.args.merges (place_sheet_with c.args.sheet c.args.self.now.sheets) c.list-listed.ensures.merges c.requires)
+    (can_have c.args.merges (place_sheet_with c.args.sheet c.args.self.now.sheets)
+    c.list-listed.ensures.merges c.requires)
 
 pub returns-clause-names : goal.returns-clause-names
 returns-clause-names c =
-    on_ok_weaker c.set.result (λ after. subst (AreChanges (BookChange.MergesSet c.args.sheet c.args.merges ∷ []) c.args.self.now)
+    on_ok_weaker c.set.result
+    (λ after. subst (AreChanges (BookChange.MergesSet c.args.sheet c.args.merges ∷ []) c.args.self.now)
     (sym after)
     (c.merges_are_set.ensures.changes c.args.self.now c.args.sheet c.args.merges (can_have c.args.merges
     (place_sheet_with c.args.sheet c.args.self.now.sheets) c.list-listed.ensures.merges c.requires)))

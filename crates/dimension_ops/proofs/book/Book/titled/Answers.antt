@@ -20,9 +20,11 @@ seen : (c : After-find) → option_map (λ sheet. arc_value sheet.now) c.find.re
     ≡ find (has_title c.args.title.now) c.args.self.now.sheets
 seen c =
     option_map-twice (λ sheet. sheet.now) arc_value c.find.result
-    ∙ ap (option_map arc_value) (find_from_yields_List (λ sheet. has_title c.args.title.now (arc_value sheet)) _ _ c.find.result
+    ∙ ap (option_map arc_value)
+    (find_from_yields_List (λ sheet. has_title c.args.title.now (arc_value sheet)) _ _ c.find.result
     c.find.ensures.ran (YieldsList-from_slice _ c.iter.ensures.rest) (λ x b q k. search (rules, tests)))
-    ∙ ap (λ list. option_map arc_value (find (λ sheet. has_title c.args.title.now (arc_value sheet)) list)) c.deref.ensures.value
+    ∙ ap (λ list. option_map arc_value (find (λ sheet. has_title c.args.title.now (arc_value sheet)) list))
+    c.deref.ensures.value
     ∙ find-map (has_title c.args.title.now) arc_value c.self.inside.sheets.items
     ∙ ap (λ book. find (has_title c.args.title.now) book.sheets) c.self.view_is
 

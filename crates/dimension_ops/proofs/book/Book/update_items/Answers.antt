@@ -7,8 +7,8 @@ use Rattle.dev_metadata.specs.Patch.{with_patched}
 use Rattle.dev_metadata.specs.declared.types.Item.{Item}
 use Rattle.world_model.specs.Book.{PlaceBook}
 use Rattle.world_model.specs.Sound.{IsItemWithin}
+use Rattle.dimension_ops.specs.MetadataLaws.{metadata_becomes, metadata_sound, patched_within}
 use Rattle.dimension_ops.specs.MetadataRequests.{IsItemPatchWithin}
-use Rattle.dimension_ops.proofs.KeptMetadata.{metadata_becomes, metadata_sound, patched_within}
 use Rattle.dimension_ops.proofs.Marking.{kept_book}
 use Rattle.dimension_ops.proofs.book.Book.update_items.Goals.{After-update}
 use Rattle.dimension_ops.proofs.book.Book.update_items.Goals as goal

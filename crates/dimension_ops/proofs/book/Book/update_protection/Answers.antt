@@ -8,8 +8,8 @@ use Rattle.protection.specs.Patch.{patched}
 use Rattle.protection.specs.declared.range.Protection.{Protection}
 use Rattle.world_model.specs.Book.{PlaceBook}
 use Rattle.world_model.specs.Sound.{IsProtectionWithin}
+use Rattle.dimension_ops.specs.ProtectionLaws.{changed_within, protections_become, protections_sound}
 use Rattle.dimension_ops.specs.ProtectionRequests.{IsPatchWithin}
-use Rattle.dimension_ops.proofs.KeptProtections.{changed_within, protections_become, protections_sound}
 use Rattle.dimension_ops.proofs.Marking.{kept_book}
 use Rattle.dimension_ops.proofs.book.Book.update_protection.Goals.{After-update}
 use Rattle.dimension_ops.proofs.book.Book.update_protection.Goals as goal

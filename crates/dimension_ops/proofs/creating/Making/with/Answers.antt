@@ -23,8 +23,10 @@ invariant_of-result c =
     let more : sheets_made c.push.new.self.items ≡ sheets_with before one =
     ap sheets_made (c.in_ok-push.ensures.items ∙ ap (λ (list : List Placed). list ++ one ∷ []) c.self.view_is)
     ∙ made_more c.args.self one in
-    let has_ids = subst (λ (list : List Placed). HasIdsOf (sheets_made list) c.self.inside.ids) c.self.view_is c.self.invariant.0 in
-    let has_titles = subst (λ (list : List Placed). HasTitlesOf (sheets_made list) c.self.inside.titles) c.self.view_is c.self.invariant.2 in
+    let has_ids = subst (λ (list : List Placed). HasIdsOf (sheets_made list) c.self.inside.ids) c.self.view_is
+    c.self.invariant.0 in
+    let has_titles = subst (λ (list : List Placed). HasTitlesOf (sheets_made list) c.self.inside.titles) c.self.view_is
+    c.self.invariant.2 in
     let lowered : string_bytes c.in_ok-lowered.lowered ≡ str_to_ascii_lowercase c.in_ok-title.title =
     c.in_ok-lowered.ensures.ok ∙ ap str_to_ascii_lowercase c.as_str.ensures in (
       subst (λ (sheets : List PlaceSheet). HasIdsOf sheets c.in_ok-ids.ids) (sym more)
@@ -32,7 +34,8 @@ invariant_of-result c =
       subst (λ (sheets : List PlaceSheet). AreIdsBelow sheets c.in_ok-id.least) (sym more)
           (ids_below_more before one c.in_ok-id.least c.in_ok-id.ensures.below),
       subst (λ (sheets : List PlaceSheet). HasTitlesOf sheets c.in_ok-titles.titles) (sym more)
-          (titles_more before one c.self.inside.titles c.in_ok-titles.titles (string_bytes c.in_ok-lowered.lowered) has_titles
+          (titles_more before one c.self.inside.titles c.in_ok-titles.titles
+          (string_bytes c.in_ok-lowered.lowered) has_titles
           lowered c.in_ok-titles.ensures),
       subst (λ (sheets : List PlaceSheet). AreTitlesBelow sheets c.in_ok-title.number) (sym more)
           (titles_below_more before one c.in_ok-title.number c.in_ok-title.ensures.below),

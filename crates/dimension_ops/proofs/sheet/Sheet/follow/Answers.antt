@@ -19,20 +19,23 @@ returns c = record {
       c.self.inside.cells.table) (sym c.in_ok-follow_places.ensures.followed)
       (sheet_follows c.args.by.now.sheet c.args.by.now.axis c.args.by.now.count c.args.by.now.change.now
       c.self.inside.cells.table c.args.places.now
-      (subst (λ (sheet : PlaceSheet). AreReferring c.args.by.now.sheet sheet.table c.args.places.now) (sym c.self.view_is)
+      (subst (λ (sheet : PlaceSheet). AreReferring c.args.by.now.sheet sheet.table c.args.places.now)
+      (sym c.self.view_is)
       c.requires.places)));
 }
 
 pub invariant_of-self : goal.invariant_of-self
 invariant_of-self c = (
   c.self.invariant.0 ∙ sym c.follow_places.ensures.formulas.count,
-  kept_marked c.self.inside.cells.table c.follow_places.new.cells.table c.self.inside.marks.table c.follow_places.ensures.formulas
+  kept_marked c.self.inside.cells.table c.follow_places.new.cells.table c.self.inside.marks.table
+      c.follow_places.ensures.formulas
       c.self.invariant.1,
 )
 
 pub invariant_of-self-2 : goal.invariant_of-self-2
 invariant_of-self-2 c = (
   c.self.invariant.0 ∙ sym c.follow_places.ensures.formulas.count,
-  kept_marked c.self.inside.cells.table c.follow_places.new.cells.table c.self.inside.marks.table c.follow_places.ensures.formulas
+  kept_marked c.self.inside.cells.table c.follow_places.new.cells.table c.self.inside.marks.table
+      c.follow_places.ensures.formulas
       c.self.invariant.1,
 )

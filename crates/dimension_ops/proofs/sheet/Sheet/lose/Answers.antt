@@ -10,7 +10,8 @@ use Rattle.dimension_ops.proofs.sheet.Sheet.lose.Goals as goal
 
 pub returns : goal.returns
 returns c =
-    let are = subst (λ (sheet : PlaceSheet). AreReferring c.args.sheet sheet.table c.args.places.now) (sym c.self.view_is)
+    let are =
+    subst (λ (sheet : PlaceSheet). AreReferring c.args.sheet sheet.table c.args.places.now) (sym c.self.view_is)
     c.requires.places in
     record {
       id = ap (λ (sheet : PlaceSheet). sheet.id) c.self.view_is;
@@ -34,13 +35,15 @@ returns c =
 pub invariant_of-self : goal.invariant_of-self
 invariant_of-self c = (
   c.self.invariant.0 ∙ sym c.lose_places.ensures.formulas.count,
-  kept_marked c.self.inside.cells.table c.lose_places.new.cells.table c.self.inside.marks.table c.lose_places.ensures.formulas
+  kept_marked c.self.inside.cells.table c.lose_places.new.cells.table c.self.inside.marks.table
+      c.lose_places.ensures.formulas
       c.self.invariant.1,
 )
 
 pub invariant_of-self-2 : goal.invariant_of-self-2
 invariant_of-self-2 c = (
   c.self.invariant.0 ∙ sym c.lose_places.ensures.formulas.count,
-  kept_marked c.self.inside.cells.table c.lose_places.new.cells.table c.self.inside.marks.table c.lose_places.ensures.formulas
+  kept_marked c.self.inside.cells.table c.lose_places.new.cells.table c.self.inside.marks.table
+      c.lose_places.ensures.formulas
       c.self.invariant.1,
 )

@@ -16,7 +16,8 @@ merges_followed-requires-clause-within c =
 
 pub merges_followed-requires-clause-untorn : goal.merges_followed-requires-clause-untorn
 merges_followed-requires-clause-untorn c =
-    subst (λ (sheet : PlaceSheet). TearsNone c.args.by.now.axis c.args.by.now.count c.args.by.now.change.now sheet.merges)
+    subst (λ (sheet : PlaceSheet). TearsNone c.args.by.now.axis c.args.by.now.count c.args.by.now.change.now
+    sheet.merges)
     (sym c.self.view_is) c.requires.ready.untorn
 
 pub filter_followed-filter-requires-clause-ready : goal.filter_followed-filter-requires-clause-ready
@@ -31,10 +32,13 @@ counted_again-requires c =
     sym (ap (λ (sheet : PlaceSheet). lines_on c.args.by.now.axis sheet.table.rows sheet.table.cols) c.self.view_is
     ∙ c.requires.ready.long) in
     record {
-      marked = moved_marked c.args.by.now.axis c.args.by.now.change.now c.self.inside.cells.table c.change.new.self.table
-          c.self.inside.marks.table c.change-2.new.self.table c.in_ok-change.ensures.moved c.in_ok-change-2.ensures.moved
+      marked =
+          moved_marked c.args.by.now.axis c.args.by.now.change.now c.self.inside.cells.table c.change.new.self.table
+          c.self.inside.marks.table c.change-2.new.self.table c.in_ok-change.ensures.moved
+          c.in_ok-change-2.ensures.moved
           c.self.invariant.1;
-      stay = λ stay. count_stays c.args.by.now.axis c.args.by.now.change.now c.self.inside.cells.table c.change.new.self.table
+      stay = λ stay. count_stays c.args.by.now.axis c.args.by.now.change.now c.self.inside.cells.table
+          c.change.new.self.table
           c.in_ok-change.ensures.moved c.items_inside.ensures
           (ap (keeps_places c.args.by.now.change.now) (sym lines) ∙ sym c.keeps_places-stay.ensures ∙ stay)
           c.tables_by_items.ensures ∙ sym c.self.invariant.0;

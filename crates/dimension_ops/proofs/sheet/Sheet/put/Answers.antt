@@ -22,7 +22,8 @@ invariant_of-self-2 c =
     let table = c.self.inside.cells.table in
     let after = c.exchange.new.cells.table in
     let put = c.in_ok-old.ensures.put in
-    let counted = c.formulas_counted.ensures.written c.self.inside.cells.table c.args.row c.args.column c.args.content in (
+    let counted =
+    c.formulas_counted.ensures.written c.self.inside.cells.table c.args.row c.args.column c.args.content in (
       omega (
         arith,
         c.self.invariant.0,

@@ -11,7 +11,8 @@ use Rattle.dimension_ops.proofs.sheet.Sheet.rename.Goals as goal
 
 pub returns : goal.returns
 returns c =
-    let are = subst (λ (sheet : PlaceSheet). AreNaming c.args.old.now sheet.table c.args.places.now) (sym c.self.view_is)
+    let are =
+    subst (λ (sheet : PlaceSheet). AreNaming c.args.old.now sheet.table c.args.places.now) (sym c.self.view_is)
     c.requires.places in
     let becomes = content_renamed c.args.old.now c.args.new.now in
     let stays = content_stays c.args.old.now c.args.new.now in

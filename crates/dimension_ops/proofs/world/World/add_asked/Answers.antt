@@ -20,7 +20,8 @@ right_of books asked making placed are told =
     subst (IsRight books asked) (sym same) (record { are = are; none = none })
 
 right : (books count : ℕ) (asked : List SheetProperties) (making : List Placed) → count ≡ books
-    → (placed : List Placed) × ArePlaced asked [] placed × (Ok making ≡ judged_by (created_broken count asked placed) placed)
+    → (placed : List Placed) × ArePlaced asked [] placed
+    × (Ok making ≡ judged_by (created_broken count asked placed) placed)
     → IsRight books asked making
 right books count asked making same (placed, are, told) =
     subst (λ n. IsRight n asked making) same (right_of count asked making placed are told)
@@ -54,5 +55,6 @@ pub returns-in-Err-clause-added : goal.returns-in-Err-clause-added
 returns-in-Err-clause-added c =
     refused_so c.args.owner.now c.args.title.now c.args.asked.now c.args.self.now c.in-Err.refused
     (subst (λ n. IsUnlessNoMemory (λ told. (placed : List Placed) × ArePlaced c.args.asked.now [] placed
-    × (told ≡ judged_by (created_broken n c.args.asked.now placed) placed)) (Err c.in-Err.refused)) c.count.ensures.count
+    × (told ≡ judged_by (created_broken n c.args.asked.now placed) placed)) (Err c.in-Err.refused))
+    c.count.ensures.count
     c.in-Err.ensures)

@@ -15,12 +15,14 @@ abbrev has_id : List ℕ → PlaceBook → Bool
 has_id id book = bytes_eq book.id id
 
 -- what is found among the shared spreadsheets is found among what they are
-seen : (c : After-find) → option_map (λ book. arc_value book.now) c.find.result ≡ find (has_id c.args.id.now) c.args.self.now
+seen : (c : After-find) → option_map (λ book. arc_value book.now) c.find.result
+    ≡ find (has_id c.args.id.now) c.args.self.now
 seen c =
     option_map-twice (λ book. book.now) arc_value c.find.result
     ∙ ap (option_map arc_value) (find_from_yields_List (λ book. has_id c.args.id.now (arc_value book)) _ _ c.find.result
     c.find.ensures.ran (YieldsList-from_slice _ c.iter.ensures.rest) (λ x b q k. search (rules, tests)))
-    ∙ ap (λ list. option_map arc_value (find (λ book. has_id c.args.id.now (arc_value book)) list)) c.deref.ensures.value
+    ∙ ap (λ list. option_map arc_value (find (λ book. has_id c.args.id.now (arc_value book)) list))
+    c.deref.ensures.value
     ∙ find-map (has_id c.args.id.now) arc_value c.self.inside.books.items
     ∙ ap (find (has_id c.args.id.now)) c.self.view_is
 

@@ -18,7 +18,8 @@ use Rattle.dimension_ops.proofs.world.World.replace.Goals as goal
 
 -- the place of the spreadsheet among the shared ones is that of the one with its id
 place_is : (slice items : List (Arc PlaceBook Global)) (id : List ℕ) (book : PlaceBook) (place : Option ℕ)
-    → slice ≡ items → id ≡ book.id → place ≡ position_from (λ (other : PlaceBook). bytes_eq other.id id) 0 (map arc_value slice)
+    → slice ≡ items → id ≡ book.id → place
+    ≡ position_from (λ (other : PlaceBook). bytes_eq other.id id) 0 (map arc_value slice)
     → position_from (has_its_id book) 0 (map arc_value items) ≡ place
 place_is slice items id book place same own at =
     ap (λ key. position_from (λ (other : PlaceBook). bytes_eq other.id key) 0 (map arc_value items)) (sym own)

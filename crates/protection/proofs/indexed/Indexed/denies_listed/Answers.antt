@@ -61,7 +61,9 @@ returns c =
     (λ (one : Protection). IsTrue c.any.result
     ↔ DeniesOne c.args.user.now c.args.owner.now (ListedCells c.args.sheet c.args.cells.now) one)
     c.self.view_is
-    (denies_one c.args.user.now c.args.owner.now c.args.sheet c.self.inside.protection c.args.cells.now on off c.any.result
-    (cases_from_any _ _ c.any.result (Closes c.self.inside.protection) (λ cell. ¬ (Closes c.self.inside.protection cell))
+    (denies_one c.args.user.now c.args.owner.now c.args.sheet c.self.inside.protection c.args.cells.now on off
+    c.any.result
+    (cases_from_any _ _ c.any.result (Closes c.self.inside.protection)
+    (λ cell. ¬ (Closes c.self.inside.protection cell))
     c.any.ensures.ran (YieldsList-from_slice _ c.iter.ensures.rest) (λ x q k. search (rules, tests))
     (λ x q k. search (rules, tests))))

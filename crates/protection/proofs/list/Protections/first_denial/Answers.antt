@@ -11,10 +11,13 @@ use Rattle.protection.proofs.list.Protections.first_denial.Goals as goal
 pub returns-then-denies_some-clause-denied : goal.returns-then-denies_some-clause-denied
 returns-then-denies_some-clause-denied c =
     subst
-    (λ (one : Protection). IsFirst (DeniesSome c.args.user.now c.args.owner.now c.args.area.now c.args.rows c.args.cols) c.args.self.now one.id)
+    (λ (one : Protection). IsFirst (DeniesSome c.args.user.now c.args.owner.now c.args.area.now c.args.rows c.args.cols)
+    c.args.self.now one.id)
     (sym c.get.ensures)
     (subst
-    (λ (list : List Protection). IsFirst (DeniesSome c.args.user.now c.args.owner.now c.args.area.now c.args.rows c.args.cols) list c.protection-item.result.id)
+    (λ (list : List Protection). IsFirst
+    (DeniesSome c.args.user.now c.args.owner.now c.args.area.now c.args.rows c.args.cols) list
+    c.protection-item.result.id)
     (c.deref-protection-items.ensures.value ∙ c.self.view_is)
     (IsFirst-at (DeniesSome c.args.user.now c.args.owner.now c.args.area.now c.args.rows c.args.cols) _ _ _
     (subst (λ (list : List Protection). IsInOrder list) (sym c.deref-protection-items.ensures.value) c.self.invariant)

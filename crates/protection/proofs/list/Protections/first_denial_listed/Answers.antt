@@ -11,10 +11,13 @@ use Rattle.protection.proofs.list.Protections.first_denial_listed.Goals as goal
 pub returns-then-denies_listed-clause-denied : goal.returns-then-denies_listed-clause-denied
 returns-then-denies_listed-clause-denied c =
     subst
-    (λ (one : Protection). IsFirst (DeniesOne c.args.user.now c.args.owner.now (ListedCells c.args.sheet c.args.cells.now)) c.args.self.now one.id)
+    (λ (one : Protection). IsFirst
+    (DeniesOne c.args.user.now c.args.owner.now (ListedCells c.args.sheet c.args.cells.now)) c.args.self.now one.id)
     (sym c.get.ensures)
     (subst
-    (λ (list : List Protection). IsFirst (DeniesOne c.args.user.now c.args.owner.now (ListedCells c.args.sheet c.args.cells.now)) list c.protection-item.result.id)
+    (λ (list : List Protection). IsFirst
+    (DeniesOne c.args.user.now c.args.owner.now (ListedCells c.args.sheet c.args.cells.now)) list
+    c.protection-item.result.id)
     (c.deref-protection-items.ensures.value ∙ c.self.view_is)
     (IsFirst-at (DeniesOne c.args.user.now c.args.owner.now (ListedCells c.args.sheet c.args.cells.now)) _ _ _
     (subst (λ (list : List Protection). IsInOrder list) (sym c.deref-protection-items.ensures.value) c.self.invariant)
@@ -27,7 +30,8 @@ loop-protection-preserved c =
     (λ one. ¬ (DeniesOne c.args.user.now c.args.owner.now (ListedCells c.args.sheet c.args.cells.now) one))
     _ _ c.protection-item.result c.loop-protection-test.true c.loop-protection.invariant
     (subst
-    (λ (one : Protection). ¬ (DeniesOne c.args.user.now c.args.owner.now (ListedCells c.args.sheet c.args.cells.now) one))
+    (λ (one : Protection).
+    ¬ (DeniesOne c.args.user.now c.args.owner.now (ListedCells c.args.sheet c.args.cells.now) one))
     c.protection-item.is
     (λ some. false≢true (sym c.if-denies_listed.false ∙ c.denies_listed.ensures.1 some)))
 

@@ -22,10 +22,13 @@ loop-mark-preserved g c = record {
 
 pub returns-clause-cleared : goal.returns-clause-cleared
 returns-clause-cleared g c =
-    let all : length c.as_slice-mark-items.result.now ≤ c.loop-mark.mark-index = omega (arith, c.loop-mark-test.false) in
+    let all : length c.as_slice-mark-items.result.now ≤ c.loop-mark.mark-index =
+    omega (arith, c.loop-mark-test.false) in
     column_cleared c.args.self.now c.loop-mark.self c.self.inside.marks
     (subst (λ items. HasMarks items c.self.inside.marks) c.self.view_is c.self.invariant) c.args.column c.key.result
-    c.key-2.result c.as_slice-mark-items.result.now c.loop-mark.mark-index (omega arith) c.key.ensures c.key-2.ensures all
+    c.key-2.result c.as_slice-mark-items.result.now c.loop-mark.mark-index (omega arith) c.key.ensures
+    c.key-2.ensures all
     (subst (AreKeysWithin c.key.result c.key-2.result c.self.inside.marks) (sym c.as_slice-mark-items.ensures.value)
-    (as_keys (AreKeysWithin c.key.result c.key-2.result c.self.inside.marks) c.in_ok-marks.marks.items c.in_ok-marks.ensures))
+    (as_keys (AreKeysWithin c.key.result c.key-2.result c.self.inside.marks) c.in_ok-marks.marks.items
+    c.in_ok-marks.ensures))
     c.loop-mark.invariant.taken

@@ -21,7 +21,8 @@ invariant_of-self-in-Ok g c =
     let items = c.self.inside.items in
     let marks = c.self.inside.marks in
     either (λ after. HasMarks after c.put-2.new.self) c.put-in-Ok.new.self
-    (map.insert items c.key-at.result c.args.item) items c.put-in-Ok.result c.put-in-Ok.ensures.put c.put-in-Ok.ensures.unchanged
+    (map.insert items c.key-at.result c.args.item) items c.put-in-Ok.result c.put-in-Ok.ensures.put
+    c.put-in-Ok.ensures.unchanged
     (put_both items marks c.self.invariant c.args.row c.args.column (omega arith) (omega arith)
     c.key-at.result c.key.result c.key-at.ensures c.key.ensures c.args.item c.put-2.new.self _ c.in-Ok.ensures.put)
     (put_mark items marks c.self.invariant c.args.row c.args.column (omega arith) (omega arith)

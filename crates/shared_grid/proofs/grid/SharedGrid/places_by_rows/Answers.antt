@@ -13,7 +13,8 @@ pub held_by_rows-requires : goal.held_by_rows-requires
 held_by_rows-requires g c = record { distinct = c.in_ok-places.ensures.distinct }
 
 pub returns : goal.returns
-returns g c = are_places c.args.area.now c.args.self.now.table c.count.result c.ends-first.result.0 c.ends-first.result.1
+returns g c =
+    are_places c.args.area.now c.args.self.now.table c.count.result c.ends-first.result.0 c.ends-first.result.1
     c.in_ok-places.places.items c.held_by_rows.result
     (inside-view c.tables_by_items.ensures c.self.inside.rows c.self.inside.columns c.self.inside.cells c.self.invariant
     c.args.self.now c.self.view_is)

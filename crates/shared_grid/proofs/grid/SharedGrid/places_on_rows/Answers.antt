@@ -11,5 +11,6 @@ pub loop-row-preserved : goal.loop-row-preserved
 loop-row-preserved g c = c.in_ok-places-2.ensures c.args.first c.loop-row.invariant
 
 pub returns : goal.returns
-returns g c = subst (λ (row : ℕ). AreOnRows c.args.first row c.args.self.now.table c.loop-row.places.items) (omega arith)
+returns g c =
+    subst (λ (row : ℕ). AreOnRows c.args.first row c.args.self.now.table c.loop-row.places.items) (omega arith)
     c.loop-row.invariant

@@ -49,7 +49,8 @@ returns-clause-put g c =
     on_ok (λ (is : c.put.new.self ≡ map.insert c.self.inside.cells
     (key_of c.number-row_number.result c.number-column_number.result) c.args.item).
     ap (sheet_of c.self.inside.rows c.self.inside.columns)
-    (is ∙ ap (λ key. map.insert c.self.inside.cells key c.args.item) (λ i. key_of (c.number-row_number.ensures i) (c.number-column_number.ensures i)))
+    (is ∙ ap (λ key. map.insert c.self.inside.cells key c.args.item)
+    (λ i. key_of (c.number-row_number.ensures i) (c.number-column_number.ensures i)))
     ∙ put-view c.tables_by_items.ensures c.self.inside.rows c.self.inside.columns c.self.inside.cells
     c.self.invariant c.args.self.now c.self.view_is
     c.args.row c.args.column

@@ -9,22 +9,26 @@ use Rattle.shared_grid.proofs.Views.{item-view, none-view, none_taken-view, take
 use Rattle.shared_grid.proofs.grid.SharedGridCellStore.take.Goals as goal
 
 pub returns-then-row-count-clause-item : goal.returns-then-row-count-clause-item
-returns-then-row-count-clause-item g c = none-view c.tables_by_items.ensures c.self.inside.rows c.self.inside.columns c.self.inside.cells
+returns-then-row-count-clause-item g c =
+    none-view c.tables_by_items.ensures c.self.inside.rows c.self.inside.columns c.self.inside.cells
     c.self.invariant c.args.self.now c.self.view_is
     c.args.row c.args.column (λ there. let less = there.0 in omega (arith, c.count.ensures, c.if-row-count.true))
 
 pub returns-then-row-count-clause-taken : goal.returns-then-row-count-clause-taken
-returns-then-row-count-clause-taken g c = none_taken-view c.tables_by_items.ensures c.self.inside.rows c.self.inside.columns c.self.inside.cells
+returns-then-row-count-clause-taken g c =
+    none_taken-view c.tables_by_items.ensures c.self.inside.rows c.self.inside.columns c.self.inside.cells
     c.self.invariant c.args.self.now c.self.view_is
     c.args.row c.args.column (λ there. let less = there.0 in omega (arith, c.count.ensures, c.if-row-count.true))
 
 pub returns-then-column-count-clause-item : goal.returns-then-column-count-clause-item
-returns-then-column-count-clause-item g c = none-view c.tables_by_items.ensures c.self.inside.rows c.self.inside.columns c.self.inside.cells
+returns-then-column-count-clause-item g c =
+    none-view c.tables_by_items.ensures c.self.inside.rows c.self.inside.columns c.self.inside.cells
     c.self.invariant c.args.self.now c.self.view_is
     c.args.row c.args.column (λ there. let less = there.1 in omega (arith, c.count-2.ensures, c.if-column-count.true))
 
 pub returns-then-column-count-clause-taken : goal.returns-then-column-count-clause-taken
-returns-then-column-count-clause-taken g c = none_taken-view c.tables_by_items.ensures c.self.inside.rows c.self.inside.columns c.self.inside.cells
+returns-then-column-count-clause-taken g c =
+    none_taken-view c.tables_by_items.ensures c.self.inside.rows c.self.inside.columns c.self.inside.cells
     c.self.invariant c.args.self.now c.self.view_is
     c.args.row c.args.column (λ there. let less = there.1 in omega (arith, c.count-2.ensures, c.if-column-count.true))
 
@@ -56,7 +60,8 @@ returns-clause-taken g c =
     on_ok (λ (is : c.take.new.self ≡ map.remove c.self.inside.cells
     (key_of c.number-row_number.result c.number-column_number.result)).
     ap (sheet_of c.self.inside.rows c.self.inside.columns)
-    (is ∙ ap (map.remove c.self.inside.cells) (λ i. key_of (c.number-row_number.ensures i) (c.number-column_number.ensures i)))
+    (is ∙ ap (map.remove c.self.inside.cells)
+    (λ i. key_of (c.number-row_number.ensures i) (c.number-column_number.ensures i)))
     ∙ taken-view c.tables_by_items.ensures c.self.inside.rows c.self.inside.columns c.self.inside.cells
     c.self.invariant c.args.self.now c.self.view_is
     c.args.row c.args.column

@@ -74,7 +74,8 @@ returns c =
           ))
           (c.in_ok-order.ensures.count ∙ c.lines_after-count.ensures.value
           ∙ ap (λ order. count_after c.args.change.now order.count) c.self.view_is)
-          (λ index there. ap (λ xs. get_or xs index 0) c.in_ok-order.ensures.numbers ∙ c.turn.ensures.order index there);
+          (λ index there. ap (λ xs. get_or xs index 0) c.in_ok-order.ensures.numbers
+          ∙ c.turn.ensures.order index there);
       numbers = omega (
         arith,
         ap length c.in_ok-order.ensures.numbers,

@@ -11,7 +11,8 @@ returns c = λ empty.
     let places = c.self.inside.lists.places.items in
     let none : length c.self.inside.lists.numbers.items ≡ 0 =
     ap (λ lists. length lists.numbers.items) (sym c.value.ensures)
-    ∙ sym c.value.result.now.numbers.ok.0 ∙ eqb-true (vec_len c.value.result.now.numbers) 0 (sym c.is_empty.ensures ∙ empty) in
+    ∙ sym c.value.result.now.numbers.ok.0
+    ∙ eqb-true (vec_len c.value.result.now.numbers) 0 (sym c.is_empty.ensures ∙ empty) in
     let within : length places ≤ c.self.inside.kept = omega (arith, c.self.invariant.0, c.self.invariant.1) in
     record {
       numbers = λ line there.

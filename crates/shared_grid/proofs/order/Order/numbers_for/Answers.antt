@@ -16,7 +16,8 @@ loop-number-init c =
     let long : length c.in_ok-numbers.numbers.items ≡ c.len-number.result =
     omega (arith, c.len-number.ensures, c.in_ok-numbers.numbers.ok.0) in
     let kept : c.self.inside.kept ≡ length c.args.self.now.numbers =
-    sym (length-continued xs c.self.inside.kept c.self.invariant.0) ∙ ap (λ order. length order.numbers) c.self.view_is in
+    sym (length-continued xs c.self.inside.kept c.self.invariant.0)
+    ∙ ap (λ order. length order.numbers) c.self.view_is in
     let lengths = ap length copied in
     record {
       long = long;
@@ -41,7 +42,8 @@ loop-number-preserved c =
     let start : length c.self.inside.lists.numbers.items ≤ c.loop-number.number =
     omega (arith, c.len-number.ensures, c.in_ok-numbers.numbers.ok.0, lengths, c.loop-number.auto.number) in
     let kept : c.self.inside.kept ≡ length c.args.self.now.numbers =
-    sym (length-continued xs c.self.inside.kept c.self.invariant.0) ∙ ap (λ order. length order.numbers) c.self.view_is in
+    sym (length-continued xs c.self.inside.kept c.self.invariant.0)
+    ∙ ap (λ order. length order.numbers) c.self.view_is in
     let pushed = c.in_ok-push.ensures.items in
     let old : (index : ℕ) → index < c.loop-number.number
     → get_or c.push.new.self.items index 0 ≡ get_or c.loop-number.numbers.items index 0 = λ index less.

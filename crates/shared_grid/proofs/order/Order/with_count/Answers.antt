@@ -20,8 +20,10 @@ returns-clause-order c =
 
 pub returns-clause-first : goal.returns-clause-first
 returns-clause-first c = λ index there.
-    ap (λ (lists : Lists). Rattle.std.specs.Prelude.slice_index (continued lists.numbers.items c.max-kept.result) index) c.in_ok-lists.ensures
-    ∙ same_entry c.self.inside.lists.numbers.items c.self.inside.kept c.max-kept.result c.self.invariant.0 (omega arith) index
+    ap (λ (lists : Lists). Rattle.std.specs.Prelude.slice_index (continued lists.numbers.items c.max-kept.result) index)
+    c.in_ok-lists.ensures
+    ∙ same_entry c.self.inside.lists.numbers.items c.self.inside.kept c.max-kept.result c.self.invariant.0
+    (omega arith) index
     (omega (
       arith,
       there,

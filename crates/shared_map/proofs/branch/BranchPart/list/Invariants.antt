@@ -8,4 +8,5 @@ use Rattle.shared_map.proofs.branch.BranchPart.list.Given as goal
 abbrev pub invariant-loop-index : goal.invariant-loop-index
 invariant-loop-index g l =
     l.found.items ≡ l.fn.found.items
-    ++ map g.K.Key.listed (keys_found (in_parts g.C.Part.at l.span l.self.parts.items) l.base l.first (min (l.last + 1) (l.index * l.span)))
+    ++ map g.K.Key.listed
+    (keys_found (in_parts g.C.Part.at l.span l.self.parts.items) l.base l.first (min (l.last + 1) (l.index * l.span)))

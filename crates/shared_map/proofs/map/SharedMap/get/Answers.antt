@@ -6,4 +6,5 @@ use Rattle.shared_map.proofs.map.SharedMap.get.Goals as goal
 
 pub returns : goal.returns
 returns g c =
-    c.get.ensures ∙ sym (get-map_of (in_root c.self.inside.root) c.args.key (omega arith)) ∙ ap (λ m. map.get m c.args.key) c.self.view_is
+    c.get.ensures ∙ sym (get-map_of (in_root c.self.inside.root) c.args.key (omega arith))
+    ∙ ap (λ m. map.get m c.args.key) c.self.view_is

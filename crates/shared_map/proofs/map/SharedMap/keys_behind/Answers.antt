@@ -9,7 +9,8 @@ pub returns : goal.returns
 returns g c =
     let find = in_root c.self.inside.root in
     let fits : c.args.last < 2 ^ 64 = omega arith in
-    subst (λ m. AreListed g.K.Key.listed (AreKeysWithin c.args.first c.args.last m) c.args.others.items c.list.new.found.items)
+    subst (λ m. AreListed g.K.Key.listed (AreKeysWithin c.args.first c.args.last m) c.args.others.items
+    c.list.new.found.items)
     c.self.view_is (record {
       keys = keys_found find 0 c.args.first (c.args.last + 1);
       are = are_keys find c.args.first c.args.last fits;

@@ -16,11 +16,13 @@ loop-cell-init c =
 
 pub entry-requires-clause-row : goal.entry-requires-clause-row
 entry-requires-clause-row c =
-    (listed_inside c.args.self.now c.args.cells.now c.requires.cells c.loop-cell.cell-index c.loop-cell-test.true).row_from
+    (listed_inside c.args.self.now c.args.cells.now c.requires.cells c.loop-cell.cell-index
+    c.loop-cell-test.true).row_from
 
 pub entry-requires-clause-col : goal.entry-requires-clause-col
 entry-requires-clause-col c =
-    (listed_inside c.args.self.now c.args.cells.now c.requires.cells c.loop-cell.cell-index c.loop-cell-test.true).col_from
+    (listed_inside c.args.self.now c.args.cells.now c.requires.cells c.loop-cell.cell-index
+    c.loop-cell-test.true).col_from
 
 pub entry-requires-clause-given : goal.entry-requires-clause-given
 entry-requires-clause-given c =
@@ -53,17 +55,21 @@ loop-cell-preserved c =
     let entry = entry_of (c.in_ok-content.content, c.in_ok-content.limit) in
     subst (AreEntered sheets id (listed_of (value_by given) (take (k + 1) cells)) c.args.book.now c.put.new.self)
     (sym c.first_of-first.ensures)
-    (put_next given cells c.requires.cells k c.loop-cell-test.true c.reads_once.ensures c.updates_are_writes.ensures sheets
+    (put_next given cells c.requires.cells k c.loop-cell-test.true c.reads_once.ensures
+    c.updates_are_writes.ensures sheets
     c.args.book.now c.loop-cell.book c.put.new.self c.loop-cell.first entry
-    (subst (λ seen. IsEntry seen id (input_at given.block.now (cell.0 - first_row given) (cell.1 - first_col given)) entry)
-    (same_sheets id (contents_of so_far.entries) c.args.book.now c.loop-cell.book so_far.updated) c.in_ok-content.ensures.entry)
+    (subst (λ seen. IsEntry seen id
+    (input_at given.block.now (cell.0 - first_row given) (cell.1 - first_col given)) entry)
+    (same_sheets id (contents_of so_far.entries) c.args.book.now c.loop-cell.book so_far.updated)
+    c.in_ok-content.ensures.entry)
     c.in_ok-put.ensures.put so_far)
 
 pub returns : goal.returns
 returns c =
     let given = c.args.self.now in
     let id = given.area.now.sheet in
-    let all = put_all given c.args.cells.now c.requires.cells (formula_sheets c.args.book.now.sheets) c.loop-cell.cell-index
+    let all =
+    put_all given c.args.cells.now c.requires.cells (formula_sheets c.args.book.now.sheets) c.loop-cell.cell-index
     c.args.book.now c.loop-cell.book c.loop-cell.first c.loop-cell-test.false c.loop-cell.invariant in
     record {
       entries = all.entries;

@@ -37,14 +37,16 @@ loop-place-preserved c =
     let filled : AreFilledPlaces c.args.self.now.area.now c.args.self.now.sheet.now.table places =
     rw c.as_slice-place-items.ensures c.in_ok-places.ensures in
     elim c.if-self.branch [
-      | then-self+in_ok-reach w ↦ subst (λ ends. AreEndsSoFar c.args.self.now places (c.loop-place.place-index + 1) ends)
+      | then-self+in_ok-reach w ↦
+          subst (λ ends. AreEndsSoFar c.args.self.now places (c.loop-place.place-index + 1) ends)
           (ap (λ (vec : Vec ℕ Global). vec.items) (sym w.ends-is))
           (next_placed c.args.self.now c.requires places filled true c.loop-place.place-index
           (place.0 - c.first_line.result) (place.1 - c.first_line-in-loop-place.result) c.loop-place.ends.items
           w.reach.new.ends.items w.if-self.true c.loop-place-test.true (ap (λ n. place.0 - n) c.first_line.ensures)
           (ap (λ n. place.1 - n) c.first_line-in-loop-place.ensures) c.loop-place.invariant w.in_ok-reach.ensures.ends
           w.in_ok-reach.ensures.lines)
-      | else-self+in_ok-reach-2 w ↦ subst (λ ends. AreEndsSoFar c.args.self.now places (c.loop-place.place-index + 1) ends)
+      | else-self+in_ok-reach-2 w ↦
+          subst (λ ends. AreEndsSoFar c.args.self.now places (c.loop-place.place-index + 1) ends)
           (ap (λ (vec : Vec ℕ Global). vec.items) (sym w.ends-is))
           (next_placed c.args.self.now c.requires places filled false c.loop-place.place-index
           (place.0 - c.first_line.result) (place.1 - c.first_line-in-loop-place.result) c.loop-place.ends.items
@@ -56,6 +58,8 @@ loop-place-preserved c =
 pub returns : goal.returns
 returns c =
     let places = c.as_slice-place-items.result.now in
-    let all : c.loop-place.place-index ≡ length places = omega (arith, c.loop-place-test.false, c.loop-place.auto.place-index-end) in
+    let all : c.loop-place.place-index ≡ length places =
+    omega (arith, c.loop-place-test.false, c.loop-place.auto.place-index-end) in
     all_ended c.args.self.now c.requires places (rw c.as_slice-place-items.ensures c.in_ok-places.ensures)
-    c.loop-place.ends.items (subst (λ n. AreEndsSoFar c.args.self.now places n c.loop-place.ends.items) all c.loop-place.invariant)
+    c.loop-place.ends.items
+    (subst (λ n. AreEndsSoFar c.args.self.now places n c.loop-place.ends.items) all c.loop-place.invariant)

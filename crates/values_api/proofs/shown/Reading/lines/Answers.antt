@@ -24,4 +24,5 @@ pub returns : goal.returns
 returns c =
     c.of.ensures ∙ c.cut_empty_end.ensures
     ∙ lines_are c.args.self.now c.in_ok-ends.ends.items c.in_ok-ends.ensures c.loop-line.line
-    c.loop-line.lines.items (omega (arith, c.loop-line-test.false, c.loop-line.auto.line-end, c.len-line-end.ensures)) c.loop-line.invariant
+    c.loop-line.lines.items (omega (arith, c.loop-line-test.false, c.loop-line.auto.line-end, c.len-line-end.ensures))
+    c.loop-line.invariant

@@ -8,7 +8,8 @@ use Rattle.values_api.proofs.table.Stored.of.Goals as goal
 
 pub held_by_rows-requires : goal.held_by_rows-requires
 held_by_rows-requires c = record {
-  distinct = subst (IsDistinct (eq_by_cmp by_rows)) (sym (c.in_ok-by_cols.ensures ∙ ap columns_first c.as_slice.ensures))
+  distinct =
+      subst (IsDistinct (eq_by_cmp by_rows)) (sym (c.in_ok-by_cols.ensures ∙ ap columns_first c.as_slice.ensures))
       (sorted_columns_apart c.in_ok-by_rows.by_rows c.in_ok-by_rows.ensures.in_order);
 }
 

@@ -26,7 +26,8 @@ pub loop-grown-preserved : goal.loop-grown-preserved
 loop-grown-preserved c =
     let grown = c.in-Some.ensures.grown in
     record {
-      has_cell = still_in c.loop-grown.table c.in-Some.grown c.args.row c.args.col grown.holds c.loop-grown.invariant.has_cell;
+      has_cell =
+          still_in c.loop-grown.table c.in-Some.grown c.args.row c.args.col grown.holds c.loop-grown.invariant.has_cell;
       least = still_least c.args.self.now c.loop-grown.table c.in-Some.grown c.args.row c.args.col grown
           c.loop-grown.invariant.least;
     }
