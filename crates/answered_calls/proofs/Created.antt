@@ -1,5 +1,5 @@
--- spreadsheets.create has an answer where fewer than 1,000,000,000 sheets are asked for.
-use Rattle.std.proofs.Common.{◌<◌, ℕ, refl, List, [], length, arith}
+-- spreadsheets.create has an answer where few enough sheets are asked for.
+use Rattle.std.proofs.Common.{◌<◌, ◌^◌, ℕ, refl, List, [], length, arith}
 use Rattle.std.specs.Prelude.{IfOk, Ok, Err}
 use Rattle.world_model.specs.Book.{PlaceBook}
 use Rattle.dimension_ops.specs.Broken.{judged_by}
@@ -12,18 +12,16 @@ use Rattle.batch_engine.specs.Create.{IsCreateOf, book_made, makes_book, unless_
 use Rattle.batch_engine.specs.Effects.Effect.{Nothing}
 use Rattle.batch_engine.specs.Looks.{spreadsheet_alone}
 use Rattle.batch_engine.specs.Values.{rule_of}
-use Rattle.answered_calls.proofs.SheetsPlaced.{few_asked, some_placed}
+use Rattle.answered_calls.proofs.SheetsPlaced.{some_placed}
 
--- no body of a request has room for more
 abbrev pub AsksForFewSheets : Reading NewSpreadsheet → Type 0
-AsksForFewSheets given = IfOk given (λ asked. length asked.sheets < 1000000000)
+AsksForFewSheets given = IfOk given (λ asked. length (asked_sheets asked.sheets) < 2 ^ 64)
 
 pub create_answered : (owner : List ℕ) (given : Reading NewSpreadsheet) (books : List PlaceBook)
     → AsksForFewSheets given → ¬ (HasNoAnswer (IsCreateOf owner given books))
 create_answered owner (Err shape) books few none = none (Err (rule_of shape)) Nothing (refl, refl)
 create_answered owner (Ok asked) books few none =
-    let short = few_asked asked.sheets few in
-    let (placed, are) = some_placed (asked_sheets asked.sheets) [] (omega (arith, short)) in
+    let (placed, are) = some_placed (asked_sheets asked.sheets) [] (omega (arith, few)) in
     let told = judged_by (created_broken (length books) (asked_sheets asked.sheets) placed)
     (answer.Create (spreadsheet_alone owner (book_made owner asked (length books) placed))) in
     none told (unless_broken told (makes_book owner asked (length books) placed))

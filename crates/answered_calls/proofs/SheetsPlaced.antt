@@ -6,7 +6,7 @@ use Rattle.cell_value.specs.declared.cell.SheetProperties.{SheetProperties}
 use Rattle.world_model.specs.Making.{Placed}
 use Rattle.world_model.specs.Sheet.{PlaceSheet}
 use Rattle.world_model.specs.SheetChange.{new_place_sheet}
-use Rattle.dimension_ops.specs.Creating.{ArePlaced, asked_sheets, sheets_with}
+use Rattle.dimension_ops.specs.Creating.{ArePlaced, sheets_with}
 use Rattle.dimension_ops.specs.SheetRequests.{new_place}
 use Rattle.answered_calls.proofs.SheetsAsked.{sheet_asked}
 
@@ -26,8 +26,3 @@ some_placed (one ∷ others) sheets few =
     let long = one_more sheets placed in
     let (rest, are) = some_placed others (sheets_with sheets placed) (omega (arith, few, long)) in
     (placed ∷ rest, ((refl, is_new), are))
-
--- fewer than a milliard are asked for
-pub few_asked : (asked : List SheetProperties) → length asked < 1000000000 → length (asked_sheets asked) < 2 ^ 64
-few_asked [] few = omega arith
-few_asked (one ∷ others) few = omega (arith, few)

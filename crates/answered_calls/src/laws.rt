@@ -19,8 +19,8 @@ use world_model::{
     updates_are_changes, updates_are_writes, updates_follow, words_are_renamed, writes_stay_sound,
 };
 
-/// Each call on a spreadsheet that is there, among sound ones whose named ranges have ids and names of their own, has
-/// an answer.
+/// It can't be that a call has no answer whose spreadsheet is there, if it names one, among sound ones whose named ranges
+/// have ids and names of their own, where it asks for few enough.
 pub fn calls_answered()
     ensures { CallsAnswered }
 {
@@ -64,7 +64,8 @@ pub fn names_apart()
     stands_for_some();
 }
 
-/// Each request has a reply, behind a history for which spreadsheets stand.
+/// It can't be that a request has no reply behind a history for which spreadsheets stand, where its call asks for few
+/// enough.
 pub fn requests_answered()
     ensures { RequestsAnswered }
 {

@@ -1,4 +1,4 @@
-//! No call is without an answer, and no request without a reply. Laws, no code.
+//! No call that asks for few enough is without an answer, and no such request without a reply. Laws, no code.
 #![tactic(auto)]
 
 mod laws;
