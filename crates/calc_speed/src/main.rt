@@ -28,11 +28,28 @@ fn main(rt: HostRuntime) -> anyhow::Result<()> {
         timed = timed || word.as_str() == "time";
     }
     for case in &CASES {
-        let small = sheet_of(rt.alloc(), case.reads, case.small)?;
-        print_values(&rt, rt.alloc(), case, &small)?;
-        if timed {
-            time_case(&rt, rt.alloc(), case, &small)?;
-        }
+        run(&rt, rt.alloc(), case, timed)?;
+    }
+    Ok(())
+}
+
+/// Calculates the smaller sheet of a case, and times both where that is asked for.
+fn run<R: Clock + Print>(rt: &R, alloc: Global, case: &Case, timed: bool) -> anyhow::Result<()> {
+    let small = sheet_of(alloc, case.reads, case.small)?;
+    tell(rt, alloc, case, &small, timed)
+}
+
+/// Writes the values of the smaller sheet, and the times of both where they are asked for.
+fn tell<R: Clock + Print>(
+    rt: &R,
+    alloc: Global,
+    case: &Case,
+    small: &Book,
+    timed: bool,
+) -> anyhow::Result<()> {
+    print_values(rt, alloc, case, small)?;
+    if timed {
+        time_case(rt, alloc, case, small)?;
     }
     Ok(())
 }
@@ -72,7 +89,18 @@ fn time_case<R: Clock + Print>(
     small: &Book,
 ) -> anyhow::Result<()> {
     let large = sheet_of(alloc, case.reads, case.large)?;
-    let times = time(rt, alloc, &formula_cells(case.reads), small, &large)?;
+    time_sheets(rt, alloc, case, small, &large)
+}
+
+/// Times the calculations of the two sheets.
+fn time_sheets<R: Clock + Print>(
+    rt: &R,
+    alloc: Global,
+    case: &Case,
+    small: &Book,
+    large: &Book,
+) -> anyhow::Result<()> {
+    let times = time(rt, alloc, &formula_cells(case.reads), small, large)?;
     print_times(rt, case, times)?;
     Ok(())
 }

@@ -41,13 +41,19 @@ pub fn formula_cell(reads: Reads, index: u32) -> (u32, u32) {
 /// A spreadsheet of one sheet that has ones in its first column, and in its second formulas that read so; or in rows.
 pub fn sheet_of(alloc: Global, reads: Reads, size: Size) -> Result<Book, RuleOr> {
     let mut book = empty(alloc, reads, size.formulas.max(size.numbers))?;
-    let (start, one_cell) = resolve(alloc, &book, "A1")?;
+    fill(alloc, &mut book, reads, size)?;
+    Ok(book)
+}
+
+/// Writes the ones and the formulas.
+fn fill(alloc: Global, book: &mut Book, reads: Reads, size: Size) -> Result<(), RuleOr> {
     let block = Block {
         columns_first: !reads.in_row(),
         values: lines(alloc, reads, size)?,
     };
-    write_values(alloc, &mut book, "owner", &start, one_cell, &block)?;
-    Ok(book)
+    let (start, one_cell) = resolve(alloc, book, "A1")?;
+    write_values(alloc, book, "owner", &start, one_cell, &block)?;
+    Ok(())
 }
 
 /// A spreadsheet of one sheet of two columns that are so long, or rows, with nothing in it.
