@@ -1,8 +1,9 @@
-use crate::common::{Written, check, number_at, opening, write};
-use cell_value::{Duplicate, NoMemory};
+use crate::common::{Written, changed, check, number_at, opening, write};
+use cell_value::NoMemory;
 use dimension_ops::{Book, World};
 use grid_range::{Area, Band};
 use std::alloc::Global;
+use std::process::Abort;
 
 /// Writes one after another into an empty sheet, each by its row, its column and what is written, and then
 /// how many cells are stored and how many hold a formula.
@@ -20,12 +21,17 @@ static COUNTED: [(u32, u32, Written, u64, u64); 9] = [
 
 #[test]
 fn cells_and_formulas_are_counted(rt: HostRuntime) {
-    let Some(mut book) = opening(rt.alloc()) else {
-        return check(&rt, &"memory", false);
-    };
+    match opening(rt.alloc()) {
+        Some(mut book) => check_counts(&rt, rt.alloc(), &mut book),
+        None => check(&rt, &"memory", false),
+    }
+}
+
+/// Stops where the cells of the empty sheet aren't counted so.
+fn check_counts(rt: &impl Abort, alloc: Global, book: &mut Book) {
     for row in &COUNTED {
-        check(&rt, row, write(&mut book, rt.alloc(), row.0, row.1, row.2));
-        check(&rt, row, book.filled() == row.3 && book.formulas() == row.4);
+        check(rt, row, write(book, alloc, row.0, row.1, row.2));
+        check(rt, row, book.filled() == row.3 && book.formulas() == row.4);
     }
 }
 
@@ -49,23 +55,28 @@ static AREAS: [(Band, Band, &[(u32, u32)]); 7] = [
 
 #[test]
 fn the_filled_places_of_an_area_are_listed(rt: HostRuntime) {
-    let Some(mut book) = opening(rt.alloc()) else {
-        return check(&rt, &"memory", false);
-    };
+    match opening(rt.alloc()) {
+        Some(mut book) => check_places(&rt, rt.alloc(), &mut book),
+        None => check(&rt, &"memory", false),
+    }
+}
+
+/// Stops where the empty sheet isn't filled, or its filled places aren't listed then.
+fn check_places(rt: &impl Abort, alloc: Global, book: &mut Book) {
     for row in &FILLED {
         check(
-            &rt,
+            rt,
             row,
-            write(&mut book, rt.alloc(), row.0, row.1, Written::Number(7)),
+            write(book, alloc, row.0, row.1, Written::Number(7)),
         );
     }
     for row in &AREAS {
-        check(&rt, row, are_places(&book, 0, row.0, row.1, row.2));
+        check(rt, row, are_places(book, 0, row.0, row.1, row.2));
     }
     check(
-        &rt,
+        rt,
         &"another sheet",
-        are_places(&book, 1, Band::Whole, Band::Whole, &[]),
+        are_places(book, 1, Band::Whole, Band::Whole, &[]),
     );
 }
 
@@ -80,11 +91,15 @@ fn are_places(book: &Book, sheet: u32, rows: Band, cols: Band, places: &[(u32, u
 /// Puts a number into the last cell of the first spreadsheet's copy, and gives what both hold there.
 fn written(alloc: Global) -> Result<(Option<i64>, Option<i64>), NoMemory> {
     let world = World::opening(alloc)?;
-    let Some(book) = world.at(0) else {
-        return Ok((Some(0), None));
-    };
-    let mut copy = book.duplicate()?;
-    write(&mut copy, alloc, 999, 25, Written::Number(7));
+    match world.at(0) {
+        Some(book) => written_in_copy(alloc, book),
+        None => Ok((Some(0), None)),
+    }
+}
+
+/// The same where the spreadsheet is given.
+fn written_in_copy(alloc: Global, book: &Book) -> Result<(Option<i64>, Option<i64>), NoMemory> {
+    let copy = changed(alloc, book, 999, 25)?;
     Ok((number_at(book, 999, 25), number_at(&copy, 999, 25)))
 }
 
@@ -98,24 +113,17 @@ fn a_write_shows_in_the_copy_alone(rt: HostRuntime) {
 
 #[test]
 fn a_write_leaves_other_places(rt: HostRuntime) {
-    let Some(mut book) = opening(rt.alloc()) else {
-        return check(&rt, &"memory", false);
-    };
-    check(
-        &rt,
-        &"A2",
-        write(&mut book, rt.alloc(), 1, 0, Written::Number(2)),
-    );
-    check(
-        &rt,
-        &"B1",
-        write(&mut book, rt.alloc(), 0, 1, Written::Number(3)),
-    );
-    check(
-        &rt,
-        &"B1",
-        write(&mut book, rt.alloc(), 0, 1, Written::Nothing),
-    );
-    check(&rt, &"A2", number_at(&book, 1, 0) == Some(2));
-    check(&rt, &"B1", number_at(&book, 0, 1).is_none());
+    match opening(rt.alloc()) {
+        Some(mut book) => check_others(&rt, rt.alloc(), &mut book),
+        None => check(&rt, &"memory", false),
+    }
+}
+
+/// Stops where a place of the empty sheet isn't written, or another one changes then.
+fn check_others(rt: &impl Abort, alloc: Global, book: &mut Book) {
+    check(rt, &"A2", write(book, alloc, 1, 0, Written::Number(2)));
+    check(rt, &"B1", write(book, alloc, 0, 1, Written::Number(3)));
+    check(rt, &"B1", write(book, alloc, 0, 1, Written::Nothing));
+    check(rt, &"A2", number_at(book, 1, 0) == Some(2));
+    check(rt, &"B1", number_at(book, 0, 1).is_none());
 }

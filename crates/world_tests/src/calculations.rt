@@ -74,27 +74,24 @@ fn walks_without_an_end_are_no_values(rt: HostRuntime) {
 
 /// Whether the formulas show that, where all of them are asked for, and where each is, the last one first.
 fn is_calculated(alloc: Global, column: Column) -> bool {
-    match opened_with(alloc, column) {
-        Some(book) => {
-            is_shown(alloc, whole(alloc, &book), column)
-                && is_shown(alloc, backwards(alloc, &book, length(column)), column)
-        }
+    match opening(alloc) {
+        Some(mut book) => is_calculated_in(alloc, &mut book, column),
         None => false,
     }
 }
 
-/// The spreadsheet of the beginning with these formulas, or None where memory runs out.
-fn opened_with(alloc: Global, column: Column) -> Option<Book> {
-    let mut book = opening(alloc)?;
+/// The same in an empty sheet, to which they are written.
+fn is_calculated_in(alloc: Global, book: &mut Book, column: Column) -> bool {
+    is_written(alloc, book, column)
+        && is_shown(alloc, whole(alloc, book), column)
+        && is_shown(alloc, backwards(alloc, book, length(column)), column)
+}
+
+/// Writes the formulas from A1 down. False where a rule is broken, or memory runs out.
+fn is_written(alloc: Global, book: &mut Book, column: Column) -> bool {
     match inputs(alloc, column) {
-        Ok(inputs) => {
-            if is_written(alloc, &mut book, inputs) {
-                Some(book)
-            } else {
-                None
-            }
-        }
-        Err(_) => None,
+        Ok(inputs) => write_down(alloc, book, "A1", inputs).is_ok(),
+        Err(_) => false,
     }
 }
 
@@ -108,14 +105,6 @@ fn inputs(alloc: Global, column: Column) -> Result<Vec<Input>, NoMemory> {
 
 fn formula(alloc: Global, text: &str) -> Result<Input, NoMemory> {
     Ok(Input::FormulaText(Text::of(String::from_str(alloc, text)?)))
-}
-
-/// Writes from A1 down. False where a rule is broken, or memory runs out.
-fn is_written(alloc: Global, book: &mut Book, inputs: Vec<Input>) -> bool {
-    match write_down(alloc, book, "A1", inputs) {
-        Ok(()) => true,
-        Err(_) => false,
-    }
 }
 
 /// Writes from a cell down.
@@ -210,20 +199,22 @@ fn walks_go_from_sheet_to_sheet(rt: HostRuntime) {
     check(&rt, &ACROSS, is_calculated_across(rt.alloc()));
 }
 
+/// Whether the formulas of both sheets show that.
 fn is_calculated_across(alloc: Global) -> bool {
-    match written_across(alloc) {
-        Ok(book) => is_shown_across(alloc, &book, whole(alloc, &book)),
-        Err(_) => false,
-    }
+    made(alloc, 2, 2).is_ok_and(|mut book| is_calculated_over(alloc, &mut book))
 }
 
-/// A spreadsheet of two sheets with these formulas.
-fn written_across(alloc: Global) -> Result<Book, RuleOr> {
-    let mut book = made(alloc, 2, 2)?;
+/// The same in a spreadsheet of two empty sheets, to which they are written.
+fn is_calculated_over(alloc: Global, book: &mut Book) -> bool {
+    write_across(alloc, book).is_ok() && is_shown_across(alloc, book, whole(alloc, book))
+}
+
+/// Writes these formulas.
+fn write_across(alloc: Global, book: &mut Book) -> Result<(), RuleOr> {
     for cell in &ACROSS {
-        write_down(alloc, &mut book, cell.0, alone(alloc, cell.1)?)?;
+        write_down(alloc, book, cell.0, alone(alloc, cell.1)?)?;
     }
-    Ok(book)
+    Ok(())
 }
 
 /// One formula.
@@ -285,25 +276,29 @@ fn long_chains_have_values_and_long_cycles_none(rt: HostRuntime) {
 
 /// Whether a long column has its values, where all of them are asked for, and where each is, the last one first.
 fn is_chain_calculated(alloc: Global, reads: Reads) -> bool {
-    match long(alloc, reads) {
-        Ok(book) => {
-            has_values(whole(alloc, &book), reads)
-                && has_values(backwards(alloc, &book, LONG), reads)
-        }
-        Err(_) => false,
-    }
+    made(alloc, 1, LONG).is_ok_and(|mut book| is_chain_calculated_in(alloc, &mut book, reads))
 }
 
-/// A spreadsheet with a long column.
-fn long(alloc: Global, reads: Reads) -> Result<Book, RuleOr> {
-    let mut book = made(alloc, 1, LONG)?;
-    write_down(alloc, &mut book, "A1", chain(alloc, reads)?)?;
-    Ok(book)
+/// The same in an empty sheet, to which it is written.
+fn is_chain_calculated_in(alloc: Global, book: &mut Book, reads: Reads) -> bool {
+    write_long(alloc, book, reads).is_ok()
+        && has_values(whole(alloc, book), reads)
+        && has_values(backwards(alloc, book, LONG), reads)
+}
+
+/// Writes a long column.
+fn write_long(alloc: Global, book: &mut Book, reads: Reads) -> Result<(), RuleOr> {
+    write_down(alloc, book, "A1", chain(alloc, reads)?)
 }
 
 /// A spreadsheet of so many sheets with as many rows each and two columns, with nothing in it.
 fn made(alloc: Global, sheets: u32, rows: u32) -> Result<Book, RuleOr> {
     let mut world = World::opening(alloc)?;
+    made_in(alloc, &mut world, sheets, rows)
+}
+
+/// The same, made in the world.
+fn made_in(alloc: Global, world: &mut World, sheets: u32, rows: u32) -> Result<Book, RuleOr> {
     let id = world.add_book("owner", "Calculated", &asked(alloc, sheets, rows)?)?;
     match world.find(id.as_str()) {
         Some(book) => Ok(book.duplicate()?),

@@ -2,7 +2,7 @@ ghost use Rattle.std.specs.Prelude.{List, IfSome};
 ghost use Rattle.world_model.specs.Sheet.{PlaceSheet};
 ghost use Rattle.world_model.specs.Sound.{IsContentWithin};
 
-use cell_value::{Duplicate, Items, Text};
+use cell_value::{Duplicate, Items, NoMemory, Text};
 use dimension_ops::{Book, World};
 use ref_rewrite::{Content, Formula};
 use std::alloc::Global;
@@ -71,6 +71,13 @@ pub(crate) fn write(
         return false;
     }
     book.put(0, row, column, content(alloc, written)).is_ok()
+}
+
+/// A copy of the spreadsheet that has the number 7 at the place of the sheet 0.
+pub(crate) fn changed(alloc: Global, book: &Book, row: u32, column: u32) -> Result<Book, NoMemory> {
+    let mut copy = book.duplicate()?;
+    write(&mut copy, alloc, row, column, Written::Number(7));
+    Ok(copy)
 }
 
 /// The number at the place of the sheet 0.

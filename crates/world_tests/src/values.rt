@@ -6,6 +6,7 @@ use cell_value::{Cell, Items, NoMemory, Render};
 use dimension_ops::Book;
 use grid_range::Area;
 use std::alloc::Global;
+use std::process::Abort;
 use values_api::{calculate_shown, clear_values, read_values, resolve};
 
 /// What a cell shows.
@@ -101,7 +102,7 @@ static READS: [Read; 8] = [
     },
 ];
 
-/// What stands in the sheet that is read.
+/// What is written to the sheet that is read.
 static STORED: [(u32, u32, Written); 4] = [
     (0, 0, Written::Number(1)),
     (0, 1, Written::Text("x")),
@@ -109,15 +110,14 @@ static STORED: [(u32, u32, Written); 4] = [
     (3, 3, Written::Number(5)),
 ];
 
-/// That sheet in the spreadsheet of the beginning, or None where memory runs out.
-fn stored(alloc: Global) -> Option<Book> {
-    let mut book = opening(alloc)?;
+/// Writes that. False where memory runs out.
+fn store(alloc: Global, book: &mut Book) -> bool {
     for cell in &STORED {
-        if !write(&mut book, alloc, cell.0, cell.1, cell.2) {
-            return None;
+        if !write(book, alloc, cell.0, cell.1, cell.2) {
+            return false;
         }
     }
-    Some(book)
+    true
 }
 
 /// Whether the range is read so.
@@ -176,11 +176,17 @@ fn is_cell(cell: &Cell, wanted: &Shown) -> bool {
 
 #[test]
 fn areas_are_read(rt: HostRuntime) {
-    let Some(book) = stored(rt.alloc()) else {
-        return check(&rt, &"memory", false);
-    };
+    match opening(rt.alloc()) {
+        Some(mut book) => check_reads(&rt, rt.alloc(), &mut book),
+        None => check(&rt, &"memory", false),
+    }
+}
+
+/// Stops where the empty sheet isn't written to, or an area of it isn't read so then.
+fn check_reads(rt: &impl Abort, alloc: Global, book: &mut Book) {
+    check(rt, &"memory", store(alloc, book));
     for read in &READS {
-        check(&rt, &read.range, is_read(rt.alloc(), &book, read));
+        check(rt, &read.range, is_read(alloc, book, read));
     }
 }
 
@@ -203,11 +209,17 @@ fn clear(alloc: Global, book: &mut Book, range: &str) -> bool {
 
 #[test]
 fn areas_are_cleared(rt: HostRuntime) {
-    let Some(mut book) = stored(rt.alloc()) else {
-        return check(&rt, &"memory", false);
-    };
+    match opening(rt.alloc()) {
+        Some(mut book) => check_clears(&rt, rt.alloc(), &mut book),
+        None => check(&rt, &"memory", false),
+    }
+}
+
+/// Stops where the empty sheet isn't written to, or an area of it isn't cleared then.
+fn check_clears(rt: &impl Abort, alloc: Global, book: &mut Book) {
+    check(rt, &"memory", store(alloc, book));
     for row in &CLEARED {
-        check(&rt, row, clear(rt.alloc(), &mut book, row.0));
-        check(&rt, row, book.filled() == row.1);
+        check(rt, row, clear(alloc, book, row.0));
+        check(rt, row, book.filled() == row.1);
     }
 }

@@ -1,7 +1,8 @@
-use crate::common::{Written, check, number_at, write};
+use crate::common::{changed, check, number_at};
 use cell_value::{Duplicate, NoMemory};
-use dimension_ops::World;
+use dimension_ops::{Book, World};
 use std::alloc::Global;
+use std::process::Abort;
 
 /// Ids, and whether a spreadsheet of the beginning has it.
 static IDS: [(&str, bool); 5] = [
@@ -27,17 +28,25 @@ fn spreadsheets_are_found_by_their_ids(rt: HostRuntime) {
 /// A world, and a copy in which the spreadsheet was replaced by one that has a number in its first cell.
 fn replaced(alloc: Global) -> Result<(World, World), NoMemory> {
     let world = World::opening(alloc)?;
+    let copy = replaced_in(alloc, &world)?;
+    Ok((world, copy))
+}
+
+/// That copy of the world.
+fn replaced_in(alloc: Global, world: &World) -> Result<World, NoMemory> {
     let mut copy = world.duplicate()?;
     if let Some(book) = world.find("book1") {
-        let mut next = book.duplicate()?;
-        write(&mut next, alloc, 0, 0, Written::Number(7));
-        if copy.find(next.id().as_str()).is_some() {
-            if let Err(refused) = copy.replace(next) {
-                return Err(refused.1);
-            }
-        }
+        replace(&mut copy, changed(alloc, book, 0, 0)?)?;
     }
-    Ok((world, copy))
+    Ok(copy)
+}
+
+/// Puts the spreadsheet in the place of the one that has its id, where there is one.
+fn replace(world: &mut World, book: Book) -> Result<(), NoMemory> {
+    if world.find(book.id().as_str()).is_none() {
+        return Ok(());
+    }
+    world.replace(book).map_err(|refused| refused.1)
 }
 
 /// The number in the first cell of the spreadsheet `book1`.
@@ -51,13 +60,16 @@ fn first_number(world: &World) -> Option<i64> {
 #[test]
 fn a_replaced_spreadsheet_shows_in_its_world_alone(rt: HostRuntime) {
     match replaced(rt.alloc()) {
-        Ok(worlds) => {
-            check(&rt, &"before", first_number(&worlds.0).is_none());
-            check(&rt, &"before", worlds.0.filled() == 0);
-            check(&rt, &"after", first_number(&worlds.1) == Some(7));
-            check(&rt, &"after", worlds.1.filled() == 1);
-            check(&rt, &"after", worlds.1.at(1).is_none());
-        }
+        Ok(worlds) => check_replaced(&rt, &worlds.0, &worlds.1),
         Err(_) => check(&rt, &"memory", false),
     }
+}
+
+/// Stops where the spreadsheet isn't as it was in the world, or isn't replaced in the copy.
+fn check_replaced(rt: &impl Abort, world: &World, copy: &World) {
+    check(rt, &"before", first_number(world).is_none());
+    check(rt, &"before", world.filled() == 0);
+    check(rt, &"after", first_number(copy) == Some(7));
+    check(rt, &"after", copy.filled() == 1);
+    check(rt, &"after", copy.at(1).is_none());
 }

@@ -4,6 +4,7 @@ use cell_value::{Block, Input, Items, Render, Text};
 use dimension_ops::{Book, Limit, Rule, RuleOr};
 use grid_range::Area;
 use std::alloc::Global;
+use std::process::Abort;
 use values_api::{WrittenCells, range_text, resolve, write_values};
 
 /// A value that is entered.
@@ -216,6 +217,21 @@ fn block_of(alloc: Global, columns_first: bool, lines: &[&[Entered]]) -> Option<
     })
 }
 
+/// Whether the write of these values to the range gives that answer.
+fn are_written(
+    alloc: Global,
+    book: &mut Book,
+    range: &str,
+    columns_first: bool,
+    values: &[&[Entered]],
+    told: Told,
+) -> bool {
+    match block_of(alloc, columns_first, values) {
+        Some(block) => is_written(alloc, book, range, &block, told),
+        None => false,
+    }
+}
+
 /// Whether the write to the range gives that answer.
 fn is_written(alloc: Global, book: &mut Book, range: &str, block: &Block, told: Told) -> bool {
     match resolve(alloc, book, range) {
@@ -263,39 +279,38 @@ fn is_shown(alloc: Global, book: &Book, shown: &[&[Shown]]) -> bool {
     }
 }
 
-/// The sheet that is written to, or None where memory runs out.
-fn before(alloc: Global) -> Option<Book> {
-    let mut book = opening(alloc)?;
-    let block = block_of(alloc, false, &BEFORE)?;
-    if is_written(
-        alloc,
-        &mut book,
-        "A1",
-        &block,
-        Ok(("Sheet1!A1:B1", 1, 2, 2)),
-    ) {
-        Some(book)
-    } else {
-        None
-    }
+/// Whether the empty sheet is made the one that is written to.
+fn is_prepared(alloc: Global, book: &mut Book) -> bool {
+    let told = Ok(("Sheet1!A1:B1", 1, 2, 2));
+    are_written(alloc, book, "A1", false, &BEFORE, told)
 }
 
 #[test]
 fn values_are_written(rt: HostRuntime) {
     for write in &WRITES {
-        let Some(mut book) = before(rt.alloc()) else {
-            return check(&rt, &"memory", false);
-        };
-        let Some(block) = block_of(rt.alloc(), write.columns_first, write.values) else {
-            return check(&rt, &"memory", false);
-        };
-        check(
-            &rt,
-            &write.range,
-            is_written(rt.alloc(), &mut book, write.range, &block, write.told),
-        );
-        check(&rt, &write.range, is_shown(rt.alloc(), &book, write.shown));
+        match opening(rt.alloc()) {
+            Some(mut book) => check_write(&rt, rt.alloc(), &mut book, write),
+            None => check(&rt, &"memory", false),
+        }
     }
+}
+
+/// Stops where the write doesn't give its answer, or its values aren't shown then.
+fn check_write(rt: &impl Abort, alloc: Global, book: &mut Book, write: &Write) {
+    check(rt, &"memory", is_prepared(alloc, book));
+    check(
+        rt,
+        &write.range,
+        are_written(
+            alloc,
+            book,
+            write.range,
+            write.columns_first,
+            write.values,
+            write.told,
+        ),
+    );
+    check(rt, &write.range, is_shown(alloc, book, write.shown));
 }
 
 /// A row of 25 formulas.
@@ -318,28 +333,13 @@ fn formulas_of(alloc: Global, rows: usize) -> Option<Block> {
     })
 }
 
-/// The first sheet with 800 rows of 25 formulas, or None where memory runs out.
-fn full_of_formulas(alloc: Global) -> Option<Book> {
-    let mut book = opening(alloc)?;
-    let block = formulas_of(alloc, 800)?;
-    let told = Ok(("Sheet1!A1:Y800", 800, 25, 20_000));
-    if is_written(alloc, &mut book, "A1", &block, told) {
-        Some(book)
-    } else {
-        None
-    }
-}
-
-/// Whether the value of one cell is written with that answer.
-fn is_one_written(
-    alloc: Global,
-    book: &mut Book,
-    range: &str,
-    value: &'static [Entered],
-    told: Told,
-) -> bool {
-    match block_of(alloc, false, &[value]) {
-        Some(block) => is_written(alloc, book, range, &block, told),
+/// Whether 800 rows of 25 formulas are written to the empty sheet.
+fn is_filled(alloc: Global, book: &mut Book) -> bool {
+    match formulas_of(alloc, 800) {
+        Some(block) => {
+            let told = Ok(("Sheet1!A1:Y800", 800, 25, 20_000));
+            is_written(alloc, book, "A1", &block, told)
+        }
         None => false,
     }
 }
@@ -357,14 +357,20 @@ static AT_THE_LIMIT: [(&str, &[Entered], Told); 3] = [
 
 #[test]
 fn a_spreadsheet_has_so_many_formulas(rt: HostRuntime) {
-    let Some(mut book) = full_of_formulas(rt.alloc()) else {
-        return check(&rt, &"memory", false);
-    };
+    match opening(rt.alloc()) {
+        Some(mut book) => check_at_the_limit(&rt, rt.alloc(), &mut book),
+        None => check(&rt, &"memory", false),
+    }
+}
+
+/// Stops where the empty sheet isn't filled with formulas, or a write to it doesn't give its answer then.
+fn check_at_the_limit(rt: &impl Abort, alloc: Global, book: &mut Book) {
+    check(rt, &"memory", is_filled(alloc, book));
     for row in &AT_THE_LIMIT {
         check(
-            &rt,
+            rt,
             &row.0,
-            is_one_written(rt.alloc(), &mut book, row.0, row.1, row.2),
+            are_written(alloc, book, row.0, false, &[row.1], row.2),
         );
     }
 }
