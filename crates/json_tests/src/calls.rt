@@ -15,7 +15,11 @@ pub(crate) fn is_call(alloc: Global, method: &str, target: &str, body: &str, wan
 pub(crate) fn is_write(alloc: Global, target: &str, body: &str) -> bool {
     match route(alloc, "PUT", target) {
         Ok(route) => match read_call(alloc, &route, body.as_bytes()) {
-            Ok(call) => has_values(&call),
+            Ok(call) => {
+                let holds = has_values(&call);
+                drop(call);
+                holds
+            }
             Err(_) => false,
         },
         Err(_) => false,
@@ -34,7 +38,10 @@ fn has_values(call: &Call) -> bool {
 fn add_request(line: &mut Line, alloc: Global, method: &str, target: &str, body: &str) {
     match route(alloc, method, target) {
         Ok(route) => match read_call(alloc, &route, body.as_bytes()) {
-            Ok(call) => add_call(line, &call),
+            Ok(call) => {
+                add_call(line, &call);
+                drop(call);
+            }
             Err(fault) => line.value(&fault),
         },
         Err(fault) => line.value(&fault),

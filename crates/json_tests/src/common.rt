@@ -1,5 +1,5 @@
-use cell_value::Text;
-use sheets_json::{Answer, answer_text};
+use cell_value::{Items, Text};
+use sheets_json::{Answer, Reply, answer_text};
 use std::alloc::Global;
 use std::fmt::Debug;
 use std::process::Abort;
@@ -64,8 +64,31 @@ pub(crate) fn text(alloc: Global, text: &str) -> Text {
     })
 }
 
+/// A list of things; of none where memory runs out.
+pub(crate) fn list<T: Drop, const N: usize>(alloc: Global, things: [T; N]) -> Items<T> {
+    Items::of(match Vec::from_array(alloc, things) {
+        Ok(things) => things,
+        Err(_) => Vec::new(alloc),
+    })
+}
+
+/// The answer to a batch on the spreadsheet `book1`.
+pub(crate) fn batch(alloc: Global, replies: Items<Reply>) -> Answer {
+    Answer::Batch {
+        replies,
+        spreadsheet_id: text(alloc, "book1"),
+    }
+}
+
+/// Stops where an answer doesn't have that text.
+pub(crate) fn shows(rt: &impl Abort, alloc: Global, answer: Answer, wanted: &str) {
+    let holds = is_answer(alloc, &answer, wanted);
+    drop(answer);
+    check(rt, &wanted, holds);
+}
+
 /// Whether an answer has that text.
-pub(crate) fn is_answer(alloc: Global, answer: &Answer, wanted: &str) -> bool {
+fn is_answer(alloc: Global, answer: &Answer, wanted: &str) -> bool {
     match answer_text(alloc, answer) {
         Ok(text) => text.as_slice() == wanted.as_bytes(),
         Err(_) => false,

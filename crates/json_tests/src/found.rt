@@ -1,4 +1,4 @@
-use crate::common::{check, is_answer, text};
+use crate::common::{batch, list, shows, text};
 use cell_value::Items;
 use dev_metadata::{Item, Spot, SpotKind, Visibility, VisibilityKind};
 use grid_range::{Area, Axis, Band};
@@ -50,13 +50,6 @@ fn whole(alloc: Global) -> MetadataLookup {
     }
 }
 
-/// A list of one thing; of none where memory runs out.
-fn alone<T: Drop>(alloc: Global, thing: T) -> Items<T> {
-    let mut things = Vec::new(alloc);
-    let _ = things.push(thing);
-    Items::of(things)
-}
-
 /// Places of items that everybody sees, and their texts.
 static PLACES: [(Spot, &str); 5] = [
     (
@@ -81,16 +74,15 @@ static PLACES: [(Spot, &str); 5] = [
     ),
 ];
 
-/// Whether an item at a place that everybody sees has that text.
-fn is_item(alloc: Global, spot: Spot, wanted: &str) -> bool {
-    let answer = Answer::Item(item(alloc, "", spot, Visibility::Document));
-    is_answer(alloc, &answer, wanted)
+/// The answer with an item at a place that everybody sees.
+fn of_all(alloc: Global, spot: Spot) -> Answer {
+    Answer::Item(item(alloc, "", spot, Visibility::Document))
 }
 
 #[test]
 fn items_are_answered(rt: HostRuntime) {
     for row in &PLACES {
-        check(&rt, row, is_item(rt.alloc(), row.0, row.1));
+        shows(&rt, rt.alloc(), of_all(rt.alloc(), row.0), row.1);
     }
 }
 
@@ -105,8 +97,7 @@ fn items_of_projects_are_answered(rt: HostRuntime) {
     let alloc = rt.alloc();
     let wanted =
         "{\"location\":{\"locationType\":\"SHEET\",\"sheetId\":2},\"metadataId\":1,\"metadataKey\":\"k\",\"metadataValue\":\"v\",\"visibility\":\"PROJECT\"}";
-    let answer = Answer::Item(of_project(alloc));
-    check(&rt, &wanted, is_answer(alloc, &answer, wanted));
+    shows(&rt, alloc, Answer::Item(of_project(alloc)), wanted);
 }
 
 /// The answer to a search.
@@ -119,26 +110,27 @@ fn search(found: Option<Items<MatchedMetadata>>) -> Answer {
 #[test]
 fn empty_searches_are_answered(rt: HostRuntime) {
     let alloc = rt.alloc();
-    check(&rt, &"absent", is_answer(alloc, &search(None), "{}"));
-    let none = Some(Items::of(Vec::new(alloc)));
-    let wanted = "{\"matchedDeveloperMetadata\":[]}";
-    check(&rt, &wanted, is_answer(alloc, &search(none), wanted));
+    shows(&rt, alloc, search(None), "{}");
+    let none = search(Some(list(alloc, [])));
+    shows(&rt, alloc, none, "{\"matchedDeveloperMetadata\":[]}");
+}
+
+/// The item of a project, found by a look-up that asks for all.
+fn matched(alloc: Global) -> MatchedMetadata {
+    let filter = DataFilter::DeveloperMetadataLookup(whole(alloc));
+    MatchedMetadata {
+        data_filters: list(alloc, [filter]),
+        developer_metadata: of_project(alloc),
+    }
 }
 
 #[test]
 fn searches_are_answered(rt: HostRuntime) {
     let alloc = rt.alloc();
-    let filter = DataFilter::DeveloperMetadataLookup(whole(alloc));
-    let found = alone(
-        alloc,
-        MatchedMetadata {
-            data_filters: alone(alloc, filter),
-            developer_metadata: of_project(alloc),
-        },
-    );
+    let found = list(alloc, [matched(alloc)]);
     let wanted =
         "{\"matchedDeveloperMetadata\":[{\"dataFilters\":[{\"developerMetadataLookup\":{\"locationMatchingStrategy\":\"EXACT_LOCATION\",\"locationType\":\"SHEET\",\"metadataId\":5,\"metadataKey\":\"k\",\"metadataLocation\":{\"dimensionRange\":{\"dimension\":\"COLUMNS\",\"sheetId\":2,\"startIndex\":3}},\"metadataValue\":\"\",\"visibility\":\"PROJECT\"}}],\"developerMetadata\":{\"location\":{\"locationType\":\"SHEET\",\"sheetId\":2},\"metadataId\":1,\"metadataKey\":\"k\",\"metadataValue\":\"v\",\"visibility\":\"PROJECT\"}}]}";
-    check(&rt, &wanted, is_answer(alloc, &search(Some(found)), wanted));
+    shows(&rt, alloc, search(Some(found)), wanted);
 }
 
 /// The answer to a read of what a filter finds: one cell that shows nothing.
@@ -149,26 +141,34 @@ fn filtered(alloc: Global, filter: DataFilter) -> Answer {
         values: None,
     };
     let matched = MatchedRange {
-        data_filters: alone(alloc, filter),
+        data_filters: list(alloc, [filter]),
         value_range: shown,
     };
     Answer::ReadFiltered {
         spreadsheet_id: text(alloc, "book1"),
-        value_ranges: alone(alloc, matched),
+        value_ranges: list(alloc, [matched]),
     }
 }
 
 #[test]
 fn reads_by_filters_are_answered(rt: HostRuntime) {
     let alloc = rt.alloc();
-    let answer = filtered(alloc, DataFilter::A1Range(text(alloc, "A1")));
+    let filter = DataFilter::A1Range(text(alloc, "A1"));
     let wanted =
         "{\"spreadsheetId\":\"book1\",\"valueRanges\":[{\"dataFilters\":[{\"a1Range\":\"A1\"}],\"valueRange\":{\"majorDimension\":\"ROWS\",\"range\":\"Sheet1!A1\"}}]}";
-    check(&rt, &wanted, is_answer(alloc, &answer, wanted));
-    let answer = filtered(alloc, DataFilter::DeveloperMetadataLookup(any()));
+    shows(&rt, alloc, filtered(alloc, filter), wanted);
+    let filter = DataFilter::DeveloperMetadataLookup(any());
     let wanted =
         "{\"spreadsheetId\":\"book1\",\"valueRanges\":[{\"dataFilters\":[{\"developerMetadataLookup\":{}}],\"valueRange\":{\"majorDimension\":\"ROWS\",\"range\":\"Sheet1!A1\"}}]}";
-    check(&rt, &wanted, is_answer(alloc, &answer, wanted));
+    shows(&rt, alloc, filtered(alloc, filter), wanted);
+}
+
+/// The answer to a read of what filters find where they find none.
+fn unfound(alloc: Global) -> Answer {
+    Answer::ReadFiltered {
+        spreadsheet_id: text(alloc, "book1"),
+        value_ranges: list(alloc, []),
+    }
 }
 
 #[test]
@@ -179,41 +179,44 @@ fn reads_of_areas_are_answered(rt: HostRuntime) {
         rows: Band::From(2),
         cols: Band::Span(0, 3),
     };
-    let answer = filtered(alloc, DataFilter::GridRange(area));
+    let filter = DataFilter::GridRange(area);
     let wanted =
         "{\"spreadsheetId\":\"book1\",\"valueRanges\":[{\"dataFilters\":[{\"gridRange\":{\"endColumnIndex\":3,\"sheetId\":0,\"startColumnIndex\":0,\"startRowIndex\":2}}],\"valueRange\":{\"majorDimension\":\"ROWS\",\"range\":\"Sheet1!A1\"}}]}";
-    check(&rt, &wanted, is_answer(alloc, &answer, wanted));
-    let none = Answer::ReadFiltered {
-        spreadsheet_id: text(alloc, "book1"),
-        value_ranges: Items::of(Vec::new(alloc)),
-    };
+    shows(&rt, alloc, filtered(alloc, filter), wanted);
     let wanted = "{\"spreadsheetId\":\"book1\",\"valueRanges\":[]}";
-    check(&rt, &wanted, is_answer(alloc, &none, wanted));
+    shows(&rt, alloc, unfound(alloc), wanted);
+}
+
+/// The reply to a request for the item of a project.
+fn created(alloc: Global) -> Reply {
+    Reply::CreateDeveloperMetadata {
+        developer_metadata: of_project(alloc),
+    }
+}
+
+/// The reply to a change of no item.
+fn updated(alloc: Global) -> Reply {
+    Reply::UpdateDeveloperMetadata {
+        developer_metadata: list(alloc, []),
+    }
+}
+
+/// The reply to a removal of the item of a project.
+fn deleted(alloc: Global) -> Reply {
+    Reply::DeleteDeveloperMetadata {
+        deleted_developer_metadata: list(alloc, [of_project(alloc)]),
+    }
 }
 
 /// The replies of a batch of requests for metadata.
 fn replies(alloc: Global) -> Items<Reply> {
-    let mut replies = Vec::new(alloc);
-    let _ = replies.push(Reply::CreateDeveloperMetadata {
-        developer_metadata: of_project(alloc),
-    });
-    let _ = replies.push(Reply::UpdateDeveloperMetadata {
-        developer_metadata: Items::of(Vec::new(alloc)),
-    });
-    let _ = replies.push(Reply::DeleteDeveloperMetadata {
-        deleted_developer_metadata: alone(alloc, of_project(alloc)),
-    });
-    Items::of(replies)
+    list(alloc, [created(alloc), updated(alloc), deleted(alloc)])
 }
 
 #[test]
 fn requests_for_metadata_are_answered(rt: HostRuntime) {
     let alloc = rt.alloc();
-    let answer = Answer::Batch {
-        replies: replies(alloc),
-        spreadsheet_id: text(alloc, "book1"),
-    };
     let wanted =
         "{\"replies\":[{\"createDeveloperMetadata\":{\"developerMetadata\":{\"location\":{\"locationType\":\"SHEET\",\"sheetId\":2},\"metadataId\":1,\"metadataKey\":\"k\",\"metadataValue\":\"v\",\"visibility\":\"PROJECT\"}}},{\"updateDeveloperMetadata\":{\"developerMetadata\":[]}},{\"deleteDeveloperMetadata\":{\"deletedDeveloperMetadata\":[{\"location\":{\"locationType\":\"SHEET\",\"sheetId\":2},\"metadataId\":1,\"metadataKey\":\"k\",\"metadataValue\":\"v\",\"visibility\":\"PROJECT\"}]}}],\"spreadsheetId\":\"book1\"}";
-    check(&rt, &wanted, is_answer(alloc, &answer, wanted));
+    shows(&rt, alloc, batch(alloc, replies(alloc)), wanted);
 }

@@ -1,4 +1,4 @@
-use crate::common::{check, is_answer, text};
+use crate::common::{batch, list, shows, text};
 use basic_filter::{Condition, Criterion, Filter};
 use cell_value::{Items, Text};
 use grid_range::{Area, Band};
@@ -19,14 +19,13 @@ const CELL: Area = Area {
     cols: Band::Span(1, 2),
 };
 
-/// The spreadsheet `book1` with a sheet of one cell that has this filter and these protected ranges.
-fn shown(
+/// A sheet of one cell that has this filter and these protected ranges.
+fn sheet(
     alloc: Global,
     filter: Option<Filter>,
     protected: Option<Items<ShownProtection>>,
-) -> Answer {
-    let mut sheets = Vec::new(alloc);
-    let _ = sheets.push(ShownSheet {
+) -> ShownSheet {
+    ShownSheet {
         basic_filter: filter,
         data: None,
         merges: None,
@@ -39,11 +38,15 @@ fn shown(
             title: text(alloc, "x"),
         },
         protected_ranges: protected,
-    });
+    }
+}
+
+/// The spreadsheet `book1` with this sheet.
+fn shown(alloc: Global, sheet: ShownSheet) -> Answer {
     Answer::Get(Spreadsheet {
         named_ranges: None,
         title: text(alloc, "t"),
-        sheets: Items::of(sheets),
+        sheets: list(alloc, [sheet]),
         spreadsheet_id: text(alloc, "book1"),
     })
 }
@@ -58,10 +61,10 @@ fn texts(alloc: Global, given: &[&str]) -> Items<Text> {
 }
 
 /// A filter of a sheet with these criteria.
-fn filter(criteria: Vec<Criterion>) -> Filter {
+fn filter(criteria: Items<Criterion>) -> Filter {
     Filter {
         area: SHEET,
-        criteria: Items::of(criteria),
+        criteria,
     }
 }
 
@@ -74,43 +77,44 @@ fn asks(alloc: Global, column: u32, condition: Condition) -> Criterion {
     }
 }
 
-/// Criteria of the columns 2, 10 and 1, in this order.
-fn criteria(alloc: Global) -> Vec<Criterion> {
-    let mut criteria = Vec::new(alloc);
-    let _ = criteria.push(Criterion {
+/// A criterion of the column 2 that only hides values.
+fn hides(alloc: Global) -> Criterion {
+    Criterion {
         column: 2,
         hidden: texts(alloc, &["x", ""]),
         condition: None,
-    });
-    let _ = criteria.push(asks(alloc, 10, Condition::Blank));
-    let _ = criteria.push(asks(alloc, 1, Condition::NumberBetween(-5, 10)));
-    criteria
+    }
+}
+
+/// Criteria of the columns 2, 10 and 1, in this order.
+fn criteria(alloc: Global) -> Items<Criterion> {
+    let blank = asks(alloc, 10, Condition::Blank);
+    let between = asks(alloc, 1, Condition::NumberBetween(-5, 10));
+    list(alloc, [hides(alloc), blank, between])
 }
 
 #[test]
 fn filters_are_shown(rt: HostRuntime) {
     let alloc = rt.alloc();
-    let bare = shown(alloc, Some(filter(Vec::new(alloc))), None);
+    let bare = sheet(alloc, Some(filter(list(alloc, []))), None);
     let wanted =
         "{\"properties\":{\"title\":\"t\"},\"sheets\":[{\"basicFilter\":{\"range\":{\"sheetId\":0}},\"properties\":{\"gridProperties\":{\"columnCount\":1,\"rowCount\":1},\"index\":0,\"sheetId\":0,\"sheetType\":\"GRID\",\"title\":\"x\"}}],\"spreadsheetId\":\"book1\"}";
-    check(&rt, &wanted, is_answer(alloc, &bare, wanted));
-    let full = shown(alloc, Some(filter(criteria(alloc))), None);
+    shows(&rt, alloc, shown(alloc, bare), wanted);
+    let full = sheet(alloc, Some(filter(criteria(alloc))), None);
     let wanted =
         "{\"properties\":{\"title\":\"t\"},\"sheets\":[{\"basicFilter\":{\"criteria\":{\"1\":{\"condition\":{\"type\":\"NUMBER_BETWEEN\",\"values\":[{\"userEnteredValue\":\"-5\"},{\"userEnteredValue\":\"10\"}]}},\"10\":{\"condition\":{\"type\":\"BLANK\"}},\"2\":{\"hiddenValues\":[\"x\",\"\"]}},\"range\":{\"sheetId\":0}},\"properties\":{\"gridProperties\":{\"columnCount\":1,\"rowCount\":1},\"index\":0,\"sheetId\":0,\"sheetType\":\"GRID\",\"title\":\"x\"}}],\"spreadsheetId\":\"book1\"}";
-    check(&rt, &wanted, is_answer(alloc, &full, wanted));
+    shows(&rt, alloc, shown(alloc, full), wanted);
 }
 
 /// A protected range with a description, editors and a cell that is left open.
 fn protected(alloc: Global) -> ShownProtection {
-    let mut open = Vec::new(alloc);
-    let _ = open.push(CELL);
     ShownProtection {
         description: text(alloc, "d"),
         editors: Some(texts(alloc, &["b", "a"])),
         protected_range_id: 1,
         range: SHEET,
         requesting_user_can_edit: true,
-        unprotected_ranges: Items::of(open),
+        unprotected_ranges: list(alloc, [CELL]),
         warning_only: false,
     }
 }
@@ -123,36 +127,34 @@ fn bare(alloc: Global, editors: Option<Items<Text>>, warns: bool) -> ShownProtec
         protected_range_id: 2,
         range: CELL,
         requesting_user_can_edit: warns,
-        unprotected_ranges: Items::of(Vec::new(alloc)),
+        unprotected_ranges: list(alloc, []),
         warning_only: warns,
     }
+}
+
+/// Protected ranges of each form; none where memory runs out.
+fn ranges(alloc: Global) -> Items<ShownProtection> {
+    let warning = bare(alloc, None, true);
+    let edited = bare(alloc, Some(list(alloc, [])), false);
+    list(alloc, [protected(alloc), warning, edited])
 }
 
 #[test]
 fn protected_ranges_are_shown(rt: HostRuntime) {
     let alloc = rt.alloc();
-    let mut ranges = Vec::new(alloc);
-    let _ = ranges.push(protected(alloc));
-    let _ = ranges.push(bare(alloc, None, true));
-    let _ = ranges.push(bare(alloc, Some(texts(alloc, &[])), false));
-    let answer = shown(alloc, None, Some(Items::of(ranges)));
+    let sheet = sheet(alloc, None, Some(ranges(alloc)));
     let wanted =
         "{\"properties\":{\"title\":\"t\"},\"sheets\":[{\"properties\":{\"gridProperties\":{\"columnCount\":1,\"rowCount\":1},\"index\":0,\"sheetId\":0,\"sheetType\":\"GRID\",\"title\":\"x\"},\"protectedRanges\":[{\"description\":\"d\",\"editors\":{\"users\":[\"b\",\"a\"]},\"protectedRangeId\":1,\"range\":{\"sheetId\":0},\"requestingUserCanEdit\":true,\"unprotectedRanges\":[{\"endColumnIndex\":2,\"endRowIndex\":1,\"sheetId\":0,\"startColumnIndex\":1,\"startRowIndex\":0}]},{\"protectedRangeId\":2,\"range\":{\"endColumnIndex\":2,\"endRowIndex\":1,\"sheetId\":0,\"startColumnIndex\":1,\"startRowIndex\":0},\"requestingUserCanEdit\":true,\"warningOnly\":true},{\"editors\":{\"users\":[]},\"protectedRangeId\":2,\"range\":{\"endColumnIndex\":2,\"endRowIndex\":1,\"sheetId\":0,\"startColumnIndex\":1,\"startRowIndex\":0},\"requestingUserCanEdit\":false}]}],\"spreadsheetId\":\"book1\"}";
-    check(&rt, &wanted, is_answer(alloc, &answer, wanted));
+    shows(&rt, alloc, shown(alloc, sheet), wanted);
 }
 
 #[test]
 fn new_protected_ranges_are_answered(rt: HostRuntime) {
     let alloc = rt.alloc();
-    let mut replies = Vec::new(alloc);
-    let _ = replies.push(Reply::AddProtectedRange {
+    let reply = Reply::AddProtectedRange {
         protected_range: bare(alloc, None, true),
-    });
-    let answer = Answer::Batch {
-        replies: Items::of(replies),
-        spreadsheet_id: text(alloc, "book1"),
     };
     let wanted =
         "{\"replies\":[{\"addProtectedRange\":{\"protectedRange\":{\"protectedRangeId\":2,\"range\":{\"endColumnIndex\":2,\"endRowIndex\":1,\"sheetId\":0,\"startColumnIndex\":1,\"startRowIndex\":0},\"requestingUserCanEdit\":true,\"warningOnly\":true}}}],\"spreadsheetId\":\"book1\"}";
-    check(&rt, &wanted, is_answer(alloc, &answer, wanted));
+    shows(&rt, alloc, batch(alloc, list(alloc, [reply])), wanted);
 }

@@ -1,4 +1,4 @@
-use crate::common::{check, is_answer, text};
+use crate::common::{batch, list, shows, text};
 use cell_value::Items;
 use grid_range::{Area, Band};
 use named_ranges::NamedRange;
@@ -19,12 +19,31 @@ fn properties(alloc: Global, id: u32, title: &str, hidden: bool) -> ShownPropert
     }
 }
 
-/// The spreadsheet `book2` with these sheets.
-fn spreadsheet(alloc: Global, sheets: Vec<ShownSheet>) -> Spreadsheet {
+/// A sheet without a filter and protected ranges.
+fn sheet(
+    data: Option<GridData>,
+    merges: Option<Items<Area>>,
+    properties: ShownProperties,
+) -> ShownSheet {
+    ShownSheet {
+        basic_filter: None,
+        data,
+        merges,
+        properties,
+        protected_ranges: None,
+    }
+}
+
+/// The spreadsheet `book2` with these named ranges and sheets.
+fn spreadsheet(
+    alloc: Global,
+    names: Option<Items<NamedRange>>,
+    sheets: Items<ShownSheet>,
+) -> Spreadsheet {
     Spreadsheet {
-        named_ranges: None,
+        named_ranges: names,
         title: text(alloc, "Untitled spreadsheet"),
-        sheets: Items::of(sheets),
+        sheets,
         spreadsheet_id: text(alloc, "book2"),
     }
 }
@@ -63,59 +82,50 @@ fn areas(alloc: Global) -> Items<Area> {
 #[test]
 fn new_spreadsheets_are_answered(rt: HostRuntime) {
     let alloc = rt.alloc();
-    let mut sheets = Vec::new(alloc);
-    let _ = sheets.push(ShownSheet {
-        basic_filter: None,
-        data: None,
-        merges: None,
-        properties: properties(alloc, 0, "Sheet1", false),
-        protected_ranges: None,
-    });
-    let created = Answer::Create(spreadsheet(alloc, sheets));
+    let sheet = sheet(None, None, properties(alloc, 0, "Sheet1", false));
+    let created = spreadsheet(alloc, None, list(alloc, [sheet]));
     let wanted =
         "{\"properties\":{\"title\":\"Untitled spreadsheet\"},\"sheets\":[{\"properties\":{\"gridProperties\":{\"columnCount\":26,\"rowCount\":1000},\"index\":0,\"sheetId\":0,\"sheetType\":\"GRID\",\"title\":\"Sheet1\"}}],\"spreadsheetId\":\"book2\"}";
-    check(&rt, &wanted, is_answer(alloc, &created, wanted));
+    shows(&rt, alloc, Answer::Create(created), wanted);
 }
 
 #[test]
 fn spreadsheets_are_shown(rt: HostRuntime) {
     let alloc = rt.alloc();
-    let mut sheets = Vec::new(alloc);
-    let _ = sheets.push(ShownSheet {
-        basic_filter: None,
-        data: None,
-        merges: Some(areas(alloc)),
-        properties: properties(alloc, 1, "x", true),
-        protected_ranges: None,
-    });
-    let shown = Answer::Get(spreadsheet(alloc, sheets));
+    let properties = properties(alloc, 1, "x", true);
+    let sheet = sheet(None, Some(areas(alloc)), properties);
+    let shown = spreadsheet(alloc, None, list(alloc, [sheet]));
     let wanted =
         "{\"properties\":{\"title\":\"Untitled spreadsheet\"},\"sheets\":[{\"merges\":[{\"endColumnIndex\":2,\"endRowIndex\":3,\"sheetId\":1,\"startColumnIndex\":1,\"startRowIndex\":0},{\"sheetId\":1,\"startColumnIndex\":4},{\"sheetId\":1,\"startRowIndex\":5}],\"properties\":{\"gridProperties\":{\"columnCount\":26,\"rowCount\":1000},\"hidden\":true,\"index\":1,\"sheetId\":1,\"sheetType\":\"GRID\",\"title\":\"x\"}}],\"spreadsheetId\":\"book2\"}";
-    check(&rt, &wanted, is_answer(alloc, &shown, wanted));
+    shows(&rt, alloc, Answer::Get(shown), wanted);
+}
+
+/// A sheet of which no row is shown.
+fn without_rows(alloc: Global) -> ShownSheet {
+    let data = grid(alloc, &[]);
+    sheet(Some(data), None, properties(alloc, 0, "none", false))
+}
+
+/// A sheet of which a filter hides two rows.
+fn with_rows(alloc: Global) -> ShownSheet {
+    let data = grid(alloc, &[false, true, false, true]);
+    let merges = list(alloc, []);
+    let properties = properties(alloc, 1, "two", false);
+    sheet(Some(data), Some(merges), properties)
+}
+
+/// Sheets of which rows are shown; none where memory runs out.
+fn sheets(alloc: Global) -> Items<ShownSheet> {
+    list(alloc, [without_rows(alloc), with_rows(alloc)])
 }
 
 #[test]
 fn rows_of_sheets_are_shown(rt: HostRuntime) {
     let alloc = rt.alloc();
-    let mut sheets = Vec::new(alloc);
-    let _ = sheets.push(ShownSheet {
-        basic_filter: None,
-        data: Some(grid(alloc, &[])),
-        merges: None,
-        properties: properties(alloc, 0, "none", false),
-        protected_ranges: None,
-    });
-    let _ = sheets.push(ShownSheet {
-        basic_filter: None,
-        data: Some(grid(alloc, &[false, true, false, true])),
-        merges: Some(Items::of(Vec::new(alloc))),
-        properties: properties(alloc, 1, "two", false),
-        protected_ranges: None,
-    });
-    let shown = Answer::Get(spreadsheet(alloc, sheets));
+    let shown = spreadsheet(alloc, None, sheets(alloc));
     let wanted =
         "{\"properties\":{\"title\":\"Untitled spreadsheet\"},\"sheets\":[{\"data\":[{\"rowMetadata\":[]}],\"properties\":{\"gridProperties\":{\"columnCount\":26,\"rowCount\":1000},\"index\":0,\"sheetId\":0,\"sheetType\":\"GRID\",\"title\":\"none\"}},{\"data\":[{\"rowMetadata\":[{},{\"hiddenByFilter\":true},{},{\"hiddenByFilter\":true}]}],\"merges\":[],\"properties\":{\"gridProperties\":{\"columnCount\":26,\"rowCount\":1000},\"index\":1,\"sheetId\":1,\"sheetType\":\"GRID\",\"title\":\"two\"}}],\"spreadsheetId\":\"book2\"}";
-    check(&rt, &wanted, is_answer(alloc, &shown, wanted));
+    shows(&rt, alloc, Answer::Get(shown), wanted);
 }
 
 /// The named range `nr1` of a cell.
@@ -134,45 +144,36 @@ fn named_range(alloc: Global) -> NamedRange {
 #[test]
 fn named_ranges_are_shown(rt: HostRuntime) {
     let alloc = rt.alloc();
-    let mut names = Vec::new(alloc);
-    let _ = names.push(named_range(alloc));
-    let mut spreadsheet = spreadsheet(alloc, Vec::new(alloc));
-    spreadsheet.named_ranges = Some(Items::of(names));
-    let shown = Answer::Get(spreadsheet);
+    let names = list(alloc, [named_range(alloc)]);
+    let shown = spreadsheet(alloc, Some(names), list(alloc, []));
     let wanted =
         "{\"namedRanges\":[{\"name\":\"tax\",\"namedRangeId\":\"nr1\",\"range\":{\"endColumnIndex\":4,\"endRowIndex\":2,\"sheetId\":0,\"startColumnIndex\":3,\"startRowIndex\":1}}],\"properties\":{\"title\":\"Untitled spreadsheet\"},\"sheets\":[],\"spreadsheetId\":\"book2\"}";
-    check(&rt, &wanted, is_answer(alloc, &shown, wanted));
+    shows(&rt, alloc, Answer::Get(shown), wanted);
 }
 
 #[test]
 fn new_named_ranges_are_answered(rt: HostRuntime) {
     let alloc = rt.alloc();
-    let mut replies = Vec::new(alloc);
-    let _ = replies.push(Reply::AddNamedRange {
+    let reply = Reply::AddNamedRange {
         named_range: named_range(alloc),
-    });
-    let answer = Answer::Batch {
-        replies: Items::of(replies),
-        spreadsheet_id: text(alloc, "book1"),
     };
     let wanted =
         "{\"replies\":[{\"addNamedRange\":{\"namedRange\":{\"name\":\"tax\",\"namedRangeId\":\"nr1\",\"range\":{\"endColumnIndex\":4,\"endRowIndex\":2,\"sheetId\":0,\"startColumnIndex\":3,\"startRowIndex\":1}}}}],\"spreadsheetId\":\"book1\"}";
-    check(&rt, &wanted, is_answer(alloc, &answer, wanted));
+    shows(&rt, alloc, batch(alloc, list(alloc, [reply])), wanted);
+}
+
+/// An empty reply, and one to a request for a sheet; none where memory runs out.
+fn replies(alloc: Global) -> Items<Reply> {
+    let added = Reply::AddSheet {
+        properties: properties(alloc, 1, "New", false),
+    };
+    list(alloc, [Reply::Empty, added])
 }
 
 #[test]
 fn batches_are_answered(rt: HostRuntime) {
     let alloc = rt.alloc();
-    let mut replies = Vec::new(alloc);
-    let _ = replies.push(Reply::Empty);
-    let _ = replies.push(Reply::AddSheet {
-        properties: properties(alloc, 1, "New", false),
-    });
-    let answer = Answer::Batch {
-        replies: Items::of(replies),
-        spreadsheet_id: text(alloc, "book1"),
-    };
     let wanted =
         "{\"replies\":[{},{\"addSheet\":{\"properties\":{\"gridProperties\":{\"columnCount\":26,\"rowCount\":1000},\"index\":1,\"sheetId\":1,\"sheetType\":\"GRID\",\"title\":\"New\"}}}],\"spreadsheetId\":\"book1\"}";
-    check(&rt, &wanted, is_answer(alloc, &answer, wanted));
+    shows(&rt, alloc, batch(alloc, replies(alloc)), wanted);
 }

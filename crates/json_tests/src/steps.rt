@@ -53,7 +53,10 @@ pub(crate) fn is_step(alloc: Global, kind: &str, members: &str, wanted: &str) ->
 fn add_batch(line: &mut Line, alloc: Global, body: &str) {
     match route(alloc, "POST", BATCH) {
         Ok(route) => match read_call(alloc, &route, body.as_bytes()) {
-            Ok(call) => add_call_steps(line, &call),
+            Ok(call) => {
+                add_call_steps(line, &call);
+                drop(call);
+            }
             Err(fault) => line.value(&fault),
         },
         Err(fault) => line.value(&fault),

@@ -1,11 +1,12 @@
 use crate::calls::{is_call, is_write};
 use crate::common::{check, joined};
 use std::alloc::Global;
+use std::process::Abort;
 
 const VALUES: &str = "/v4/spreadsheets/b1/values";
 
-/// Methods, what their targets end in, bodies, and what they are.
-static REQUESTS: [(&str, &str, &str, &str); 65] = [
+/// Methods of reads and clears, what their targets end in, bodies, and what they are.
+static READS: [(&str, &str, &str, &str); 11] = [
     ("GET", "/A1", "", "Read b1 A1 None None"),
     (
         "GET",
@@ -32,6 +33,10 @@ static REQUESTS: [(&str, &str, &str, &str); 65] = [
     ("POST", "/A1:clear", "{\"a\":1}", "BadBody"),
     ("POST", "/A1:clear", "[]", "BadBody"),
     ("POST", "/A1:clear", " ", "BadBody"),
+];
+
+/// The same, of writes and appends.
+static WRITES: [(&str, &str, &str, &str); 35] = [
     (
         "PUT",
         "/A1?valueInputOption=RAW",
@@ -222,6 +227,10 @@ static REQUESTS: [(&str, &str, &str, &str); 65] = [
         "{\"x\":1}",
         "BadBody",
     ),
+];
+
+/// The same, of requests on many ranges.
+static BATCHES: [(&str, &str, &str, &str); 19] = [
     (
         "GET",
         ":batchGet?ranges=A1&majorDimension=ROWS&ranges=B2",
@@ -319,12 +328,19 @@ fn is_as_wanted(alloc: Global, method: &str, end: &str, body: &str, wanted: &str
     is_call(alloc, method, target.as_str(), body, wanted)
 }
 
+/// Stops where a request isn't what a table says that it is.
+fn check_all(rt: &impl Abort, alloc: Global, table: &[(&str, &str, &str, &str)]) {
+    for row in table {
+        let holds = is_as_wanted(alloc, row.0, row.1, row.2, row.3);
+        check(rt, row, holds);
+    }
+}
+
 #[test]
 fn requests_are_calls(rt: HostRuntime) {
-    for row in &REQUESTS {
-        let holds = is_as_wanted(rt.alloc(), row.0, row.1, row.2, row.3);
-        check(&rt, row, holds);
-    }
+    check_all(&rt, rt.alloc(), &READS);
+    check_all(&rt, rt.alloc(), &WRITES);
+    check_all(&rt, rt.alloc(), &BATCHES);
 }
 
 /// Texts of so many bytes, what stands behind each in its row, and what the write of it is.
