@@ -115,6 +115,7 @@ impl<E: Engine, K: Keeper> Desk<E, K> {
         ensures given { IfOk result (λ new. (given_by from.new ≡ Some (number_of new)) × (given_by new ≡ None)) }
         ensures met { met_by from.new ≡ met_by from.old }
         ensures none_met { IfOk result (λ new. met_by new ≡ []) }
+        ensures draws { IfOk result (λ _. drawing_of from.old ≢ Never) }
         ensures shared { IfOk result (λ new. (drawing_of from.new ≡ Shared) × (drawing_of new ≡ Shared)) }
         ensures spent { IfErr result (λ _. (drawing_of from.old ≡ Never) ⊎ (count_of from.new ≡ callers_at self.now)) }
         ensures none_given { IfErr result (λ _. given_by from.new ≡ given_by from.old) }

@@ -238,7 +238,8 @@ impl<T: Told, A: Allocator> Lock<T, A> {
         ensures met { met_by pass.new ≡ met_by pass.old }
         ensures none_met { IfOk result (λ new. met_by new ≡ []) }
 
-        // Both draw numbers then.
+        // Of a pass that draws numbers itself; both draw them then.
+        ensures draws { IfOk result (λ _. drawing_of pass.old ≢ Never) }
         ensures shared { IfOk result (λ new. (drawing_of pass.new ≡ Shared) × (drawing_of new ≡ Shared)) }
 
         ensures spent { IfErr result (λ _. (drawing_of pass.old ≡ Never) ⊎ (count_of pass.new ≡ callers_of self.now)) }
