@@ -9,8 +9,6 @@ mod command;
 mod laws;
 mod number;
 mod reading;
-#[cfg(test)]
-mod tests;
 mod word;
 
 pub use command::{Command, command_of};

@@ -1,5 +1,4 @@
-//! The tests of the history of a spreadsheet: what callers leave in turns, and the log on a disk that may
-//! crash.
+//! The tests of the log on a disk that may crash.
 //!
 //! The time in which a test is proved grows faster than its length: a test goes over a table, which is a
 //! static so that the test doesn't build it, and what it calls for a row answers without `?`. Where memory
@@ -10,5 +9,3 @@
 mod common;
 #[cfg(test)]
 mod journals;
-#[cfg(test)]
-mod notes;

@@ -8,8 +8,6 @@ mod file;
 mod folder;
 mod memory;
 mod recorded;
-#[cfg(test)]
-mod tests;
 
 pub use file::MemoryFile;
 pub use folder::Folder;

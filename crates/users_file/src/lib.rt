@@ -7,8 +7,6 @@ mod reading;
 mod repeats;
 mod rows;
 mod table;
-#[cfg(test)]
-mod tests;
 
 pub use fault::UsersFault;
 pub use laws::table_laws;
