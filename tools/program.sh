@@ -29,14 +29,17 @@ lines_of() {
 
 # The checksum of all that the program is built from: the files of its crates, their lines of crates.txt, and HANDLES.
 sources() {
-    local crates crate folders=()
+    local crates crate part folders=()
     crates=$(program_crates)
-    for crate in $crates; do folders+=("crates/$crate"); done
+    for crate in $crates; do
+        for part in src specs proofs; do
+            if [ -d "$top/crates/$crate/$part" ]; then folders+=("crates/$crate/$part"); fi
+        done
+    done
     # shellcheck disable=SC2086
     {
         lines_of $crates
         cd "$top" && sha256sum HANDLES &&
-            find "${folders[@]}" -type f \( -path 'crates/*/src/*' -o -path 'crates/*/specs/*' -o -path 'crates/*/proofs/*' \) -print0 |
-            LC_ALL=C sort -z | xargs -0 sha256sum
+            find "${folders[@]}" -type f -print0 | LC_ALL=C sort -z | xargs -0 sha256sum
     } | sha256sum | cut -d ' ' -f 1
 }
