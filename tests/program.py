@@ -252,6 +252,8 @@ def free_port() -> int:
     with _ports_lock:
         for port in _ports:
             with socket.socket() as probe:
+                # Another thread's child holds the probe, too, until it is the program: the server may bind beside it.
+                probe.setsockopt(socket.SOL_SOCKET, socket.SO_REUSEADDR, 1)
                 try:
                     probe.bind((HOST, port))
                 except OSError:

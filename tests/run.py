@@ -19,7 +19,9 @@ from itertools import zip_longest
 from pathlib import Path
 
 import cases
+import examples
 import program
+import scenes
 
 HERE = Path(__file__).resolve().parent
 SCENE_LIMIT = 120.0
@@ -64,11 +66,10 @@ def find_tests(path: str) -> Iterator[Test]:
                 raise cases.Misread(f"{place}: {names[case.name]} has this name already")
             names[case.name] = place
             yield Test(case.file, place, case.name, partial(run_case, path, case))
-    if (HERE / "scenes.py").exists():
-        import scenes
-
-        for name, scene in scenes.scenes(path):
-            yield Test("scenes.py", "scenes.py", name, partial(run_scene, scene))
+    for module in (scenes, examples):
+        for name, scene in module.scenes(path):
+            file = f"{module.__name__}.py"
+            yield Test(file, file, name, partial(run_scene, scene))
 
 
 def run_tests(tests: list[Test]) -> int:

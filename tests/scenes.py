@@ -55,6 +55,7 @@ BATCH = f"POST {BOOK}:batchUpdate"
 USERS = b"token,user\nt,ann\n"
 BEGINNING = b"SHEETJ01"
 NO_USER = response(401, '{"error":{"code":401,"message":"NoUser","status":"UNAUTHENTICATED"}}')
+NO_MEMORY = response(507, '{"error":{"code":507,"message":"NoMemory","status":"OUT_OF_MEMORY"}}')
 UNAVAILABLE = response(503, '{"error":{"code":503,"message":"Unavailable","status":"UNAVAILABLE"}}')
 OUTSIDE = response(400, '{"error":{"code":400,"message":"requests[1]: OutsideGrid","status":"INVALID_ARGUMENT"}}')
 USAGE = Ended(2, b"", b"usage\n")
@@ -208,13 +209,21 @@ def server_that_ends(program: str, folder: str, *words: str) -> Ended:
         return server.end()
 
 
-class ShellServer(Server):
-    """A server for one connection that a shell starts: `exec "$0" "$@"` in its text stands for the program."""
+START = 'exec "$0" "$@"'
 
-    def __init__(self, program: str, folder: str, shell: str, words: Sequence[str] = ()) -> None:
+
+class ShellServer(Server):
+    """A server that a shell starts: START in the shell's text stands for the program with its words."""
+
+    def __init__(self, program: str, folder: str, shell: str, words: Sequence[str] = (), limit: int = 1) -> None:
         self.port = free_port()
-        serve = ["serve", "--port", str(self.port), "--limit", "1", *words]
+        serve = ["serve", "--port", str(self.port), "--limit", str(limit), *words]
         Command.__init__(self, "/bin/sh", ["-c", shell, program, *serve], folder)
+
+
+def run_within(program: str, words: Sequence[str], folder: str, kilobytes: int, stdin: bytes = b"") -> Ended:
+    """Runs a command that may have so much memory."""
+    return run("/bin/sh", ["-c", f"ulimit -v {kilobytes}; {START}", program, *words], folder, stdin)
 
 
 def at_once(call: Callable[[Item], Given], items: Sequence[Item]) -> list[Given]:
@@ -402,7 +411,7 @@ def a_conversation_in_small_pieces(program: str, folder: str) -> None:
 
 
 def pieces(size: int) -> Iterator[bytes]:
-    """The conversation in pieces of that size, with a short pause behind each."""
+    """The conversation in pieces of that size, with a short pause after each."""
     for at in range(0, len(STREAM), size):
         yield STREAM[at : at + size]
         time.sleep(0.001)
@@ -482,7 +491,7 @@ def an_output_that_takes_nothing(program: str, folder: str) -> None:
 @listed
 def a_server_whose_output_takes_nothing(program: str, folder: str) -> None:
     """It answers its connection and keeps the call; only what it prints at its end fails."""
-    with ShellServer(program, folder, 'exec "$0" "$@" >/dev/full', ["--journal", "j"]) as server:
+    with ShellServer(program, folder, f"{START} >/dev/full", ["--journal", "j"]) as server:
         with server.connect() as connection:
             expect(connection.ask(WRITE.request()), WRITTEN, "the response")
         expect(server.end(), WRITE_FAULT, "the end")
@@ -507,6 +516,19 @@ def an_input_that_cannot_be_read(program: str, folder: str) -> None:
         expect(run_over(program, ["run"], folder, stdin=descriptor), READ_FAULT, "run")
     finally:
         os.close(descriptor)
+
+
+@listed
+def memory_that_runs_out(program: str, folder: str) -> None:
+    """What can't be read or made for want of memory ends the command, or is answered 507 and isn't made."""
+    expect(run_within(program, ["workload", "20000"], folder, 8_000), Ended(3, b"", b"no memory\n"), "workload")
+    long = write("owner", "B1", [["x" * 40_000]] * 150)
+    calls = [write("owner", "A1", [[1]]), long, read("owner", "A1:B1")]
+    stream = b"".join(call.request() for call in calls)
+    row = response(200, '{"majorDimension":"ROWS","range":"Sheet1!A1:B1","values":[["1"]]}')
+    told = [written("A1"), NO_MEMORY, row]
+    expect(run_within(program, ["run"], folder, 12_000, stream), Ended(3, told[0], b"no memory\n"), "a long request")
+    expect(run_within(program, ["run"], folder, 28_000, stream), Ended(0, b"".join(told), b""), "a long call")
 
 
 @listed
@@ -555,7 +577,7 @@ def files_that_cannot_be_read_or_written(program: str, folder: str) -> None:
 
 @listed
 def a_journal_that_is_cut_after_each_byte(program: str, folder: str) -> None:
-    """What stands behind the last whole entry is none, whatever its length, and the file stays as it is."""
+    """What follows the last whole entry is none, whatever its length, and the file stays as it is."""
     second = write("bob", "C1", [["y"]]).entry()
     journal = BEGINNING + WRITE.entry() + second
     ends = (len(journal) - len(second), len(journal))
@@ -578,7 +600,7 @@ def a_torn_rest_of_any_length_gives_way(program: str, folder: str) -> None:
         with Server(program, folder, ["--journal", "j"]) as server:
             with server.connect() as connection:
                 expect(connection.ask(WRITE.request()), WRITTEN, "the response")
-            expect(server.end(), summary(2, 3, len(whole)), f"the end behind {length} bytes of an entry")
+            expect(server.end(), summary(2, 3, len(whole)), f"the end after {length} bytes of an entry")
         expect(journal_of(folder), whole, f"the journal in place of {length} bytes")
 
 
@@ -591,7 +613,7 @@ def a_journal_that_a_server_holds(program: str, folder: str) -> None:
             expect(connection.ask(WRITE.request()), WRITTEN, "the first server")
             expect(server_that_ends(program, folder, *words), READ_FAULT, "the second server")
             expect(replay(program, folder), dump([[1, "x"], [True]]), "the look")
-            expect(connection.ask(READ.request()), SHOWN, "the first server behind the second")
+            expect(connection.ask(READ.request()), SHOWN, "the first server after the second")
         expect(server.end(), summary(1, 3, 140), "the end of the first server")
     with Server(program, folder, words) as server:
         with server.connect() as connection:
@@ -602,7 +624,7 @@ def a_journal_that_a_server_holds(program: str, folder: str) -> None:
 @listed
 def a_journal_without_room(program: str, folder: str) -> None:
     """A call that the journal can't keep is answered 503 and not made; once there is room again, it is."""
-    shell = 'trap "" XFSZ; exec "$0" "$@"'
+    shell = f'trap "" XFSZ; {START}'
     one, two = write("owner", "A1", [[1]]), write("owner", "A2", [[2]])
     with ShellServer(program, folder, shell, ["--journal", "j"]) as server, server.connect() as connection:
         expect(connection.ask(one.request()), written("A1"), "a call with room")
@@ -730,7 +752,7 @@ def two_connections_that_wait_for_one_another(program: str, folder: str) -> None
             slow.send(head + b"\r\n\r\n")
             expect(ask_for_cells(quick, "ann", "A1:B2"), [], "the quick connection, before the write")
             expect(slow.ask(body), WRITTEN, "the slow connection")
-            expect(quick.ask(READ.request()), SHOWN, "the quick connection, behind the write")
+            expect(quick.ask(READ.request()), SHOWN, "the quick connection, after the write")
             expect(slow.ask(READ.request()), SHOWN, "the slow connection again")
         expect(server.end(), summary(1, 3, 140), "the end")
 
@@ -738,12 +760,12 @@ def two_connections_that_wait_for_one_another(program: str, folder: str) -> None
 @listed
 def a_client_that_half_closes(program: str, folder: str) -> None:
     """It may end what it sends before it reads: all its whole requests are answered."""
-    for behind in (b"", b"\r\n", READ.request()[:50]):
+    for rest in (b"", b"\r\n", READ.request()[:50]):
         with Server(program, folder) as server:
             with server.connect() as connection:
-                connection.send(WRITE.request() + READ.request() * 3 + behind)
+                connection.send(WRITE.request() + READ.request() * 3 + rest)
                 connection.socket.shutdown(socket.SHUT_WR)
-                expect(rest_of(connection), WRITTEN + SHOWN * 3, f"the responses, and {behind!r} is sent behind")
+                expect(rest_of(connection), WRITTEN + SHOWN * 3, f"the responses where {rest!r} follows")
             expect(server.end(), summary(1, 3, 140), "the end")
 
 
@@ -761,8 +783,21 @@ def a_client_that_goes_away(program: str, folder: str) -> None:
         expect(server.end(), summary(1, 3, 140), "the end")
 
 
+@listed
+def more_connections_than_the_server_may_open(program: str, folder: str) -> None:
+    """Where the system allows no more, the others wait until one is closed, and are answered then."""
+    with ShellServer(program, folder, f"ulimit -n 7; {START}", limit=8) as server:
+        with connected(server, 8) as connections:
+            for connection in connections:
+                connection.send(WRITE.request())
+            for connection in connections:
+                expect(connection.receive(), WRITTEN, "each connection")
+                connection.close()
+        expect(server.end(), summary(8, 3, len(BEGINNING + WRITE.entry() * 8)), "the end")
+
+
 COLUMNS = "ABCDEFGH"
-TURNS = 10
+TURNS = 50
 LOOKS = (Call("owner", f"GET {BOOK}"), Call("owner", f"GET {BOOK}/values/Sheet1?valueRenderOption=FORMULA"))
 
 
@@ -849,7 +884,7 @@ def check_order(entries: list[tuple[int, Call]], callers: list[Caller]) -> None:
 def check_made_again(
     program: str, folder: str, entries: list[tuple[int, Call]], callers: list[Caller], looks: list[bytes]
 ) -> None:
-    """One thread that makes the entries' calls again is answered the same to each, and sees the same behind them."""
+    """One thread that makes the entries' calls again is answered the same to each, and sees the same after them."""
     told = {caller.number: iter([answer for _, answer in caller.accepted]) for caller in callers}
     wanted = [next(told[number]) for number, _ in entries]
     calls = [call for _, call in entries]
@@ -894,12 +929,12 @@ def race(caller: Caller) -> None:
 # A club's sheet: a list of members and what each has paid on the days of a week.
 
 
-def post(user: str, behind: str, value: Any) -> Call:
-    return Call(user, f"POST {BOOK}{behind}", json_text(value))
+def post(user: str, rest: str, value: Any) -> Call:
+    return Call(user, f"POST {BOOK}{rest}", json_text(value))
 
 
-def look(user: str, behind: str = "") -> Call:
-    return Call(user, f"GET {BOOK}{behind}")
+def look(user: str, rest: str = "") -> Call:
+    return Call(user, f"GET {BOOK}{rest}")
 
 
 def enter(user: str, cells: str, values: list[list[Any]]) -> Call:
